@@ -16,7 +16,8 @@
  * the same answer each time, so the room that the first call asks for is enough for the second.
  *
  * README.md says what a batch, a schedule and a shape are, docs/GUIDE.md what moves are, docs/SWITCHES.md what a
- * wiring is, and docs/REFUSALS.md what each refusal means. They are installed in share/doc/exchange.
+ * wiring is, docs/ORDERS.md what orders are, and docs/REFUSALS.md what each refusal means. They are installed in
+ * share/doc/exchange.
  *
  * Below these calls stand a switch and the end of a link, each as calls over a state that is yours. They take no
  * memory.
@@ -67,6 +68,7 @@ extern "C" {
 #define EXCHANGE_OF_CHANGES 5
 #define EXCHANGE_OF_DIRECT 6
 #define EXCHANGE_OF_SWITCH_WIRED 7
+#define EXCHANGE_OF_ORDERS 8
 #define EXCHANGE_NO_CALL 35
 
 /* `exchange plan`: a schedule of the batch with as few settings as possible, and its certificate.
@@ -103,6 +105,14 @@ uint8_t exchange_switch(const uint8_t *batch, size_t batch_bytes, const uint8_t 
 uint8_t exchange_switch_wired(const uint8_t *batch, size_t batch_bytes, const uint8_t *schedule,
                               size_t schedule_bytes, const uint8_t *wiring, size_t wiring_bytes, uint8_t *out,
                               size_t room, size_t *count);
+
+/* `exchange orders`: what each module copies aside before the first setting, and what it sends and receives over link 0
+ * and link 3 in each setting of a schedule of the batch, with a certificate or without.
+ *
+ * With a `schedule_bytes` of 0 no schedule is given, as for `exchange_switch`. A batch in which two transfers write one
+ * block is refused. Takes time that grows with the lengths of the texts, and the time of a plan where it makes one. */
+uint8_t exchange_orders(const uint8_t *batch, size_t batch_bytes, const uint8_t *schedule,
+                        size_t schedule_bytes, uint8_t *out, size_t room, size_t *count);
 
 /* `exchange apply`: the image that a run of the batch leaves of an image, on a rack of the shape `MxKxW`.
  *

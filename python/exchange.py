@@ -20,7 +20,7 @@ Text = Union[str, bytes, bytearray, memoryview]
 _DONE, _REFUSED, _NO_ROOM, _NO_MEMORY, _REPLY, _LOOSE, _NO_PORT, _NO_STATE = 0, 1, 2, 3, 4, 32, 33, 34
 
 # The numbers by which `exchange_why` knows the calls.
-_NUMBERS = {"plan": 0, "plan_steady": 0, "check": 1, "switch": 2, "apply": 3, "draw": 4, "changes": 5, "direct": 6, "switch_wired": 7}
+_NUMBERS = {"plan": 0, "plan_steady": 0, "check": 1, "switch": 2, "apply": 3, "draw": 4, "changes": 5, "direct": 6, "switch_wired": 7, "orders": 8}
 
 # Bytes of room for an answer at first. Most answers fit, and need no second call.
 _ROOM = 1 << 16
@@ -133,8 +133,7 @@ def switch_bytes(batch: Text, schedule: Optional[Text] = None, wiring: Optional[
     >>> [sent.hex(" ") for (sent,) in switch_bytes("batch 1\npush 0 0 1 0\n", wiring=board)]
     ['04 01 04 07 03']
     """
-    # To the call an empty text is no schedule. An empty line is refused as an empty text is.
-    given = b"" if schedule is None else _bytes_of(schedule) or b"\n"
+    given = _schedule_given(schedule)
     found: List[Tuple[bytes, ...]] = []
     answer = _ask("switch", batch, given) if wiring is None else _ask("switch_wired", batch, given, wiring)
     for line in answer.decode().splitlines():
@@ -144,6 +143,48 @@ def switch_bytes(batch: Text, schedule: Optional[Text] = None, wiring: Optional[
             found.append(())
         found[-1] += (sent,)
     return found
+
+
+class Order(NamedTuple):
+    """What a module does over link 0 or link 3 in a setting, as to one of its blocks: it sends the words of the block ("send block"), or
+    those that it copied aside ("send copy"), or puts the words that come into the block ("receive block")."""
+
+    link: int
+    act: str
+    block: int
+
+
+class ModuleOrders(NamedTuple):
+    """What a module does: the blocks that it copies aside before setting 0, and its orders by their settings. Those of a setting are done
+    side by side; there are two at most, and that over link 0 comes first."""
+
+    module: int
+    copies: List[int]
+    settings: List[List[Order]]
+
+
+def orders(batch: Text, schedule: Optional[Text] = None, module: Optional[int] = None) -> List[ModuleOrders]:
+    r"""What each module does in the settings of a schedule of a batch, with a certificate or without, or what one module does. Where no
+    schedule is given, it is that of `plan`. A module without orders isn't told. A batch in which two transfers write one block is refused.
+    docs/ORDERS.md says how modules obey.
+
+    >>> for told in orders("batch 2\npush 0 0 1 0\npush 1 0 2 0\n", "settings 2\nsetting 0\nsetting 1\n"):
+    ...     print(told.module, told.copies, [[" ".join(map(str, order)) for order in setting] for setting in told.settings])
+    0 [] [['0 send block 0'], []]
+    1 [0] [['3 receive block 0'], ['0 send copy 0']]
+    2 [] [[], ['3 receive block 0']]
+    """
+    head, *lines = _ask("orders", batch, _schedule_given(schedule)).decode().splitlines()
+    count, found = int(head.split()[3]), []
+    for line in lines:
+        words = line.split()
+        if words[0] == "module":
+            found.append(ModuleOrders(int(words[1]), [], [[] for _ in range(count)]))
+        elif words[0] == "copy":
+            found[-1].copies.append(int(words[2]))
+        else:
+            found[-1].settings[int(words[1])].append(Order(int(words[3]), " ".join(words[4:6]), int(words[6])))
+    return [told for told in found if module in (None, told.module)]
 
 
 def apply(shape: Text, batch: Text, image: Text) -> bytes:
@@ -333,6 +374,7 @@ def _load() -> ctypes.CDLL:
         "check": 2,
         "switch": 2,
         "switch_wired": 3,
+        "orders": 2,
         "apply": 3,
         "draw": 2,
         "changes": 2,
@@ -365,6 +407,11 @@ def _bytes_of(text: Text) -> bytes:
     if isinstance(text, str):
         return text.encode("utf-8", "surrogatepass")
     return text if isinstance(text, bytes) else bytes(memoryview(text))
+
+
+def _schedule_given(schedule: Optional[Text]) -> bytes:
+    """A schedule as calls take it that do without one: to them an empty text is none. An empty line is refused as an empty text is."""
+    return b"" if schedule is None else _bytes_of(schedule) or b"\n"
 
 
 def _ask(name: str, *texts: Text) -> bytes:

@@ -1,35 +1,22 @@
 /* An emulator of three modules, whose memories are an array. The switch that joins their links is a C004, which the library has. It plans a
- * batch, hands the switch the bytes for each setting and moves the blocks, and compares the memories with those that `exchange apply`
- * leaves. docs/EMULATORS.md says how to build it. */
+ * batch, hands the switch the bytes for each setting, has the modules obey their orders, and compares the memories with those that
+ * `exchange apply` leaves. docs/EMULATORS.md says how to build it. */
 #include "exchange.h"
 #include <stdio.h>
 #include <stdlib.h>
 #include <string.h>
 
 /* Blocks of two words, as the shape says. */
-enum { MODULES = 3, BLOCKS = 2, BYTES = 8 };
+enum { MODULES = 3, BLOCKS = 2, BYTES = 8, LINKS = 32 };
 static const char shape[] = "3x2x2";
+static const char batch[] = "batch 4\npush 0 0 1 0\npush 0 1 2 0\npull 0 0 1 1\npull 0 1 2 1\n";
 
-static uint8_t memory[MODULES][BLOCKS][BYTES], before[MODULES][BLOCKS][BYTES], applied[MODULES][BLOCKS][BYTES];
+static uint8_t memory[MODULES][BLOCKS][BYTES], aside[MODULES][BLOCKS][BYTES], before[MODULES][BLOCKS][BYTES],
+    applied[MODULES][BLOCKS][BYTES];
 
-/* Link 0 of module m is on link m of the switch, and link 3 on link 16 + m. */
+/* Link 0 of module m is on link m of the switch, and link 3 on link 16 + m. What comes out of each of the switch's links. */
 static struct exchange_c004 chip;
-
-/* Each transfer: the initiator with its block, and the responder with its own. */
-static const struct transfer {
-    const char *kind;
-    int initiator, near, responder, far;
-} transfers[] = {{"push", 0, 0, 1, 0}, {"push", 0, 1, 2, 0}, {"pull", 0, 0, 1, 1}, {"pull", 0, 1, 2, 1}};
-enum { TRANSFERS = sizeof transfers / sizeof *transfers };
-
-static char batch[100];
-
-static void write_batch(void)
-{
-    char *at = batch + sprintf(batch, "batch %d\n", TRANSFERS);
-    for (const struct transfer *t = transfers; t < transfers + TRANSFERS; t++)
-        at += sprintf(at, "%s %d %d %d %d\n", t->kind, t->initiator, t->near, t->responder, t->far);
-}
+static uint8_t wire[LINKS][BYTES];
 
 static void end(const char *why)
 {
@@ -37,17 +24,23 @@ static void end(const char *why)
     exit(EXIT_FAILURE);
 }
 
-/* A plan of the batch, or where there is one the bytes for its settings, as a text with a zero behind it. A call that finds too little room
- * says how much it wants. */
-static char *ask(const char *plan)
+/* A call that is given a batch and a schedule. */
+typedef uint8_t answer(const uint8_t *, size_t, const uint8_t *, size_t, uint8_t *, size_t, size_t *);
+
+static uint8_t steady_plan(const uint8_t *text, size_t bytes, const uint8_t *none, size_t no_bytes, uint8_t *out, size_t room, size_t *count)
 {
-    const uint8_t *text = (const uint8_t *)batch, *schedule = (const uint8_t *)plan;
+    (void)none, (void)no_bytes;
+    return exchange_plan_steady(text, bytes, out, room, count);
+}
+
+/* What a call answers, as a text with a zero behind it. A call that finds too little room says how much it wants. */
+static char *ask(answer *call, const char *plan)
+{
     for (size_t room = 64, count;; room = count) {
         uint8_t *out = calloc(room + 1, 1);
         if (out == NULL)
             end("no memory");
-        uint8_t status = plan == NULL ? exchange_plan_steady(text, strlen(batch), out, room, &count)
-                                      : exchange_switch(text, strlen(batch), schedule, strlen(plan), out, room, &count);
+        uint8_t status = call((const uint8_t *)batch, strlen(batch), (const uint8_t *)plan, strlen(plan), out, room, &count);
         if (status == EXCHANGE_DONE)
             return (char *)out;
         if (status != EXCHANGE_NO_ROOM)
@@ -69,20 +62,51 @@ static int set_switch(char *at)
     return changes;
 }
 
-/* Moves one block, as it was before the first setting, where the switch joins the links. */
-static void move(const struct transfer *t)
-{
-    if (exchange_c004_joined(&chip, (uint8_t)t->initiator, (uint8_t)(16 + t->responder)) != 1)
-        end("WRONG: the links aren't joined");
-    if (strcmp(t->kind, "push") == 0)
-        memcpy(memory[t->responder][t->far], before[t->initiator][t->near], BYTES);
-    else
-        memcpy(memory[t->initiator][t->near], before[t->responder][t->far], BYTES);
-}
-
-static char *next_line(char *line)
+static const char *next_line(const char *line)
 {
     return strchr(line, '\n') + 1;
+}
+
+/* Sends a block into a link of the switch. It comes out wherever that feeds an output. */
+static void send(int link, const uint8_t *block)
+{
+    int fed = 0;
+    for (uint8_t output = 0; output < LINKS; output++)
+        if (exchange_c004_source(&chip, output) == link) {
+            memcpy(wire[output], block, BYTES);
+            fed++;
+        }
+    if (fed == 0)
+        end("WRONG: the link isn't joined");
+}
+
+/* Has each module copy the blocks that it is told to. */
+static void copy(const char *orders)
+{
+    int m = 0, b;
+    for (const char *line = orders; *line != 0; line = next_line(line))
+        if (sscanf(line, "module %d", &m) != 1 && sscanf(line, "copy block %d", &b) == 1)
+            memcpy(aside[m][b], memory[m][b], BYTES);
+}
+
+/* Has each module obey its orders of a setting: all of them send, and then all of them receive. So both links move side by side. */
+static void obey(const char *orders, int setting)
+{
+    for (int receives = 0; receives <= 1; receives++) {
+        int m = 0, k, link, b;
+        char verb[8], what[6];
+        for (const char *line = orders; *line != 0; line = next_line(line)) {
+            if (sscanf(line, "module %d", &m) == 1 || sscanf(line, "setting %d link %d %7s %5s %d", &k, &link, verb, what, &b) != 5)
+                continue;
+            int port = link == 0 ? m : 16 + m;
+            if (k != setting || receives != (strcmp(verb, "receive") == 0))
+                continue;
+            if (receives)
+                memcpy(memory[m][b], wire[port], BYTES);
+            else
+                send(port, strcmp(what, "copy") == 0 ? aside[m][b] : memory[m][b]);
+        }
+    }
 }
 
 int main(void)
@@ -96,19 +120,18 @@ int main(void)
     memcpy(before, memory, sizeof memory);
     exchange_c004_reset(&chip);
 
-    /* Behind its first line the plan has a line `setting T ..` for each setting, and the bytes stand in lines `setting S ..`. */
-    write_batch();
-    char *plan = ask(NULL), *bytes = ask(plan), *sent = bytes;
-    for (char *line = next_line(plan); strncmp(line, "setting", 7) == 0; line = next_line(line), sent = next_line(sent)) {
+    /* The bytes of each setting stand in a line `setting S ..`. */
+    char *plan = ask(steady_plan, ""), *bytes = ask(exchange_switch, plan), *orders = ask(exchange_orders, plan);
+    copy(orders);
+    for (const char *sent = bytes; *sent != 0; sent = next_line(sent)) {
         char *at;
         strtol(sent + 7, &at, 10);
         changes += set_switch(at);
-        for (at = line + 7; *at == ' ';)
-            move(&transfers[strtol(at, &at, 10)]);
-        settings++;
+        obey(orders, settings++);
     }
     free(plan);
     free(bytes);
+    free(orders);
 
     printf("settings %d, changes of the switch %d\n", settings, changes);
     for (int m = 0; m < MODULES; m++)

@@ -1,7 +1,7 @@
 #!/usr/bin/env python3
 """An emulator of sixteen modules, whose memories are bytearrays. They share a grid of 16 by 16 cells, on which a fire spreads.
 
-Each has 4 by 4 of the cells. In each step the modules push their outer cells to their neighbours, by a plan that is made once, and then
+Each has 4 by 4 of the cells. In each step the modules push their outer cells to their neighbours, by orders that are made once, and then
 each goes on by itself. What the pushes bring is compared with plain copying. docs/EMULATORS.md says how to run it.
 """
 
@@ -18,6 +18,9 @@ BLOCKS = [slice(SIDE * block, SIDE * block + SIDE) for block in range(8)]
 CELLS = slice(8 * SIDE, 8 * SIDE + SIDE * SIDE)
 OUTER = [slice(0, 4), slice(3, 16, 4), slice(12, 16), slice(0, 16, 4)]
 
+# Link 0 of module m is on link m of the switch, and link 3 on link 16 + m.
+FIRST = {0: 0, 3: 16}
+
 
 def neighbours(module):
     """The neighbours of a module, each behind the way there: 0 is north, 1 east, 2 south, 3 west."""
@@ -27,14 +30,20 @@ def neighbours(module):
             yield way, SIDE * r + c
 
 
-def move(modules, transfers, settings):
-    """Moves the blocks setting by setting, each as it was before."""
-    before = [bytes(memory) for memory in modules]
-    for setting in settings:
-        # Here an emulator sets its switch. All transfers of a setting may move at once.
-        for number in setting:
-            (m, b), (n, c) = transfers[number].source, transfers[number].destination
-            modules[n][BLOCKS[c]] = before[m][BLOCKS[b]]
+def move(modules, orders, settings):
+    """Has each setting set, and has the modules obey their orders of it: all of them send, and then all of them receive."""
+    aside = {(told.module, block): bytes(modules[told.module][BLOCKS[block]]) for told in orders for block in told.copies}
+    for setting, (sent,) in enumerate(settings):
+        switch.take(sent)
+        wires, obeyed = {}, [(told.module, order) for told in orders for order in told.settings[setting]]
+        for module, (link, act, block) in obeyed:
+            if act == "send block":
+                wires[FIRST[link] + module] = bytes(modules[module][BLOCKS[block]])
+            elif act == "send copy":
+                wires[FIRST[link] + module] = aside[module, block]
+        for module, (link, act, block) in obeyed:
+            if act == "receive block":
+                modules[module][BLOCKS[block]] = wires[switch.source(FIRST[link] + module)]
 
 
 def is_as_copied(modules):
@@ -58,13 +67,14 @@ modules = [bytearray(CELLS.stop) for _ in range(SIDE * SIDE)]
 modules[10][CELLS.start] = 1
 transfers = [exchange.Transfer("push", m, way, n, 4 + (way + 2) % 4) for m in range(SIDE * SIDE) for way, n in neighbours(m)]
 batch = exchange.batch_text(transfers)
-settings = exchange.settings(exchange.plan(batch))
+plan = exchange.plan(batch)
+orders, settings, switch = exchange.orders(batch, plan), exchange.switch_bytes(batch, plan), exchange.C004()
 print(f"{len(transfers)} transfers in {len(settings)} settings")
 for step in range(1, STEPS + 1):
     for memory in modules:
         for way in range(4):
             memory[BLOCKS[way]] = memory[CELLS][OUTER[way]]
-    move(modules, transfers, settings)
+    move(modules, orders, settings)
     if not is_as_copied(modules):
         sys.exit(f"step {step}: WRONG")
     for memory in modules:

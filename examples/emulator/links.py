@@ -2,9 +2,9 @@
 """An emulator whose modules are threads and whose links are queues. A C004 says which links feed each other: it is set by the bytes of its
 configuration link, and asked after each setting, as a real one.
 
-Eight modules transpose what they have: block b of module m and block m of module b change places. Each module knows the transfers that it
-takes part in, and does those of a setting once it is told that the setting stands. In the end the memories are compared with those that
-`apply` leaves. docs/EMULATORS.md says how to run it.
+Eight modules transpose what they have: block b of module m and block m of module b change places. Each module has its orders, and obeys
+those of a setting once it is told that the setting stands. In the end the memories are compared with those that `apply` leaves.
+docs/EMULATORS.md says how to run it.
 """
 
 import queue
@@ -28,27 +28,23 @@ def send(link, block):
 
 
 class Module(threading.Thread):
-    """A module with its blocks. It does what it is told, one setting after another, and then says so."""
+    """A module with its blocks. It obeys its orders of each setting that stands, and then says so."""
 
     def __init__(self, number, blocks):
         super().__init__()
-        self.number, self.blocks, self.told, self.done = number, blocks, queue.Queue(), queue.Queue()
+        self.number, self.blocks, self.orders, self.told, self.done = number, blocks, None, queue.Queue(), queue.Queue()
 
     def run(self):
-        before = list(self.blocks)
+        aside = {block: self.blocks[block] for block in self.orders.copies}
         for setting in iter(self.told.get, None):
-            # The links that this module uses in the setting, with the block that goes out or comes in there.
-            out = {self.link(t): t.source[1] for t in setting if t.source[0] == self.number}
-            into = {self.link(t): t.destination[1] for t in setting if t.destination[0] == self.number}
-            for link, block in out.items():
-                send(link, before[block])
-            for link, block in into.items():
-                self.blocks[block] = links[link].get()
+            # It sends before it receives, since nobody who sends into a queue has to wait.
+            for order in sorted(self.orders.settings[setting], key=lambda order: order.act == "receive block"):
+                link = self.number if order.link == 0 else 16 + self.number
+                if order.act == "receive block":
+                    self.blocks[order.block] = links[link].get()
+                else:
+                    send(link, aside[order.block] if order.act == "send copy" else self.blocks[order.block])
             self.done.put(True)
-
-    def link(self, transfer):
-        """The link of the switch that this module's part of a transfer goes over."""
-        return self.number if transfer.initiator == self.number else 16 + self.number
 
 
 def stands(setting):
@@ -64,16 +60,18 @@ transfers = [exchange.Transfer("push", m, b, b, m) for m in range(MODULES) for b
 batch = exchange.batch_text(transfers)
 plan = exchange.plan(batch, steady=True)
 
-for module in modules:
+# Each module has orders.
+for module, told in zip(modules, exchange.orders(batch, plan)):
+    module.orders = told
     module.start()
 standing = 0
-for (sent,), numbers in zip(exchange.switch_bytes(batch, plan), exchange.settings(plan)):
-    setting = [transfers[number] for number in numbers]
+for number, ((sent,), numbers) in enumerate(zip(exchange.switch_bytes(batch, plan), exchange.settings(plan))):
+    setting = [transfers[it] for it in numbers]
     if switch.take(sent) or switch.refused:
         sys.exit("WRONG: the switch doesn't obey")
     standing += stands(setting)
     for module in modules:
-        module.told.put([t for t in setting if module.number in (t.initiator, t.responder)])
+        module.told.put(number)
     for module in modules:
         module.done.get()
 for module in modules:

@@ -27,6 +27,7 @@ CALLS = {
     "plan_steady": ["batch"],
     "switch": ["batch", "schedule"],
     "switch_wired": ["batch", "schedule", "wiring"],
+    "orders": ["batch", "schedule"],
     "direct": ["moves"],
     "check": ["batch", "schedule"],
     "draw": ["batch", "schedule"],
@@ -35,19 +36,19 @@ CALLS = {
 }
 
 # The numbers by which a call knows them that tells why they refuse their texts, and all other calls.
-NUMBERS = {"plan": 0, "plan_steady": 0, "check": 1, "switch": 2, "apply": 3, "draw": 4, "changes": 5, "direct": 6, "switch_wired": 7}
+NUMBERS = {"plan": 0, "plan_steady": 0, "check": 1, "switch": 2, "apply": 3, "draw": 4, "changes": 5, "direct": 6, "switch_wired": 7, "orders": 8}
 OTHERS = ["why", "c004_reset", "c004_take", "c004_source", "c004_joined", "boot_reset", "boot_take"]
 
 
 def words_of(name, given):
     """The words of the command that is to answer as a call does. Each text is in a file of its name, but that of a shape, which is a word
-    itself. To the calls of `switch` an empty text of a schedule is none. What `changes` answers stands in the title of a picture."""
+    itself. To the calls of `switch` and `orders` an empty text of a schedule is none. What `changes` answers stands in the title of a picture."""
     words = [os.fsdecode(text) if file == "shape" else file for file, text in zip(CALLS[name], given)]
     if name == "plan_steady":
         return ["plan", *words, "--steady"]
-    if name in ("switch", "switch_wired"):
+    if name in ("switch", "switch_wired", "orders"):
         schedule = ["--schedule", "schedule"] if given[1] else []
-        return ["switch", "batch", *schedule, *(["--wiring", "wiring"] if name == "switch_wired" else [])]
+        return [name.partition("_")[0], "batch", *schedule, *(["--wiring", "wiring"] if name == "switch_wired" else [])]
     # A shape may begin as an option does.
     return ["draw" if name == "changes" else name, "--", *words]
 
@@ -81,11 +82,11 @@ def texts_for(draw, name):
         batch, schedule = texts.spoilt_schedule(draw, shape, most, plain.busiest)
         return [batch, schedule if draw.random() < 0.6 else b"", spoil.spoil(draw, board) if draw.random() < 0.4 else board]
     shape = (draw.choice([1, 2, 3, 8, 16, 17, plain.MODULES]), plain.BLOCKS, plain.WORDS)
-    if name in ("check", "draw", "changes") or name == "switch" and draw.random() < 0.7:
+    if name in ("check", "draw", "changes") or name in ("switch", "orders") and draw.random() < 0.7:
         return list(texts.spoilt_schedule(draw, shape, most, plain.busiest))
     batch = spoil.batch(draw, shape, most)
     given = [spoil.spoil(draw, batch) if draw.random() < 0.5 else batch]
-    return [*given, b""] if name == "switch" else given
+    return [*given, b""] if name in ("switch", "orders") else given
 
 
 class Calls:
@@ -154,7 +155,7 @@ def try_examples(path):
     board = b"wiring 3\nmodule 0 link 0 at 3 link 3 at 4\nmodule 1 link 0 at 5 link 3 at 6\nmodule 2 link 0 at 7 link 3 at 8\n"
     asked = [(name, [batch, schedule, board][: len(files)]) for name, files in CALLS.items() if name != "direct"]
     asked[-1] = ("apply", [b"3x2x2", read("two-pushes.txt"), read("before.img")])
-    asked += [("direct", [read("patterns/gather.moves.txt")]), ("plan", [b"batch 1\n"]), ("switch", [batch, b""])]
+    asked += [("direct", [read("patterns/gather.moves.txt")]), ("plan", [b"batch 1\n"]), ("switch", [batch, b""]), ("orders", [batch, b""])]
     asked += [(name, [read("all-to-all.txt")]) for name in ("plan", "plan_steady")]
     with tempfile.TemporaryDirectory() as room:
         os.chdir(room)

@@ -63,6 +63,8 @@ static uint8_t call(const char *name, const struct text *t, uint8_t *out, size_t
         return exchange_switch(t[0].bytes, t[0].count, t[1].bytes, t[1].count, out, room, count);
     if (strcmp(name, "switch_wired") == 0)
         return exchange_switch_wired(t[0].bytes, t[0].count, t[1].bytes, t[1].count, t[2].bytes, t[2].count, out, room, count);
+    if (strcmp(name, "orders") == 0)
+        return exchange_orders(t[0].bytes, t[0].count, t[1].bytes, t[1].count, out, room, count);
     if (strcmp(name, "draw") == 0)
         return exchange_draw(t[0].bytes, t[0].count, t[1].bytes, t[1].count, out, room, count);
     if (strcmp(name, "changes") == 0)

@@ -13,6 +13,7 @@
 What isn't built yet is proved and built first. `man` and `pkg-config` are tried where they are there.
 """
 
+import itertools
 import multiprocessing
 import os
 import random
@@ -270,16 +271,16 @@ def try_settings():
 
 
 def try_no_schedule():
-    """An empty text of a schedule is refused, as the program refuses an empty file. To the call from C it would be none."""
+    """An empty text of a schedule is refused, as the program refuses an empty file. To the calls from C it would be none."""
     import exchange
 
-    batch = calls.read("three-transfers.txt")
-    for text in ("", b"", memoryview(b"")):
+    batch, named = calls.read("three-transfers.txt"), {exchange.switch_bytes: "switch", exchange.orders: "orders"}
+    for call_it, text in itertools.product(named, ("", b"", memoryview(b""))):
         try:
-            told = exchange.switch_bytes(batch, text)
+            told = call_it(batch, text)
         except exchange.Refused as refused:
             told = f"{refused.line}\n".encode()
-        program = ask("switch", f"{EXAMPLES}/three-transfers.txt", "--schedule", os.devnull)
+        program = ask(named[call_it], f"{EXAMPLES}/three-transfers.txt", "--schedule", os.devnull)
         expect("an empty text of a schedule is refused", (told, 1) == (program.out, program.status), told)
 
 
@@ -292,12 +293,33 @@ def given_as(text):
         return text
 
 
+def settings_of(batch, schedule):
+    """How many settings a schedule has, or the plan of a batch where there is none."""
+    import exchange
+
+    text = exchange.plan(batch) if schedule is None else schedule
+    return len(exchange.settings(text if isinstance(text, str) else bytes(text).decode()))
+
+
+def orders_text(told, settings, alone):
+    """The text of these orders, where each module's are told alone too."""
+    if [[it] for it in told] != alone:
+        return b"one module's orders differ from those of all"
+    lines = [f"modules {len(told)} settings {settings}"]
+    for module, copies, by_setting in told:
+        own = [f"setting {k} link {link} {act} {block}" for k, setting in enumerate(by_setting) for link, act, block in setting]
+        lines += [f"module {module} copies {len(copies)} orders {len(own)}", *(f"copy block {block}" for block in copies), *own]
+    return "".join(f"{line}\n" for line in lines).encode()
+
+
 def text_of(name, answer):
     """What the program prints where a call answers this."""
     if name == "check":
         return b"shortest %d\n" % answer
     if name == "changes":
         return b"changes %d least %d\n" % answer
+    if name == "orders":
+        return orders_text(*answer)
     if name in ("switch", "switch_wired"):
         letters = {1: [""], 2: ["a ", "b "]}
         lines = [(s, it) for s, setting in enumerate(answer) for it in zip(letters[len(setting)], setting)]
@@ -313,6 +335,10 @@ def call(name, *texts):
         return exchange.plan(*texts, steady=True)
     if name in ("switch", "switch_wired"):
         return exchange.switch_bytes(texts[0], texts[1] or None, *texts[2:])
+    if name == "orders":
+        batch, schedule = texts[0], texts[1] or None
+        told = exchange.orders(batch, schedule)
+        return told, settings_of(batch, schedule), [exchange.orders(batch, schedule, it.module) for it in told]
     return getattr(exchange, name)(*texts)
 
 

@@ -1,9 +1,10 @@
--- What the call of `switch` answers.
+-- What the calls of `switch` and of `orders` answer: both take a schedule, or none.
 use Rattle.std.specs.Prelude.{ℕ, List, [], ◌∷◌, Some, None}
 use Rattle.plan_answers.specs.Refusals.{Printed}
 use Rattle.plan_answers.specs.declared.source.Planning.TheVariants.{Plain}
 use Rattle.plan_answers.specs.declared.source.Source.{Source}
 use Rattle.plan_answers.specs.declared.source.Source.TheVariants.{Plan, Text}
+use Rattle.rack_answers.specs.Orders.{IsOrdered}
 use Rattle.rack_answers.specs.Switching.{IsOn, IsSwitched}
 use Rattle.exchange_c.specs.Writing.{IsTheOne}
 
@@ -12,12 +13,20 @@ abbrev pub source_for : List ℕ → Source (List ℕ)
 source_for [] = Plan Plain
 source_for (byte ∷ bytes) = Text (byte ∷ bytes)
 
--- what `switch` answers for a schedule from there; of a text no other answer is right
-abbrev pub IsSwitchedBy : List ℕ → List ℕ → Printed → Type 0
-IsSwitchedBy batch [] = IsSwitched (Plan Plain) None batch
-IsSwitchedBy batch (byte ∷ bytes) = IsTheOne (IsSwitched (Text (byte ∷ bytes)) None batch)
+-- what is answered for a schedule from there; of a text no other answer is right
+abbrev pub IsBy : (Source (List ℕ) → Printed → Type 0) → List ℕ → Printed → Type 0
+IsBy Is [] = Is (Plan Plain)
+IsBy Is (byte ∷ bytes) = IsTheOne (Is (Text (byte ∷ bytes)))
 
--- the same on a wiring
+-- what `switch` answers so
+abbrev pub IsSwitchedBy : List ℕ → List ℕ → Printed → Type 0
+IsSwitchedBy batch schedule = IsBy (λ source. IsSwitched source None batch) schedule
+
+-- what `orders` answers so, of all modules
+abbrev pub IsOrderedBy : List ℕ → List ℕ → Printed → Type 0
+IsOrderedBy batch schedule = IsBy (λ source. IsOrdered source None batch) schedule
+
+-- what `switch` answers on a wiring
 abbrev pub IsSwitchedOn : List ℕ → List ℕ → List ℕ → Printed → Type 0
 IsSwitchedOn wiring batch schedule =
     IsOn (λ board. IsSwitched (source_for schedule) board batch) (Some wiring)

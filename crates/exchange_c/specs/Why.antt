@@ -1,10 +1,10 @@
 -- What a call tells of the refusal that another call gives.
 use Rattle.std.specs.Prelude.{◌≡◌, ◌⊎◌, ◌==◌, ℕ, List, [], Option, Some, None, if◌then◌else◌}
 use Rattle.batch.specs.Extent.{widest}
-use Rattle.exchange_c.specs.Switching.{IsSwitchedBy, IsSwitchedOn}
+use Rattle.exchange_c.specs.Switching.{IsOrderedBy, IsSwitchedBy, IsSwitchedOn}
 use Rattle.exchange_c.specs.Writing.{IsTheOne}
 use Rattle.exchange_c.specs.declared.why.Asked.{Asked}
-use Rattle.exchange_c.specs.declared.why.Asked.TheVariants.{Plan, Check, Switch, Apply, Draw, Changes, Direct, SwitchWired}
+use Rattle.exchange_c.specs.declared.why.Asked.TheVariants.{Plan, Check, Switch, Apply, Draw, Changes, Direct, SwitchWired, Orders}
 use Rattle.plan_answers.specs.Answers.{IsPlanned, IsChecked}
 use Rattle.plan_answers.specs.Counting.{IsCounted}
 use Rattle.plan_answers.specs.Directing.{IsDirected}
@@ -26,7 +26,8 @@ asked_by number =
     (if number == 4 then Some Draw else
     (if number == 5 then Some Changes else
     (if number == 6 then Some Direct else
-    (if number == 7 then Some SwitchWired else None)))))))
+    (if number == 7 then Some SwitchWired else
+    (if number == 8 then Some Orders else None))))))))
 
 -- what a call answers to its texts, in the order of its arguments
 abbrev pub IsAnswerOf : Asked → List ℕ → List ℕ → List ℕ → Printed → Type 0
@@ -38,6 +39,7 @@ IsAnswerOf Draw batch schedule third = IsTheOne (IsDrawn widest batch schedule N
 IsAnswerOf Changes batch schedule third = IsTheOne (IsCounted widest batch schedule)
 IsAnswerOf Direct moves second third = IsDirected moves
 IsAnswerOf SwitchWired batch schedule wiring = IsSwitchedOn wiring batch schedule
+IsAnswerOf Orders batch schedule third = IsOrderedBy batch schedule
 
 -- a line beside the refusal that the call gives of these texts, or nothing
 pub record IsWhy (asked : Asked) (first second third : List ℕ) (told : Printed) : Type 0 where

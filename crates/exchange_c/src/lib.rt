@@ -9,7 +9,8 @@
 //! are as they were. Where there is no room, or no memory, all are as they were (`Leaves` of
 //! `specs/Writing.antt`). [`exchange_switch`] answers by a plan where the text of the schedule is
 //! empty, and else by that schedule (`IsSwitchedBy` of `specs/Switching.antt`), and
-//! [`exchange_switch_wired`] does so on a wiring (`IsSwitchedOn`).
+//! [`exchange_switch_wired`] does so on a wiring (`IsSwitchedOn`). [`exchange_orders`] answers for
+//! such a schedule too (`IsOrderedBy`).
 #![tactic(auto)]
 
 ghost use Rattle.std.specs.Prelude.{◌≡◌, IfOk, OnErr, None};
@@ -21,7 +22,7 @@ ghost use Rattle.plan_answers.specs.Drawings.{IsDrawn};
 ghost use Rattle.plan_answers.specs.Schedules.{said_by};
 ghost use Rattle.plan_answers.specs.declared.source.Planning.TheVariants.{Plain, Steady};
 ghost use Rattle.rack_answers.specs.Answers.{IsApplied};
-ghost use Rattle.exchange_c.specs.Switching.{source_for, IsSwitchedBy, IsSwitchedOn};
+ghost use Rattle.exchange_c.specs.Switching.{source_for, IsOrderedBy, IsSwitchedBy, IsSwitchedOn};
 ghost use Rattle.exchange_c.specs.Writing.{Puts, IsOutOfMemory, Leaves, IsTheOne};
 
 mod boot;
@@ -34,7 +35,7 @@ use plan_answers::{
     Answer, Planning, Source, answer_changes, answer_check, answer_direct, answer_draw,
     answer_plan_alone,
 };
-use rack_answers::{answer_apply_alone, answer_switch_alone};
+use rack_answers::{answer_apply_alone, answer_orders_alone, answer_switch_alone};
 pub use status::{
     BOOTSTRAP, FAILED, LOOSE, MISALIGNED, NO_CALL, NO_MEMORY, NO_PORT, NO_ROOM, NO_STATE, OUTSIDE,
     REPLY,
@@ -158,6 +159,22 @@ pub extern "C" fn exchange_switch_wired(
         out.old out.new count.new result }
 {
     let answer = answer_switch_alone(alloc, Some(wiring), batch, source_of(schedule));
+    leave(answer, out, count)
+}
+
+/// What `exchange orders` answers to the text of a batch, and `exchange orders --schedule` to that
+/// and to the text of a schedule that isn't empty.
+#[unsafe(no_mangle)]
+pub extern "C" fn exchange_orders(
+    alloc: Global,
+    batch: &[u8],
+    schedule: &[u8],
+    out: &mut [u8],
+    count: &mut usize,
+) -> u8
+    ensures { Leaves (IsOrderedBy batch.now schedule.now) out.old out.new count.new result }
+{
+    let answer = answer_orders_alone(alloc, batch, source_of(schedule), None);
     leave(answer, out, count)
 }
 

@@ -10,7 +10,7 @@ use crate::{leave, source_of};
 use plan_answers::{
     Answer, Planning, answer_changes, answer_check, answer_direct, answer_draw, answer_plan_alone,
 };
-use rack_answers::{answer_apply_alone, answer_switch_alone};
+use rack_answers::{answer_apply_alone, answer_orders_alone, answer_switch_alone};
 use refusal_notes::{Listing, Named, Texts, second_line};
 use std::alloc::{AllocError, Global};
 
@@ -25,6 +25,7 @@ enum Asked {
     Changes,
     Direct,
     SwitchWired,
+    Orders,
 }
 
 /// The texts of a call, in the order of its arguments. Those that it hasn't have no effect.
@@ -65,6 +66,7 @@ impl Asked {
             5 => Some(Asked::Changes),
             6 => Some(Asked::Direct),
             7 => Some(Asked::SwitchWired),
+            8 => Some(Asked::Orders),
             _ => None,
         }
     }
@@ -86,6 +88,7 @@ impl Asked {
             Asked::SwitchWired => {
                 answer_switch_alone(alloc, Some(third), first, source_of(second))
             }
+            Asked::Orders => answer_orders_alone(alloc, first, source_of(second), None),
         }
     }
 
@@ -169,7 +172,7 @@ fn why(alloc: Global, asked: Asked, given: Given<'_>, names: &[u8]) -> Result<An
 /// What `exchange` tells on standard error beside the refusal that a call gives of these texts: one
 /// line, or nothing where the call refuses none. Call 0 is `exchange_plan`, 1 `exchange_check`, 2
 /// `exchange_switch`, 3 `exchange_apply`, 4 `exchange_draw`, 5 `exchange_changes`, 6
-/// `exchange_direct`, and 7 `exchange_switch_wired`.
+/// `exchange_direct`, 7 `exchange_switch_wired`, and 8 `exchange_orders`.
 #[unsafe(no_mangle)]
 pub extern "C" fn exchange_why(
     alloc: Global,

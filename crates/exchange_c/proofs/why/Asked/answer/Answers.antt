@@ -5,7 +5,9 @@ use Rattle.plan_answers.specs.Counting.{IsCounted}
 use Rattle.plan_answers.specs.Drawings.{IsDrawn}
 use Rattle.plan_answers.specs.Schedules.{said_by}
 use Rattle.rack_answers.specs.Answers.{IsApplied}
-use Rattle.exchange_c.proofs.Switching.{switched_by, switched_on}
+use Rattle.rack_answers.specs.Orders.{IsOrdered}
+use Rattle.rack_answers.specs.Switching.{IsSwitched}
+use Rattle.exchange_c.proofs.Switching.{answered_by, switched_on}
 use Rattle.exchange_c.proofs.Writing.{the_one}
 use Rattle.exchange_c.proofs.why.Asked.answer.Goals as goal
 
@@ -15,7 +17,7 @@ returns-in-Check c =
 
 pub returns-in-Switch : goal.returns-in-Switch
 returns-in-Switch c =
-    rw c.in-Switch.is (switched_by c.answer_switch_alone.result c.args.given.first.now c.args.given.second.now c.source_of.result c.source_of.ensures c.answer_switch_alone.ensures.switched (λ text. c.answer_switch_alone.ensures.one text refl))
+    rw c.in-Switch.is (answered_by c.answer_switch_alone.result (λ source. IsSwitched source None c.args.given.first.now) c.args.given.second.now c.source_of.result c.source_of.ensures c.answer_switch_alone.ensures.switched (λ text. c.answer_switch_alone.ensures.one text refl))
 
 pub returns-in-Apply : goal.returns-in-Apply
 returns-in-Apply c =
@@ -32,3 +34,7 @@ returns-in-Changes c =
 pub returns-in-SwitchWired : goal.returns-in-SwitchWired
 returns-in-SwitchWired c =
     rw c.in-SwitchWired.is (switched_on c.answer_switch_alone-in-SwitchWired.result c.args.given.third.now c.args.given.first.now c.args.given.second.now (said_by c.source_of-in-SwitchWired.result) c.source_of-in-SwitchWired.ensures c.answer_switch_alone-in-SwitchWired.ensures.switched)
+
+pub returns-in-Orders : goal.returns-in-Orders
+returns-in-Orders c =
+    rw c.in-Orders.is (answered_by c.answer_orders_alone.result (λ source. IsOrdered source None c.args.given.first.now) c.args.given.second.now c.source_of-in-Orders.result c.source_of-in-Orders.ensures c.answer_orders_alone.ensures.ordered c.answer_orders_alone.ensures.one)

@@ -1,0 +1,83 @@
+#!/usr/bin/env python3
+"""The switch of a rack: a C004 that is set over its configuration link, and carries what comes over a module's link to wherever that link
+feeds an output as it stands.
+
+    switch.py PORT [PORT] LINK..
+
+The configuration link of a port is two named pipes, PORT.in and PORT.out. Two ports are those of the switches A and B of a rack with more
+than 16 modules. The links are sockets, by their numbers: those of link 0 and of link 3 of module 0, then of module 1, and so on.
+rack.py starts this program, which ends when nobody sets it any more.
+"""
+
+import os
+import select
+import socket
+import sys
+
+import exchange
+
+
+class Chip:
+    """A C004 at the other end of a port."""
+
+    def __init__(self, port):
+        self.switch = exchange.C004()
+        self.read = os.open(f"{port}.in", os.O_RDONLY)
+        self.write = os.open(f"{port}.out", os.O_WRONLY)
+
+    def take(self):
+        """Takes bytes of the configuration link, and answers enquiries: whether there were any."""
+        sent = os.read(self.read, 4096)
+        os.write(self.write, self.switch.take(sent))
+        return bool(sent)
+
+    def fed_by(self, given):
+        """The outputs that an input feeds. While commands connect, none lets data pass: the last byte of the state says so."""
+        return [] if self.switch.state[-1] else [output for output in range(32) if self.switch.source(output) == given]
+
+
+class Wires:
+    """Which inputs and outputs of the switches the modules' links are on."""
+
+    def __init__(self, chips, links):
+        self.inputs, self.outputs = {}, {}
+        for number, link in enumerate(links):
+            module, end = divmod(number, 2)
+            if len(chips) == 1:
+                given = taken = chips[0], module + 16 * end
+            else:
+                # A leads from the links 0 to the links 3, and B leads back.
+                given, taken = (chips[end], module), (chips[1 - end], module)
+            self.inputs[link], self.outputs[taken] = given, link
+
+    def carry(self, link, words):
+        """Carries what a module sends over its link."""
+        chip, given = self.inputs[link]
+        far = [self.outputs[chip, output] for output in chip.fed_by(given) if (chip, output) in self.outputs]
+        if not far:
+            sys.exit("switch.py: words come over a link that isn't joined")
+        for other in far:
+            other.sendall(words)
+
+
+def main():
+    ports = [word for word in sys.argv[1:] if not word.isdigit()]
+    links = [socket.socket(fileno=int(word)) for word in sys.argv[1 + len(ports) :]]
+    chips = [Chip(port) for port in ports]
+    wires, setting = Wires(chips, links), {chip.read: chip for chip in chips}
+    while setting:
+        ready = select.select([*setting, *links], [], [])[0]
+        # What sets the switch came before the words that go through it, though it may be seen after them.
+        for read in select.select([*setting], [], [], 0)[0]:
+            if not setting[read].take():
+                del setting[read]
+        for link in (it for it in ready if it in links):
+            words = link.recv(4096)
+            if words:
+                wires.carry(link, words)
+            else:
+                links.remove(link)
+
+
+if __name__ == "__main__":
+    main()
