@@ -1,8 +1,8 @@
 /* The answers of the program `exchange`, for programs in C.
  *
  * Each call reads texts and writes one answer: the bytes that the program prints for the same texts, or, of
- * `exchange_changes`, a line of its own. A text
- * is a pointer and a number of bytes, and needs no zero at its end.
+ * `exchange_changes` and `exchange_why`, a line of its own. A text is a pointer and a number of bytes, and needs no
+ * zero at its end.
  *
  * What a call gives back, and what it leaves in `out` and `*count`:
  *
@@ -208,6 +208,7 @@ void exchange_boot_reset(struct exchange_boot *end);
 
 /* Takes the next byte of a link, over the memory of its module: the byte at address `base + i` is `memory[i]`. A word
  * is there where its address is a multiple of four and all its bytes are in the memory, the least significant first.
+ * Addresses don't wrap: a byte whose address would be 2^32 or more has none.
  * Nothing is booted. Gives
  *
  *   EXCHANGE_DONE        no reply is due. At the last byte of a poke (00, address, word) its word is written
