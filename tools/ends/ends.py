@@ -612,6 +612,10 @@ def left_by_another():
             yield (count, drive(THREE, "port", "--go-on")), (count, all_driven(lines_for(THREE)))
             yield chip.heard()[0], first + second
             put_away("port")
+    chip = Far(Pipes("port"), old=bytes(31))
+    yield drive(THREE, "port", "--go-on"), all_driven(lines_for(THREE))
+    yield chip.heard()[0], first + second
+    put_away("port")
 
 
 def killed():
@@ -640,7 +644,7 @@ def two_left():
 
 def too_many_left():
     """More old answers than can be told, and what is no answer: it doesn't go on to a setting."""
-    for old in bytes(32), b"\x05" * 40, b"\x9f\xff" * 16:
+    for old in bytes(32), b"\x05" * 40, b"\x9f\xff" * 16, b"\x91" * 31 + b"\x9f", b"\x91" * 40 + b"\x80\x82":
         chip = Far(Pipes("port"), old=old)
         yield drive(THREE, "port", "--go-on"), stopped(THREE, 0, "port")
         yield WOKEN.startswith(chip.heard()[0]), True

@@ -1,10 +1,10 @@
 -- What comes of a switch as it comes up, whatever it was left in.
-use Rattle.std.proofs.Common.{◌≡◌, ◌<◌, ◌≤◌, ◌+◌, ◌-◌, ◌++◌, ◌∷◌, [], ℕ, zero, suc, Bool, false, cond, eqb, List, Option, Some, inl, inr, length, map, get_or, drop, refl, sym, ap, ap₂, ◌∙◌, subst, arith, append_assoc, append-nil, length-append}
+use Rattle.std.proofs.Common.{◌≡◌, ◌<◌, ◌≤◌, ◌+◌, ◌-◌, ◌++◌, ◌∷◌, [], ℕ, zero, suc, Bool, false, cond, eqb, List, Option, Some, inl, inr, length, map, drop, take, refl, sym, ap, ap₂, ◌∙◌, subst, arith, append_assoc, append-nil, length-append}
 use Rattle.std.proofs.lemmas.Bool.{cases_lt}
-use Rattle.std.proofs.lemmas.List.FromFn.{get_or-map-range_with_len, length-range_with_len}
+use Rattle.std.proofs.lemmas.List.FromFn.{length-range_with_len, take-map-range_with_len}
 use Rattle.std.proofs.lemmas.List.{drop-map}
 use Rattle.std.proofs.lemmas.List.Concat.{flat_map-append}
-use Rattle.std.proofs.Math.Seq.{drop-append-add, drop-append_seam, get_or-append_right}
+use Rattle.std.proofs.Math.Seq.{drop-append-add, drop-append_seam, take-append-add}
 use Rattle.std.specs.FinMap as finmap
 use Rattle.std.specs.List.{range_with_len}
 use Rattle.c004_commands.specs.Answers.{answer_byte}
@@ -20,7 +20,7 @@ use Rattle.switch_settings.specs.Pairs.{all_enquiries}
 use Rattle.switch_settings.proofs.Replies.{all_ports}
 use Rattle.switch_driver.proofs.Asking.{range_parts}
 use Rattle.switch_driver.specs.Laws.{ComesUp}
-use Rattle.switch_driver.specs.Waking.{answers_behind, ending, own_answer, own_join, own_joins}
+use Rattle.switch_driver.specs.Waking.{answers_behind, answers_up_to, ending, own_answer, own_join, own_joins}
 
 -- ---- whatever command was begun is ended
 
@@ -146,7 +146,7 @@ range_behind m le =
 record Told (came : List ℕ) : Type 0 where
   output : ℕ
   known : output < PORTS
-  last : get_or came (PORTS - 1) 0 ≡ own_answer output
+  last : drop (PORTS - 1 - output) (take PORTS came) ≡ answers_up_to output
   rest : drop PORTS came ≡ answers_behind output
 
 told : (old : List ℕ) → length old < PORTS → Told (old ++ map own_answer (range_with_len 0 PORTS))
@@ -157,10 +157,15 @@ told old few =
     let m = PORTS - n in
     let next : output + 1 ≡ m = omega (arith, few) in
     let whole : n + m ≡ PORTS = omega (arith, few) in
+    let at : PORTS - 1 - output ≡ n = omega (arith, few) in
     record {
       output = output;
       known = omega (arith, few);
-      last = get_or-append_right old own (PORTS - 1) 0 (omega (arith, few)) ∙ get_or-map-range_with_len own_answer 0 PORTS output output 0 (omega (arith, few)) (omega arith);
+      last = ap (λ (k : ℕ). drop (PORTS - 1 - output) (take k (old ++ own))) (sym whole)
+          ∙ ap (drop (PORTS - 1 - output)) (take-append-add old own m ∙ ap (λ (bs : List ℕ). old ++ bs) (take-map-range_with_len own_answer 0 PORTS m (omega (arith, few))))
+          ∙ ap (λ (k : ℕ). drop k (old ++ map own_answer (range_with_len 0 m))) at
+          ∙ drop-append_seam old (map own_answer (range_with_len 0 m))
+          ∙ ap (λ (k : ℕ). map own_answer (range_with_len 0 k)) (sym next);
       rest = ap (λ (k : ℕ). drop k (old ++ own)) (sym whole)
           ∙ drop-append-add old own m
           ∙ drop-map own_answer m (range_with_len 0 PORTS)

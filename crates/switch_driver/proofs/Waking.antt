@@ -1,5 +1,5 @@
 -- What passes as a switch comes up, part by part.
-use Rattle.std.proofs.Common.{◌≡◌, ◌<◌, ◌+◌, ◌-◌, ◌++◌, ◌∷◌, [], ℕ, zero, suc, List, length, map, get_or, Option, refl, sym, ap, ◌∙◌, arith, append_assoc}
+use Rattle.std.proofs.Common.{◌≡◌, ◌<◌, ◌+◌, ◌-◌, ◌++◌, ◌∷◌, [], ℕ, zero, suc, List, length, map, drop, Option, refl, sym, ap, ◌∙◌, arith, append_assoc}
 use Rattle.std.proofs.lemmas.List.{map-append}
 use Rattle.std.proofs.lemmas.List.FromFn.{map-range_with_len_more}
 use Rattle.std.specs.List.{range_with_len}
@@ -14,7 +14,7 @@ use Rattle.switch_settings.specs.Pairs.{all_enquiries}
 use Rattle.switch_driver.proofs.Conversing.{conversed-append}
 use Rattle.switch_driver.proofs.Streams.{carried_none, carried_then, heard_of_heard, sent_of_heard}
 use Rattle.switch_driver.specs.Streams.{HasHeard, HasPassed}
-use Rattle.switch_driver.specs.Waking.{CameUp, answers_behind, ending, own_answer, own_join, own_joins}
+use Rattle.switch_driver.specs.Waking.{CameUp, answers_behind, answers_up_to, ending, own_answer, own_join, own_joins}
 use Rattle.switch_driver.specs.declared.stream.SwitchStream.{SwitchStream}
 
 -- ---- over a stream
@@ -63,7 +63,7 @@ answers_more chip start count output came before now after at is e f =
     ∙ ap (λ (bs : List ℕ). before ++ heard_from chip bs) (sym (map-range_with_len_more own_answer start count output at))
 
 -- all parts
-pub came_up : (chip : Chip) (first : List ℕ) (output : ℕ) (w0 w1 w2 w3 w4 : List Passing) → length first ≡ PORTS → output < PORTS → get_or first (PORTS - 1) 0 ≡ own_answer output → w1 ≡ w0 ++ conversed chip ending [] → w2 ≡ w1 ++ conversed chip own_joins []
+pub came_up : (chip : Chip) (first : List ℕ) (output : ℕ) (w0 w1 w2 w3 w4 : List Passing) → length first ≡ PORTS → output < PORTS → drop (PORTS - 1 - output) first ≡ answers_up_to output → w1 ≡ w0 ++ conversed chip ending [] → w2 ≡ w1 ++ conversed chip own_joins []
     → w3 ≡ w2 ++ conversed chip all_enquiries first → w4 ≡ w3 ++ heard_from chip (answers_behind output) → CameUp chip w0 w4
 came_up chip first output w0 w1 w2 w3 w4 all known last e f g h =
     let a = conversed chip ending [] in

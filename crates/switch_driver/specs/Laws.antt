@@ -1,5 +1,5 @@
 -- What the laws state. No contract of a call cites them.
-use Rattle.std.specs.Prelude.{◌≡◌, ◌<◌, ◌≤◌, ◌+◌, ◌-◌, ◌*◌, ℕ, zero, suc, List, [], ◌∷◌, ◌++◌, length, drop, slice_index, Option, Some, IsTrue}
+use Rattle.std.specs.Prelude.{◌≡◌, ◌<◌, ◌≤◌, ◌+◌, ◌-◌, ◌*◌, ℕ, zero, suc, List, [], ◌∷◌, ◌++◌, length, drop, take, Option, Some, IsTrue}
 use Rattle.std.specs.FinMap as map
 use Rattle.batch.specs.Batches.{IsBatch}
 use Rattle.batch.specs.declared.transfer.Transfer.{Transfer}
@@ -18,7 +18,7 @@ use Rattle.switch_settings.specs.Racks.{HasModulesOf}
 use Rattle.switch_settings.specs.Sending.{pairs_at, turning}
 use Rattle.switch_settings.specs.Settings.{numbers_in, setting_pairs}
 use Rattle.switch_driver.specs.Driving.{standing_behind}
-use Rattle.switch_driver.specs.Waking.{answers_behind, ending, own_answer, own_joins}
+use Rattle.switch_driver.specs.Waking.{answers_behind, answers_up_to, ending, own_joins}
 
 -- ---- what replies tell
 
@@ -69,14 +69,15 @@ DrivenTurns =
 -- ---- how a switch comes up
 
 -- A switch stands in a command, and answers stand in its line, fewer than it has outputs, with the
--- one that the first bytes may draw from it. Of what comes then, the byte that is read behind the
--- last enquiry is what some output answers, and behind it just the answers of the outputs behind
--- come. The switch stands in no command any more.
+-- one that the first bytes may draw from it. Of what comes then, the bytes that are read behind the
+-- enquiries end with what the outputs up to some one answer, and behind them just the answers of the
+-- outputs behind come.
 abbrev pub ComesUp : Type 0
 ComesUp =
     (begun line : List ℕ) (commands : List Command) (switch : Switch) → IsCommandFront begun
     → Spells (begun ++ text (ending ++ (own_joins ++ all_enquiries))) commands []
     → length line + enquiries commands < 2 * PORTS
     → let came = line ++ answers commands switch in
-    (output : ℕ) × (output < PORTS) × (slice_index came (PORTS - 1) ≡ own_answer output)
+    (output : ℕ) × (output < PORTS)
+    × (drop (PORTS - 1 - output) (take PORTS came) ≡ answers_up_to output)
     × (drop PORTS came ≡ answers_behind output)

@@ -1,6 +1,6 @@
 -- What passes as a switch comes up, whatever it was left in. Which commands these are, and how old
 -- answers are told from its own, is this project's choice.
-use Rattle.std.specs.Prelude.{◌≡◌, ◌<◌, ◌+◌, ◌-◌, ℕ, List, [], ◌∷◌, ◌++◌, length, map, slice_index, Some}
+use Rattle.std.specs.Prelude.{◌≡◌, ◌<◌, ◌+◌, ◌-◌, ℕ, List, [], ◌∷◌, ◌++◌, length, map, drop, Some}
 use Rattle.std.specs.List.{range_with_len}
 use Rattle.c004_commands.specs.Answers.{answer_byte}
 use Rattle.c004_commands.specs.declared.command.Command.{Command}
@@ -31,14 +31,18 @@ own_answer output = answer_byte (Some output)
 abbrev pub answers_behind : ℕ → List ℕ
 answers_behind output = map own_answer (range_with_len (output + 1) (PORTS - (output + 1)))
 
+-- what the outputs up to one answer
+abbrev pub answers_up_to : ℕ → List ℕ
+answers_up_to output = map own_answer (range_with_len 0 (output + 1))
+
 -- A switch came up: it was sent this, and a byte was read behind each enquiry. The last of these
--- bytes is what an output answers. Then the answers of the outputs behind it were read.
+-- bytes are what the outputs up to some one answer. Then the answers of those behind it were read.
 pub record CameUp (chip : Chip) (before after : List Passing) : Type 0 where
   pub first : List ℕ
   pub all : length first ≡ PORTS
   pub output : ℕ
   pub known : output < PORTS
-  pub last : slice_index first (PORTS - 1) ≡ own_answer output
+  pub last : drop (PORTS - 1 - output) first ≡ answers_up_to output
   pub passed :
       after
       ≡ before

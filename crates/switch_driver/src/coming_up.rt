@@ -1,11 +1,11 @@
 //! A switch comes up, whatever it was left in.
 
-ghost use Rattle.std.specs.Prelude.{◌≡◌, ◌<◌, ◌≤◌, ◌-◌, ◌++◌, [], ℕ, OnOk, map};
+ghost use Rattle.std.specs.Prelude.{◌≡◌, ◌<◌, ◌≤◌, ◌-◌, ◌++◌, [], ℕ, OnOk, drop, map, true};
 ghost use Rattle.std.specs.List.{range_with_len};
 ghost use Rattle.c004_commands.specs.declared.port.TheConstants.{PORTS as OUTPUTS};
 ghost use Rattle.crossbar.specs.Traffic.{conversed, heard_from};
 ghost use Rattle.switch_driver.specs.Streams.{HasPassed};
-ghost use Rattle.switch_driver.specs.Waking.{CameUp, answers_behind, own_answer, own_joins};
+ghost use Rattle.switch_driver.specs.Waking.{CameUp, answers_behind, answers_up_to, own_answer, own_joins};
 
 use crate::stream::{StreamFault, SwitchStream, converse, hear};
 use c004_commands::{CONNECTED, OutputState, PORTS};
@@ -17,16 +17,24 @@ use switch_settings::enquiry_bytes;
 /// How many outputs are asked.
 const ASKED: usize = PORTS as usize;
 
+/// What the outputs answer, each joined to the input of its own number.
+const OWN_ANSWERS: [u8; ASKED] = [
+    0x80, 0x81, 0x82, 0x83, 0x84, 0x85, 0x86, 0x87, 0x88, 0x89, 0x8a, 0x8b, 0x8c, 0x8d, 0x8e, 0x8f,
+    0x90, 0x91, 0x92, 0x93, 0x94, 0x95, 0x96, 0x97, 0x98, 0x99, 0x9a, 0x9b, 0x9c, 0x9d, 0x9e, 0x9f,
+];
+
 /// What ends whatever command a switch stands in, and resets it: at most two bytes are missing of
 /// any command, and `03` is a link's number too.
 const ENDING: [u8; 3] = [3, 3, 4];
 
 /// Brings a switch up. Whatever command was begun is ended, and the switch is reset. Then each
 /// output is joined to the input of its own number, and asked. Behind each enquiry one byte is
-/// read. Old answers may stand in the line before those of these enquiries, at most 31: the last
-/// byte that was read tells how many, and as many more are read. What passes is noted.
+/// read. Old answers may stand in the line before those of these enquiries, at most 31 with the one
+/// that the first byte may draw: the last byte that was read tells how many, and as many more are
+/// read. What passes is noted.
 ///
-/// It fails where the last byte is no answer of these, or where the others that are read aren't.
+/// It fails where the bytes that were read don't end with answers of these in their order, or where
+/// the others that are read aren't the rest of them.
 pub(crate) fn come_up<I: Read, O: Write>(
     chip: Chip,
     stream: &mut SwitchStream<I, O>,
@@ -39,7 +47,7 @@ pub(crate) fn come_up<I: Read, O: Write>(
     join_own(chip, stream, woke)?;
     let mut first = [0; ASKED];
     converse(chip, &enquiry_bytes(), &mut first, stream, woke)?;
-    hear_behind(chip, first[ASKED - 1], stream, woke)
+    hear_behind(chip, &first, stream, woke)
 }
 
 /// Joins each output to the input of its own number. The sequence isn't ended, so nothing passes
@@ -58,23 +66,35 @@ fn join_own<I: Read, O: Write>(
     Ok(())
 }
 
-/// Reads the answers of the outputs behind the one whose answer this is.
+/// Whether the last of these bytes are what the outputs up to this one answer, in their order.
+fn are_own(first: &[u8; ASKED], output: u8) -> bool
+    requires { output < OUTPUTS }
+    ensures { result ≡ true → drop (OUTPUTS - 1 - output) first.now ≡ answers_up_to output }
+{
+    let count = output as usize + 1;
+    first.ends_with(&OWN_ANSWERS[..count])
+}
+
+/// Reads the answers of the outputs behind the one whose answer is the last of these bytes.
 fn hear_behind<I: Read, O: Write>(
     chip: Chip,
-    answer: u8,
+    first: &[u8; ASKED],
     stream: &mut SwitchStream<I, O>,
     woke: &mut Traffic,
 ) -> Result<(), StreamFault>
     ensures passed { HasPassed O.contents I.remaining stream.old stream.new woke.old woke.new }
-    ensures heard { OnOk result ((output : ℕ) × (output < OUTPUTS) × (answer ≡ own_answer output)
+    ensures heard { OnOk result ((output : ℕ) × (output < OUTPUTS)
+        × (drop (OUTPUTS - 1 - output) first.now ≡ answers_up_to output)
         × (woke.new ≡ woke.old ++ heard_from chip (answers_behind output))) }
 {
-    let Ok(state) = OutputState::read(answer) else {
+    let Ok(state) = OutputState::read(first[ASKED - 1]) else {
         return Err(foreign(chip));
     };
     match state {
-        OutputState::Connected(input) => hear_from(chip, input.get() + 1, stream, woke),
-        OutputState::Loose => Err(foreign(chip)),
+        OutputState::Connected(input) if are_own(first, input.get()) => {
+            hear_from(chip, input.get() + 1, stream, woke)
+        }
+        _ => Err(foreign(chip)),
     }
 }
 

@@ -16,7 +16,8 @@ pub fn driven_turns()
     ensures { DrivenTurns }
 {}
 
-/// Whatever command a switch stands in, and whichever answers stand in its line, at most 31: of
+/// Whatever command a switch stands in, and whichever answers stand in its line, at most 31 with the
+/// one that the first byte may draw: of
 /// what comes as it comes up, just what is read is all. So what it answers behind is what comes
 /// behind.
 pub fn comes_up()

@@ -12,7 +12,8 @@
 //! What a [`StreamPort`] noted as sent was written to the stream of that switch, and what it noted
 //! as heard was read from it (`HasTried` of `specs/Ports.antt`). Before that each switch comes up,
 //! once (`CameUp` of `specs/Waking.antt`). Whatever command it stands in, and whichever answers
-//! stand in its line, at most 31: just what is read then is all that comes (`laws::comes_up`).
+//! stand in its line, at most 31 with the one that the first byte may draw: just what is read then
+//! is all that comes (`laws::comes_up`).
 //!
 //! A switch that answers all enquiries by its data sheet, and as pairs call for, joins just what
 //! they call for, once the end of the sequence came, whatever it was sent before
