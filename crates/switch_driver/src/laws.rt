@@ -17,9 +17,8 @@ pub fn driven_turns()
 {}
 
 /// Whatever command a switch stands in, and whichever answers stand in its line, at most 31 with the
-/// one that the first byte may draw: of
-/// what comes as it comes up, just what is read is all. So what it answers behind is what comes
-/// behind.
+/// one that the first byte may draw: of what comes as it comes up, just what is read is all. So what
+/// it answers behind is what comes behind.
 pub fn comes_up()
     ensures { ComesUp }
 {}
