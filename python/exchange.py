@@ -258,7 +258,7 @@ class C004:
     def take(self, sent: bytes) -> bytes:
         """Hands over bytes, and gives the replies to the enquiries among them."""
         state, reply, replies = ctypes.byref(self._state), ctypes.c_uint8(), bytearray()
-        for byte in sent:
+        for byte in bytes(memoryview(sent)):
             status = _LIBRARY.exchange_c004_take(state, byte, ctypes.byref(reply))
             if status == _REPLY:
                 replies.append(reply.value)
@@ -315,7 +315,8 @@ _FAULTS = {
 class LinkEnd:
     """The end of a link of a T414 that waits to boot, over the module's memory: a `bytearray`, whose bytes have the addresses from `base`
     on. A poke (00, address, word) writes a word of it, and a peek (01, address) gives the four bytes of one. All are least significant
-    byte first. Nothing is booted: `EndFailed` is raised where the end refuses a byte, and then for each byte until `reset`.
+    byte first. Nothing is booted: `EndFailed` is raised where the end refuses a byte, and then for each byte until `reset`. As long as the
+    end is there the memory keeps its length.
 
     >>> memory = bytearray(8)
     >>> end = LinkEnd(memory, 0x80000800)
@@ -341,7 +342,7 @@ class LinkEnd:
     def take(self, sent: bytes) -> bytes:
         """Hands over bytes, and gives the bytes of the words that are peeked."""
         state, memory, reply, replies = ctypes.byref(self._state), self._memory, (ctypes.c_uint8 * 4)(), bytearray()
-        for byte in sent:
+        for byte in bytes(memoryview(sent)):
             status = _LIBRARY.exchange_boot_take(state, memory, len(memory), self._base, byte, reply)
             if status == _REPLY:
                 replies += bytes(reply)
