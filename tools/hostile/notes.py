@@ -44,6 +44,8 @@ UNHEARD = {
     b"help": 'isn\'t a line of a session; "exchange talk --help" tells them',
     b"quit": 'isn\'t a line of a session; "bye" ends it',
 }  # fmt: skip
+# The lines of a session: N is a number, and H eight hexadecimal digits.
+SENT = ["batch N", "plan N", "run N", "show N", "drop N", "peek N H", "poke N H H", "progress", "bye"]
 # What is told of a line of a session, and of a word, behind its quote.
 QUOTES = {
     "line": 'isn\'t a line of a session: "batch N" and the batch\'s lines, "plan ID", "run ID", "show ID", "drop ID", "peek M A", "poke M A D", '
@@ -113,6 +115,10 @@ def stop_of(line, form):
             if not digits:
                 return at, "a number"
             at += len(digits)
+        elif piece == "H":
+            if len(re.match(rb"[0-9a-f]*", line[at:])[0]) != 8:
+                return at, "eight digits"
+            at += 8
         elif line[at : at + 1] != piece.encode():
             return at, "a space" if piece == " " else quoted(piece.encode())
         else:
@@ -122,6 +128,10 @@ def stop_of(line, form):
 
 def difference(line, form):
     """The first thing by which a line differs from a form, as it is told; None where it is of the form."""
+    if isinstance(form, list):
+        stops = [stop_of(line, one) for one in form]
+        last = None if None in stops else max(stops, key=lambda stop: stop[0])
+        return last and last[0] and told_at(line, *last)
     begins, other = OTHERS.get(form, (b"", form))
     stop = stop_of(line, other if line.startswith(begins) else form)
     if stop is None:
@@ -130,12 +140,19 @@ def difference(line, form):
         return "the line is empty"
     if form == "batch N" and line.startswith(b"moves "):
         return 'a text of moves begins so, and "direct" makes a batch of it'
-    (at, wrong), rest = stop, line[stop[0] :]
+    return told_at(line, *stop)
+
+
+def told_at(line, at, wrong):
+    """What is told of the place where a line stops being of a form."""
+    rest = line[at:]
     if rest == b"\r":
         wrong = "a carriage return stands before the line's end"
+    elif wrong == "eight digits" and rest:
+        wrong = "eight digits 0 to 9 and a to f have to stand"
     elif not wrong.startswith("a number has"):
         stands = next((name for front, name in STANDS.items() if rest.startswith(front)), quoted(rest[:1]) if rest else "the line's end")
-        wrong = f"{stands} stands where {wrong} has to"
+        wrong = f"{stands} stands where {wrong} ha{'ve' if wrong == 'eight digits' else 's'} to"
     return f"at byte {at + 1} {wrong}"
 
 
@@ -223,6 +240,9 @@ def of_text(asked, what, t=0, u=0):
     if what in QUOTES:
         line = {"settings": asked.range, "shape": asked.shape}.get(what, line_of(text, 1))
         told = UNHEARD.get(line, QUOTES[what]) if what == "line" else QUOTES[what]
+        if what == "line" and line not in UNHEARD and (differs := difference(line, SENT)):
+            differs = differs.replace("{", "{{").replace("}", "}}")
+            told = told.replace(": ", f": {differs}; the lines are ", 1)
         return f"{quoted(line)} " + told.format(modules=numbered(modules, "module"), last=0x800007FC + 4 * blocks * words)
     if what == "no module" and asked.wiring[0]:
         board, modules = asked.wiring[0], len(plain.read_wiring(asked.wiring[1]))
