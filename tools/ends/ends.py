@@ -570,12 +570,12 @@ def dies_at_a_pty():
 
 def says_too_much():
     """A switch that says a byte more than it is asked: the next output is heard to have it. As it
-    comes up that is taken for an old answer."""
+    comes up its answers don't come in their order then."""
     Far(Pipes("port"), adds={ENQUIRIES + 4: b"\x8f"})
     yield drive(THREE, "port", "--go-on"), stopped(THREE, 0, "switch 5")
     put_away("port")
     Far(Pipes("port"), adds={4: b"\x8f"})
-    yield drive(THREE, "port", "--go-on"), all_driven(lines_for(THREE))
+    yield drive(THREE, "port", "--go-on"), stopped(THREE, 0, "port")
 
 
 def at_a_pty():
@@ -712,12 +712,11 @@ def keeps_lines():
 
 def alters_bytes():
     """A pty that is raw but for a carriage return that it puts before each line feed, which byte 0a
-    is: the switch joins output 13 in place of 10, and is asked for that."""
+    is: as it comes up the switch joins output 10 to input 13, and is asked for output 13."""
     write_batch("batch", [(10, 0)])
     chip = Far(Pty("port", ["raw", "-echo", "opost", "onlcr"]))
-    yield drive("batch", "port", "--go-on"), stopped("batch", 0, "switch 10")
-    sent = sent_for("batch")[0][0]
-    yield chip.heard()[0], sent[: len(sent) - len(ASKED) - 1 + 22].replace(b"\x0a", b"\x0d\x0a")
+    yield drive("batch", "port", "--go-on"), stopped("batch", 0, "port")
+    yield chip.heard()[0], WOKEN.replace(b"\x0a", b"\x0d\x0a")
 
 
 def at_a_file():
