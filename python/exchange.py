@@ -315,8 +315,8 @@ _FAULTS = {
 class LinkEnd:
     """The end of a link of a T414 that waits to boot, over the module's memory: a `bytearray`, whose bytes have the addresses from `base`
     on. A poke (00, address, word) writes a word of it, and a peek (01, address) gives the four bytes of one. All are least significant
-    byte first. Nothing is booted: `EndFailed` is raised where the end refuses a byte, and then for each byte until `reset`. As long as the
-    end is there the memory keeps its length.
+    byte first. Nothing is booted: `EndFailed` is raised where the end refuses a byte, and then for each byte until `reset`. The end holds the
+    memory: as long as it is there, `extend` and whatever else would change the length of the `bytearray` raises `BufferError`.
 
     >>> memory = bytearray(8)
     >>> end = LinkEnd(memory, 0x80000800)

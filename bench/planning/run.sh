@@ -65,7 +65,7 @@ greatest_growth=5
 declare -A greatest_steady=(
     [scrambled]=0.62 [scrambled-1024]=0.91 [one_link]=1.00 [one_link-1024]=1.06 [odd]=0.62 [star]=1.00 [two_by_two]=0.57 [part]=1.00
     [wide]=0.84 [three_by_three]=0.37 [four_by_two]=0.45 [sixteen_by_three]=0.44 [thirty_two_by_two]=0.54 [all_to_all]=0.62
-    [in_rounds]=0.62 [halo]=0.92 [random_16]=0.59 [random_32]=0.85 [random_256]=1.10 [sixty_pairs]=0.64 [gather]=1.08 [butterfly]=0.68
+    [in_rounds]=0.62 [halo]=0.92 [random_16]=0.59 [random_32]=0.85 [random_256]=1.06 [sixty_pairs]=0.64 [gather]=1.08 [butterfly]=0.68
     [permutations]=0.65
 )
 greatest_steady_growth=4
@@ -146,7 +146,7 @@ measure_steady() {
     "$program" plan "$work/$1" --steady >"$work/steady"
     [ "$(head -1 "$work/steady")" = "$(head -1 "$work/planned")" ]
     "$program" check "$work/$1" "$work/steady" | grep -q '^shortest'
-    read -r changes pairs bytes < <("$program" switch "$work/$1" --schedule "$work/steady" | count_changes)
+    read -r changes pairs bytes < <("$program" switch --quiet "$work/$1" --schedule "$work/steady" | count_changes)
     steady_counts[$1]=$steady
     awk -v name="$1" -v steady="$steady" -v planned="$2" -v changes="$changes" -v pairs="$pairs" -v bytes="$bytes" 'BEGIN {
         printf "%-17s steady: %8d of %8d instructions, ratio %.2f; changes %d, pairs %d, bytes %d\n", \

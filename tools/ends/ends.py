@@ -93,7 +93,7 @@ def driven(settings):
 def sent_for(batch, *options):
     """What each switch is to be sent, by `switch`."""
     sent = {}
-    for line in ask("switch", batch, *options)[0].splitlines():
+    for line in ask("switch", batch, *options, "--quiet")[0].splitlines():
         _, _, *words = line.split()
         name = words.pop(0) if words[0] in ("a", "b") else ""
         sent.setdefault(name, []).append(bytes.fromhex("".join(words)))
@@ -239,6 +239,31 @@ def boards():
         yield (batch, chip.heard()), (batch, (b"".join(wanted), []))
         yield (batch, sent_for(batch, *options)), (batch, [wanted])
         put_away("port")
+
+
+# A board that leaves out module 1, link 3 of module 0 and both links of module 4; and what it is refused.
+HOLES = "wiring 4\nmodule 0 link 0 at 4 link 3 none\nmodule 2 link 0 at 11 link 3 at 0\nmodule 3 link 0 none link 3 at 22\nmodule 4 link 0 none link 3 none\n"
+THERE = "batch 3\npush 0 0 2 0\npull 2 1 3 0\npush 0 1 3 1\n"
+LACKING = {"push 0 0 1 0\n": "module", "pull 1 0 2 0\n": "module", "push 0 0 4 0\n": "link", "push 3 0 2 0\n": "link", "push 2 0 0 0\n": "link"}
+
+
+def a_board_with_holes():
+    """A board that leaves out a module and links: `c004` behind pipes is joined by links that are there alone, once it has come up, and
+    every output is asked. A batch that needs what isn't there is refused as by `switch`, and no port is opened."""
+    options = write_board(HOLES)
+    with open("there", "w") as file:
+        file.write(THERE)
+    for more in (), ("--steady",):
+        (ended, heard), wanted = driven_at_c004("there", "--go-on", *options, *more)
+        yield (more, ended), (more, all_driven(lines_for("there", *more)))
+        yield (more, heard), (more, wanted)
+        yield touched(heard[0][0]) <= {4, 11, 0, 22}, True
+        put_away("port0")
+    for line, what in LACKING.items():
+        with open("there", "w") as file:
+            file.write(f"batch 2\npush 0 0 2 1\n{line}")
+        yield (line, first_line("there", "none", *options)), (line, (f"refused no {what} 1", 1))
+        yield (line, first_line("there", "none", *options, "--schedule", "board")), (line, first_of(ask("switch", "there", *options)))
 
 
 def a_board_at_c004():
@@ -780,7 +805,7 @@ def output_is_full():
     chip = Far(Pipes("port"))
     with open("/dev/full", "wb") as full:
         process = start_apart([EXCHANGE, "drive", THREE, "port", "--go-on"], stdin=subprocess.DEVNULL, stdout=full)
-        yield process.communicate()[1], b"exchange: a setting that stands can't be told\n"
+        yield process.communicate()[1], b"exchange: a setting that stands can't be told: No space left on device (os error 28)\n"
     yield process.returncode, 3
     yield chip.heard(), (sent_for(THREE)[0][0], [])
 
@@ -951,7 +976,7 @@ CASES = [
     lies, two_lie, is_loose, dies_at_pipes, one_of_two_dies, dies_at_a_pty, says_too_much, at_a_pty, is_silent, keeps_lines, alters_bytes,
     at_a_file, refuses, output_is_full, no_memory, no_memory_steady, no_memory_schedule, no_memory_two_ports, no_memory_on_a_board,
     left_by_another, killed, two_left, too_many_left, loses_an_end, taken_up, answers_at_once, chip_ends,
-    c004_no_memory, texts, boards, a_board_at_c004, the_usual_board, lies_on_a_board, left_alone, refuses_boards,
+    c004_no_memory, texts, boards, a_board_with_holes, a_board_at_c004, the_usual_board, lies_on_a_board, left_alone, refuses_boards,
 ]  # fmt: skip
 
 

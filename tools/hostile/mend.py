@@ -16,6 +16,12 @@ RIGHT = {
 FIRST = {"batch": "batch {}", "moves": "moves {}", "schedule": "settings {}"}
 
 
+def module_behind(lines):
+    """The number of a module that may stand behind the last one of these lines of a wiring."""
+    found = re.match(rb"module (\d+) ", lines[-1])
+    return int(found[1]) + 1 if found else 0
+
+
 def numbers_for(kind, lines, number, entries):
     """The numbers that a line has where it is mended: how many entries there are, in the first line. In the line of a module they are its
     number and two links of the switch that no line above has."""
@@ -24,7 +30,7 @@ def numbers_for(kind, lines, number, entries):
     if number == 1:
         return [min(max(entries, 1), plain.JOINED)]
     taken = {int(it) for line in lines[1 : number - 1] for it in re.findall(rb" at (\d+)", line)}
-    return [number - 2, *[it for it in range(plain.PORTS) if it not in taken][:2]]
+    return [module_behind(lines[: number - 1]), *[it for it in range(plain.PORTS) if it not in taken][:2]]
 
 
 def mended_text(kind, text, number, told):
@@ -50,5 +56,7 @@ def mended(asked, refusal):
     part = {"schedule": "other", "wiring": "wiring"}.get(kind, "list")
     name, text = getattr(asked, part)
     number = int(found[2]) if found[2] else notes.announced(text) + 2
+    if kind == "wiring" and module_behind(text.split(b"\n")[: number - 1] or [b""]) == plain.JOINED:
+        return None
     text = mended_text(kind, text, number, notes.told(asked, refusal).decode())
     return asked._replace(**{part: (name, text)})

@@ -30,11 +30,14 @@ KINDS = {
     "wiring": ("module", rb"module ", [
         ("wiring N", '"wiring N", where N counts the modules, 1 to 16'),
         ("module N link 0 at N link 3 at N",
-         '"module M link 0 at A link 3 at B", where M counts up from 0, and A and B are 0 to 31 and stand nowhere else'),
+         '"module M link 0 at A link 3 at B", where M rises from line to line up to 15, A and B are 0 to 31 and stand nowhere else, '
+         'and "none" may stand for "at A" or "at B"'),
     ]),
 }  # fmt: skip
 # What a line that begins so has to go on with, in the place of another form.
 OTHERS = {"push N N N N": (b"pul", "pull N N N N"), "busiest link N module N": (b"busiest n", "busiest none")}
+# The forms of a module's line in a wiring, of which the first stands for all.
+MODULES = [f"module N link 0 {link0} link 3 {link3}" for link0 in ("at N", "none") for link3 in ("at N", "none")]
 # What stands somewhere, by how it begins; another byte is quoted.
 STANDS = {
     b"\t": "a tab", b"\r": "a carriage return", b" ": "a space", b"#": "a comment", b"\xef\xbb\xbf": "a byte order mark",
@@ -133,7 +136,8 @@ def difference(line, form):
         last = None if None in stops else max(stops, key=lambda stop: stop[0])
         return last and last[0] and told_at(line, *last)
     begins, other = OTHERS.get(form, (b"", form))
-    stop = stop_of(line, other if line.startswith(begins) else form)
+    stops = [stop_of(line, one) for one in (MODULES if form == MODULES[0] else [other if line.startswith(begins) else form])]
+    stop = None if None in stops else max(stops, key=lambda stop: stop[0])
     if stop is None:
         return None
     if not line:
@@ -159,14 +163,12 @@ def told_at(line, at, wrong):
 def taken(text, number):
     """Of a module's line in a wiring, the link of the switch that stands there before, as it is told; None where none does."""
     lines = [re.findall(rb" at (\d+)", line) for line in text.split(b"\n")[:number]]
-    if len(lines[-1]) != 2:
-        return None
-    one, other = lines[-1]
-    for port in (one, other):
+    for port in lines[-1]:
         above = next((k for k, ports in enumerate(lines[:-1], 1) if port in ports), None)
         if above:
             return f"link {port.decode()} of the switch stands on line {above} already"
-    return f"link {one.decode()} of the switch stands on line {number} already" if one == other else None
+    is_twice = len(lines[-1]) == 2 and lines[-1][0] == lines[-1][1]
+    return f"link {lines[-1][0].decode()} of the switch stands on line {number} already" if is_twice else None
 
 
 def of_form(text, number, form, wanted, differs=None):
@@ -245,9 +247,15 @@ def of_text(asked, what, t=0, u=0):
             told = told.replace(": ", f": {differs}; the lines are ", 1)
         return f"{quoted(line)} " + told.format(modules=numbered(modules, "module"), last=0x800007FC + 4 * blocks * words)
     if what == "no module" and asked.wiring[0]:
-        board, modules = asked.wiring[0], len(plain.read_wiring(asked.wiring[1]))
-        n = next(int(it) for it in line_of(text, t + 2).split(b" ")[1::2] if int(it) >= modules)
-        return f"{place_of(name, t + 2)}: module {n}; {board} has {numbered(modules, 'module')}"
+        board, wiring = asked.wiring[0], plain.read_wiring(asked.wiring[1])
+        n = next(int(it) for it in line_of(text, t + 2).split(b" ")[1::2] if int(it) not in wiring)
+        return f"{place_of(name, t + 2)}: module {n}; {board} doesn't have it"
+    if what == "no link":
+        board, wiring = asked.wiring[0], plain.read_wiring(asked.wiring[1])
+        ends = zip((0, 3), (int(it) for it in line_of(text, t + 2).split(b" ")[1::2]))
+        link, n = next((link, n) for link, n in ends if wiring[n][link // 3] is None)
+        at = place_of(board, 2 + list(wiring).index(n))
+        return f"{place_of(name, t + 2)}: link {link} of module {n}; {at} leaves it out"
     if what in ("no module", "no block"):
         at, owner = (1, "a rack") if what == "no module" else (2, "a module in a rack" if word else "a module")
         n = next(int(it) for it in line_of(text, t + 2).split(b" ")[at::2] if int(it) >= shape[at - 1])
@@ -277,3 +285,9 @@ def told(asked, refusal):
         return b""
     words = of_check(asked, what[6:], *numbers) if what.startswith("check ") else of_text(asked, what, *numbers)
     return f"exchange: {words}\n".encode()
+
+
+def overlapping(asked):
+    """The line on standard error beside the bytes of a batch, where two transfers write one block, and nothing where no two do."""
+    pair = plain.first_overlap(plain.read_batch(asked.list[1], plain.WIDEST))
+    return f"exchange: {of_text(asked, 'overlap', *pair)}\n".encode() if pair else b""

@@ -22,7 +22,7 @@ SETTINGS = re.compile(rb"settings " + NUMBER)
 SETTING = re.compile(rb"setting((?: (?:0|[1-9][0-9]{0,8}))*)")
 BUSIEST = re.compile(rb"busiest link ([03]) module " + NUMBER)
 WIRING = re.compile(rb"wiring " + NUMBER)
-WIRED = re.compile(rb"module " + NUMBER + rb" link 0 at " + NUMBER + rb" link 3 at " + NUMBER)
+WIRED = re.compile(rb"module " + NUMBER + rb" link 0 (?:at " + NUMBER + rb"|none) link 3 (?:at " + NUMBER + rb"|none)")
 NAMED = re.compile(rb"named((?: (?:0|[1-9][0-9]{0,8}))+)")
 
 
@@ -121,20 +121,21 @@ def read_schedule(text):
 
 
 def read_wiring(text):
-    """The wiring that a text says: of each module the two links of the switch that its link 0 and its link 3 are on."""
+    """The wiring that a text says: of each module that is there the two links of the switch that its link 0 and its link 3 are on, or None
+    where one is on none."""
     line, at = line_at(text, 0)
     found = line is not None and WIRING.fullmatch(line)
     if not found or not 1 <= int(found[1]) <= JOINED:
         raise Refused("wiring line 1")
-    wiring, taken = [], []
-    for module in range(int(found[1])):
+    wiring, taken, least = {}, [], 0
+    for number in range(2, int(found[1]) + 2):
         line, at = line_at(text, at)
         found = line is not None and WIRED.fullmatch(line)
-        number, *links = (int(n) for n in found.groups()) if found else (None,)
-        taken += links
-        if number != module or max(links) >= PORTS or len(set(taken)) < len(taken):
-            raise Refused(f"wiring line {module + 2}")
-        wiring.append(tuple(links))
+        module, *links = (it and int(it) for it in found.groups()) if found else (-1,)
+        taken += [link for link in links if link is not None]
+        if not least <= module < JOINED or max(taken, default=0) >= PORTS or len(set(taken)) < len(taken):
+            raise Refused(f"wiring line {number}")
+        wiring[module], least = tuple(links), module + 1
     if at != len(text):
         raise Refused(f"wiring line {len(wiring) + 2}")
     return wiring
@@ -142,7 +143,7 @@ def read_wiring(text):
 
 def extent(wiring):
     """The shape that a batch has to fit for a board of this wiring, or for racks of the usual one, where there is none."""
-    return WIDEST if wiring is None else (len(wiring), BLOCKS, WORDS)
+    return WIDEST if wiring is None else (max(wiring) + 1, BLOCKS, WORDS)
 
 
 def links_of(transfer):

@@ -107,10 +107,12 @@ def moves(draw, modules, most):
 
 
 def wiring(draw):
-    """A wiring of some modules, most of which are few or as many as there may be."""
+    """A wiring of some modules, most of which are few or as many as there may be. In a third of the cases modules and links are left out."""
     count = draw.choice([1, 2, 3, 8, JOINED, draw.randint(1, JOINED)])
-    links = draw.sample(range(PORTS), 2 * count)
-    lines = [f"module {m} link 0 at {links.pop()} link 3 at {links.pop()}\n" for m in range(count)]
+    links, sparse = draw.sample(range(PORTS), 2 * count), draw.random() < 0.33
+    numbers = sorted(draw.sample(range(min(count + 2, JOINED)), count)) if sparse else range(count)
+    places = ["none" if sparse and draw.random() < 0.1 else f"at {link}" for link in links]
+    lines = [f"module {m} link 0 {places.pop()} link 3 {places.pop()}\n" for m in numbers]
     return f"wiring {count}\n{''.join(lines)}".encode()
 
 

@@ -271,6 +271,10 @@ def many_settings():
     return f"batch {len(numbers)}\n{batch}".encode(), schedule.encode()
 
 
+# What `switch` tells beside the bytes of that batch.
+WRITTEN_TWICE = b"exchange: settings:33: transfers 0 and 31 both write block 0 of module 1 (lines 2 and 33)\n"
+
+
 def long_answers():
     """A picture of 3 MB is written whole, and so are the bytes of as many settings."""
     ended = ask("draw", "settings", "settings.plan")
@@ -278,10 +282,10 @@ def long_answers():
     batch, schedule = many_settings()
     for options, judge in [([], plain.is_plan), (["--steady"], steady.is_steady)]:
         ended, plan = (ask(command, "settings", *options) for command in ("switch", "plan"))
-        well = (ended.err, ended.status) == (b"", 0) and judge(batch, plan.out) and switching.is_switched(batch, plan.out, ended.out)
+        well = (ended.err, ended.status) == (WRITTEN_TWICE, 0) and judge(batch, plan.out) and switching.is_switched(batch, plan.out, ended.out)
         expect(f"a long list of bytes {options}", well, True)
     ended = ask("switch", "settings", "--schedule", "settings.plan")
-    expect("a long list of bytes of a schedule", ended, Ended(switching.answer_switch(batch, schedule), b"", 0))
+    expect("a long list of bytes of a schedule", ended, Ended(switching.answer_switch(batch, schedule), WRITTEN_TWICE, 0))
 
 
 COMMANDS = {
@@ -298,7 +302,7 @@ COMMANDS = {
     "a steady plan's bytes": ("switch", "three", "--steady"),
     "a schedule's bytes": ("switch", "three", "--schedule", "plan"),
     "a board's bytes": ("switch", "three", "--wiring", "board"),
-    "a long list of bytes": ("switch", "settings", "--schedule", "settings.plan"),
+    "a long list of bytes": ("switch", "settings", "--schedule", "settings.plan", "--quiet"),
     "a help": ("--help",),
     "a session": ("serve", "2x2x2", "script"),
 }

@@ -116,9 +116,16 @@ def are_set(transfers, settings, wiring=None):
 
 
 def read_texts(batch, board):
-    """What the texts of a batch and of a board's wiring say, where there is one: the wiring is looked at first."""
+    """What the texts of a batch and of a board's wiring say, where there is one: the wiring is looked at first, and last whether the board
+    has what the batch needs."""
     wiring = None if board is None else plain.read_wiring(board)
-    return plain.read_batch(batch, plain.extent(wiring)), wiring
+    transfers = plain.read_batch(batch, plain.extent(wiring))
+    for t, (_, initiator, _, responder, *_) in enumerate(transfers if wiring else []):
+        if initiator not in wiring or responder not in wiring:
+            raise plain.Refused(f"no module {t}")
+        if None in (wiring[initiator][0], wiring[responder][1]):
+            raise plain.Refused(f"no link {t}")
+    return transfers, wiring
 
 
 def refusal(batch, board):

@@ -122,6 +122,11 @@ def is_batch_told(answer, text, refusal):
     return is_well_told(answer, asked, refusal, lambda it: plain.answer_plan(it.list[1]))
 
 
+def is_overlap_told(answer, text):
+    """Whether two transfers that write one block are told beside the bytes of a batch, and nothing else is."""
+    return answer.err == (b"" if answer.is_quiet else notes.overlapping(notes.Asked("batch", named(answer, "batch", text))))
+
+
 def try_plan(draw):
     """A spoilt batch text, put to `plan`."""
     text, options = spoil.spoil(draw, spoil.batch(draw, plain.WIDEST, draw.choice([3, 10, 40]))), steadiness_of(draw)
@@ -143,7 +148,8 @@ def try_steady(draw):
         keep("schedule", plan.out)
     if well and chance < 0.1:
         answers = [ask("switch", "batch", "--steady"), ask("switch", "batch", "--schedule", "schedule")]
-        well = all(it == (answers[0].out, b"", 0) for it in answers) and switching.is_switched(text, plan.out, answers[0].out)
+        told = notes.overlapping(notes.Asked("batch", ("batch", text)))
+        well = all(it == (answers[0].out, told, 0) for it in answers) and switching.is_switched(text, plan.out, answers[0].out)
     elif well and chance < 0.2:
         well = ask("draw", "batch", "schedule") == (picture.answer_draw(text, plan.out), b"", 0)
     return well, f"a steady plan of {name}".encode(), [text, plan.out], plan
@@ -171,7 +177,7 @@ def try_switch(draw):
     if refusal:
         return is_refusal(answer, refusal) and is_batch_told(answer, text, refusal), refusal, [text], answer
     plan = ask_of(draw, ["plan", *options], ["batch"]).out
-    well = answer.status == 0 and answer.err == b"" and is_planned(options, text, plan) and switching.is_switched(text, plan, answer.out)
+    well = answer.status == 0 and is_overlap_told(answer, text) and is_planned(options, text, plan) and switching.is_switched(text, plan, answer.out)
     return well, kind_of_bytes(answer.out), [text, plan], answer
 
 
@@ -297,7 +303,10 @@ def try_switch_by(draw):
     answer = ask_of(draw, ["switch"], [keep("batch", batch), "--schedule", keep("schedule", text)])
     wanted = switching.answer_switch(batch, text)
     asked = notes.Asked("batch", named(answer, "batch", batch), named(answer, "schedule", text))
-    told = is_well_told(answer, asked, wanted, lambda it: switching.answer_switch(it.list[1], it.other[1]))
+    if wanted.startswith(b"refused "):
+        told = is_well_told(answer, asked, wanted, lambda it: switching.answer_switch(it.list[1], it.other[1]))
+    else:
+        told = is_overlap_told(answer, batch)
     is_told = wanted.startswith(b"refused ")
     well = is_answer(answer, wanted) and told and (is_told or switching.is_switched(batch, text, wanted))
     return well, wanted if is_told else kind_of_bytes(wanted), [batch, text], answer
@@ -359,7 +368,7 @@ def try_wiring(draw):
     """A board's wiring, spoilt in half of the cases, put to `switch`. The batch fits the board mostly. Its schedule is a plan, or in half of
     the cases one that is spoilt."""
     board = spoil.wiring(draw)
-    modules = len(plain.read_wiring(board)) + draw.choice([0, 0, 0, 0, 0, 1])
+    modules = plain.extent(plain.read_wiring(board))[0] + draw.choice([0, 0, 0, 0, 0, 1])
     batch, schedule = spoilt_schedule(draw, (modules, plain.BLOCKS, plain.WORDS), draw.choice([3, 10, 40]), plain.busiest)
     if draw.random() < 0.5:
         board = spoil.spoil(draw, board)
@@ -374,7 +383,7 @@ def try_wiring(draw):
         schedule = None if refusal else ask("plan", *options, "batch").out
     if refusal:
         return is_answer(answer, refusal) and is_wiring_told(answer, batch, schedule, board, refusal), refusal, [batch, schedule, board], answer
-    well = is_answer(answer, answer.out) and answer.err == b"" and switching.is_switched(batch, schedule, answer.out, board)
+    well = is_answer(answer, answer.out) and is_overlap_told(answer, batch) and switching.is_switched(batch, schedule, answer.out, board)
     return well, kind_of_bytes(answer.out), [batch, schedule, board], answer
 
 

@@ -7,7 +7,8 @@
     C           a program that pkg-config gives the words for, and one that is linked with the shared library
     Python      the examples of the module's own texts, the emulator, want of memory, long answers, and how often a call is made
     texts       COUNT spoilt texts, 2000 where it isn't said, by the calls from Python and by the built program, byte for byte
-    states      streams to a C004 and to the end of a link, against plain Python that shares no code with the product
+    states      streams to a C004 and to the end of a link, against plain Python that shares no code with the product; only bytes are sent,
+                and the memory of an end keeps its length
     threads     sixteen that call at once are answered as one alone
 
 What isn't built yet is proved and built first. `man` and `pkg-config` are tried where they are there.
@@ -429,6 +430,30 @@ def try_states(count):
         expect("a state that there is none of", told in ("no C004 has this state", "a state has 36 bytes", "no end of a link has this state"), told)
 
 
+def error_of(call_it, *given):
+    """The kind of error that a call raises, or None."""
+    try:
+        call_it(*given)
+    except Exception as error:
+        return type(error)
+    return None
+
+
+def try_held():
+    """Numbers that aren't bytes are no bytes that are sent, and the memory of an end keeps its length as long as the end is there."""
+    import exchange
+
+    switch, memory = exchange.C004(), bytearray(8)
+    end = exchange.LinkEnd(memory, 0)
+    for it in (switch, end):
+        before = it.state
+        told = [error_of(it.take, sent) for sent in ([0x104], [4, 1, 0], "04", 4, None)]
+        expect("only bytes are taken", (told, it.state) == ([TypeError] * 5, before), told)
+    expect("the memory is held", (error_of(memory.extend, b"more"), error_of(memory.pop), len(memory)) == (BufferError, BufferError, 8))
+    del end, it
+    expect("the memory is free again", (error_of(memory.extend, b"more"), len(memory)) == (None, 12))
+
+
 def try_threads(count=16):
     """The texts that one thread alone is answered to, put to several at once, to each in another order."""
     asked = [text_at(number) for number in range(240)]
@@ -453,6 +478,7 @@ def main():
         try_python(module)
         try_all_texts(count)
         try_states(count)
+        try_held()
         try_threads()
         install("uninstall", 0, rack, script="uninstall")
         expect("nothing is left", not os.path.exists(rack), tree(rack).keys())

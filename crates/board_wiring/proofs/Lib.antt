@@ -1,3 +1,6 @@
+mod Modules
 mod Lines
 mod OneReading
+mod Placing
+mod ReadLacks
 pub mod ReadBoards

@@ -1,16 +1,16 @@
 -- The lines of a wiring are read in one way only.
-use Rattle.std.proofs.Common.{◌≡◌, ◌<◌, ◌+◌, ℕ, List, [], ◌∷◌, ◌++◌, length, get_or, refl, sym, ap, ap₂, subst, ◌∙◌, append_assoc, IsTrue, arith}
+use Rattle.std.proofs.Common.{◌≡◌, ◌≢◌, ◌<◌, ◌+◌, ℕ, List, [], ◌∷◌, ◌++◌, length, Option, None, Some, refl, sym, ap, ◌∙◌, append_assoc, IsTrue, arith}
 use Rattle.std.specs.Prelude.{codes}
-use Rattle.std.proofs.lemmas.List.{append_cancel_left, append-nil, get_or_at, length_push}
+use Rattle.std.proofs.lemmas.Grind.{flat_map-append}
+use Rattle.std.proofs.lemmas.List.{append_cancel_left, append-nil, length_push}
 use Rattle.batch.specs.Text.{IsNumber, number, space, line_feed}
 use Rattle.batch.proofs.Lines.{Ends, ends_line, one_number}
 use Rattle.c004_commands.specs.declared.port.TheConstants.{PORTS}
-use Rattle.crossbar.specs.Boards.{is_wiring}
-use Rattle.crossbar.specs.declared.module_links.ModuleLinks.{ModuleLinks}
 use Rattle.crossbar.specs.declared.switch.TheConstants.{JOINED_MODULES}
-use Rattle.crossbar.proofs.Boards.{had}
-use Rattle.board_wiring.specs.Faults.{AreModules, HasPorts}
-use Rattle.board_wiring.specs.Text.{links, line, lines_from}
+use Rattle.board_wiring.specs.Faults.{AreModules, HasPorts, IsPort}
+use Rattle.board_wiring.specs.Modules.{are_wired}
+use Rattle.board_wiring.specs.Text.{links, line, lines_of, place}
+use Rattle.board_wiring.specs.declared.wired_module.WiredModule.{WiredModule}
 
 pub ends_space : Ends space
 ends_space d = omega (arith, d)
@@ -23,26 +23,6 @@ behind_words bytes words a b p q = append_cancel_left words a b (sym p ∙ q)
 pub behind_number : (bytes words : List ℕ) (n m e : ℕ) (a b : List ℕ) → Ends e → IsNumber n → IsNumber m → bytes ≡ words ++ (number n e ++ a) → bytes ≡ words ++ (number m e ++ b) → (n ≡ m) × (a ≡ b)
 behind_number bytes words n m e a b ends ln lm p q = one_number n m e a b ln lm ends (behind_words bytes words (number n e ++ a) (number m e ++ b) p q)
 
--- the parts of a line: behind the number of its module, and behind that of link 0
-abbrev pub behind0 : ModuleLinks → List ℕ → List ℕ
-behind0 on rest = codes "link 3 at " ++ (number on.link3 line_feed ++ rest)
-
-abbrev pub behind_module : ModuleLinks → List ℕ → List ℕ
-behind_module on rest = codes "link 0 at " ++ (number on.link0 space ++ behind0 on rest)
-
-links_parts : (on : ModuleLinks) (rest : List ℕ) → links on ++ rest ≡ behind_module on rest
-links_parts on rest =
-    append_assoc (codes "link 0 at ") (number on.link0 space ++ (codes "link 3 at " ++ number on.link3 line_feed)) rest
-    ∙ ap (λ (t : List ℕ). codes "link 0 at " ++ t) (
-    append_assoc (number on.link0 space) (codes "link 3 at " ++ number on.link3 line_feed) rest
-    ∙ ap (λ (t : List ℕ). number on.link0 space ++ t) (append_assoc (codes "link 3 at ") (number on.link3 line_feed) rest)
-    )
-
-pub line_parts : (m : ℕ) (on : ModuleLinks) (rest : List ℕ) → line m on ++ rest ≡ codes "module " ++ (number m space ++ behind_module on rest)
-line_parts m on rest =
-    append_assoc (codes "module ") (number m space ++ links on) rest
-    ∙ ap (λ (t : List ℕ). codes "module " ++ t) (append_assoc (number m space) (links on) rest ∙ ap (λ (t : List ℕ). number m space ++ t) (links_parts on rest))
-
 -- ports and modules are numbers of a text
 port_number : (n : ℕ) → n < PORTS → IsNumber n
 port_number n lt = omega arith
@@ -50,46 +30,100 @@ port_number n lt = omega arith
 module_number : (n : ℕ) → n < JOINED_MODULES → IsNumber n
 module_number n lt = omega arith
 
+-- ---- the place of a link
+
+-- a link of the switch stands behind `at `
+pub at_link : (l e : ℕ) (rest : List ℕ) → place (Some l) e ++ rest ≡ codes "at " ++ (number l e ++ rest)
+at_link l e rest = append_assoc (codes "at ") (number l e) rest
+
+first_byte : List ℕ → ℕ
+first_byte [] = 0
+first_byte (x ∷ xs) = x
+
+-- where `none` stands no link does
+never_none : (l e : ℕ) (x y : List ℕ) → codes "none" ++ x ≡ place (Some l) e ++ y → ⊥
+unfolding first_byte
+never_none l e x y same = let n : 110 ≡ 97 = ap first_byte same in omega (arith, n)
+
+-- one place, and one rest
+pub one_place : (a b : Option ℕ) (e : ℕ) (x y : List ℕ) → Ends e → IsPort a → IsPort b → place a e ++ x ≡ place b e ++ y → (a ≡ b) × (x ≡ y)
+one_place None None e x y ends p q same = (refl, append_cancel_left (place None e) x y same)
+one_place None (Some b) e x y ends p q same = absurd (never_none b e (e ∷ x) y same)
+one_place (Some a) None e x y ends p q same = absurd (never_none a e (e ∷ y) x (sym same))
+one_place (Some a) (Some b) e x y ends p q same =
+    let one = behind_number (place (Some a) e ++ x) (codes "at ") a b e x y ends (port_number a p) (port_number b q) (at_link a e x) (same ∙ at_link b e y) in
+    (ap (λ l. Some l) one.0, one.1)
+
+pub behind_place : (bytes words : List ℕ) (a b : Option ℕ) (e : ℕ) (x y : List ℕ) → Ends e → IsPort a → IsPort b → bytes ≡ words ++ (place a e ++ x) → bytes ≡ words ++ (place b e ++ y) → (a ≡ b) × (x ≡ y)
+behind_place bytes words a b e x y ends p q same other = one_place a b e x y ends p q (behind_words bytes words (place a e ++ x) (place b e ++ y) same other)
+
+-- `none` without the byte that ends it is no place
+pub not_ended : (bytes words rest more : List ℕ) (link : Option ℕ) (e : ℕ) (after : List ℕ) → bytes ≡ words ++ rest → rest ≡ codes "none" ++ more → ((x : List ℕ) → more ≢ e ∷ x) → bytes ≡ words ++ (place link e ++ after) → ⊥
+not_ended bytes words rest more None e after p q none same = none after (append_cancel_left (codes "none") more (e ∷ after) (sym q ∙ behind_words bytes words rest (place None e ++ after) p same))
+not_ended bytes words rest more (Some l) e after p q none same = never_none l e more after (sym q ∙ behind_words bytes words rest (place (Some l) e ++ after) p same)
+
+-- and so is what is neither `none` nor a link
+pub not_placed : (bytes words rest : List ℕ) (link : Option ℕ) (e : ℕ) (after : List ℕ) → bytes ≡ words ++ rest → ((x : List ℕ) → rest ≢ codes "none" ++ x) → ((n : ℕ) (x : List ℕ) → n < PORTS → rest ≢ codes "at " ++ (number n e ++ x)) → IsPort link → bytes ≡ words ++ (place link e ++ after) → ⊥
+not_placed bytes words rest None e after p none no_link port same = none (e ∷ after) (behind_words bytes words rest (place None e ++ after) p same)
+not_placed bytes words rest (Some l) e after p none no_link port same = no_link l after port (behind_words bytes words rest (place (Some l) e ++ after) p same ∙ at_link l e after)
+
+-- ---- a line
+
+-- its parts: behind the number of its module, and behind the place of link 0
+abbrev pub behind0 : WiredModule → List ℕ → List ℕ
+behind0 on rest = codes "link 3 " ++ (place on.link3 line_feed ++ rest)
+
+abbrev pub behind_module : WiredModule → List ℕ → List ℕ
+behind_module on rest = codes "link 0 " ++ (place on.link0 space ++ behind0 on rest)
+
+links_parts : (on : WiredModule) (rest : List ℕ) → links on ++ rest ≡ behind_module on rest
+links_parts on rest =
+    append_assoc (codes "link 0 ") (place on.link0 space ++ (codes "link 3 " ++ place on.link3 line_feed)) rest
+    ∙ ap (λ (t : List ℕ). codes "link 0 " ++ t) (
+    append_assoc (place on.link0 space) (codes "link 3 " ++ place on.link3 line_feed) rest
+    ∙ ap (λ (t : List ℕ). place on.link0 space ++ t) (append_assoc (codes "link 3 ") (place on.link3 line_feed) rest)
+    )
+
+pub line_parts : (on : WiredModule) (rest : List ℕ) → line on ++ rest ≡ codes "module " ++ (number on.number space ++ behind_module on rest)
+line_parts on rest =
+    append_assoc (codes "module ") (number on.number space ++ links on) rest
+    ∙ ap (λ (t : List ℕ). codes "module " ++ t) (append_assoc (number on.number space) (links on) rest ∙ ap (λ (t : List ℕ). number on.number space ++ t) (links_parts on rest))
+
 -- a line that begins with a module's number is that of this module
-pub is_module : (bytes : List ℕ) (n m : ℕ) (a : List ℕ) (on : ModuleLinks) (rest : List ℕ) → IsNumber n → m < JOINED_MODULES → bytes ≡ codes "module " ++ (number n space ++ a) → bytes ≡ line m on ++ rest → (n ≡ m) × (a ≡ behind_module on rest)
-is_module bytes n m a on rest ln lm p q = behind_number bytes (codes "module ") n m space a (behind_module on rest) ends_space ln (module_number m lm) p (q ∙ line_parts m on rest)
+pub is_module : (bytes : List ℕ) (n : ℕ) (a : List ℕ) (on : WiredModule) (rest : List ℕ) → IsNumber n → HasPorts on → bytes ≡ codes "module " ++ (number n space ++ a) → bytes ≡ line on ++ rest → (n ≡ on.number) × (a ≡ behind_module on rest)
+is_module bytes n a on rest ln ports p q = behind_number bytes (codes "module ") n on.number space a (behind_module on rest) ends_space ln (module_number on.number ports.0) p (q ∙ line_parts on rest)
 
 -- and so on for its link 0
-pub is_link0 : (bytes : List ℕ) (n m l : ℕ) (a b : List ℕ) (on : ModuleLinks) (rest : List ℕ) → IsNumber n → m < JOINED_MODULES → l < PORTS → HasPorts on → bytes ≡ codes "module " ++ (number n space ++ a) → a ≡ codes "link 0 at " ++ (number l space ++ b) → bytes ≡ line m on ++ rest → (l ≡ on.link0) × (b ≡ behind0 on rest)
-is_link0 bytes n m l a b on rest ln lm ll ports p q same =
-    let one = is_module bytes n m a on rest ln lm p same in
-    behind_number a (codes "link 0 at ") l on.link0 space b (behind0 on rest) ends_space (port_number l ll) (port_number on.link0 ports.0) q one.1
+pub is_link0 : (bytes : List ℕ) (n : ℕ) (l : Option ℕ) (a b : List ℕ) (on : WiredModule) (rest : List ℕ) → IsNumber n → IsPort l → HasPorts on → bytes ≡ codes "module " ++ (number n space ++ a) → a ≡ codes "link 0 " ++ (place l space ++ b) → bytes ≡ line on ++ rest → (l ≡ on.link0) × (b ≡ behind0 on rest)
+is_link0 bytes n l a b on rest ln pl ports p q same =
+    let one = is_module bytes n a on rest ln ports p same in
+    behind_place a (codes "link 0 ") l on.link0 space b (behind0 on rest) ends_space pl ports.1 q one.1
+
+on_links : ℕ → Option ℕ → Option ℕ → WiredModule
+on_links n a b = record { number = n; link0 = a; link3 = b }
+
+same_module : (n m : ℕ) (a b c d : Option ℕ) → n ≡ m → a ≡ c → b ≡ d → on_links n a b ≡ on_links m c d
+unfolding on_links
+same_module n m a b c d p q r = rw (p, q, r) refl
 
 -- one line, and one rest
-pub one_line : (m : ℕ) (a b : ModuleLinks) (x y : List ℕ) → m < JOINED_MODULES → HasPorts a → HasPorts b → line m a ++ x ≡ line m b ++ y → (a ≡ b) × (x ≡ y)
-one_line m a b x y lm pa pb same =
-    let first = is_link0 (line m a ++ x) m m a.link0 (behind_module a x) (behind0 a x) b y (module_number m lm) lm pa.0 pb (line_parts m a x) refl same in
-    let last = behind_number (behind0 a x) (codes "link 3 at ") a.link3 b.link3 line_feed x y ends_line (port_number a.link3 pa.1) (port_number b.link3 pb.1) refl first.1 in
-    let on : ℕ → ℕ → ModuleLinks = λ l r. record { link0 = l; link3 = r } in
-    (ap₂ on first.0 last.0, last.1)
+pub one_line : (a b : WiredModule) (x y : List ℕ) → HasPorts a → HasPorts b → line a ++ x ≡ line b ++ y → (a ≡ b) × (x ≡ y)
+unfolding on_links
+one_line a b x y pa pb same =
+    let whole = is_module (line a ++ x) a.number (behind_module a x) b y (module_number a.number pa.0) pb (line_parts a x) same in
+    let first = is_link0 (line a ++ x) a.number a.link0 (behind_module a x) (behind0 a x) b y (module_number a.number pa.0) pa.1 pb (line_parts a x) refl same in
+    let last = behind_place (behind0 a x) (codes "link 3 ") a.link3 b.link3 line_feed x y ends_line pa.2 pb.2 refl first.1 in
+    (same_module a.number b.number a.link0 a.link3 b.link0 b.link3 whole.0 first.0 last.0, last.1)
 
 -- ---- one module more
 
--- the switch has the links of the last
-pub last_ports : (ms : List ModuleLinks) (on : ModuleLinks) → IsTrue (is_wiring (ms ++ on ∷ [])) → HasPorts on
-last_ports ms on own =
-    let all = ms ++ on ∷ [] in
-    let at : get_or all (length ms) on ≡ on = get_or_at ms on [] on (length ms) refl in
-    subst HasPorts at (had all (length ms) on own (omega (arith, length_push ms on)))
+lines_more : (ms : List WiredModule) (on : WiredModule) → lines_of (ms ++ on ∷ []) ≡ lines_of ms ++ line on
+lines_more ms on = flat_map-append line ms (on ∷ []) ∙ ap (λ (t : List ℕ). lines_of ms ++ t) (append-nil (line on))
 
-lines_more : (m : ℕ) (ms : List ModuleLinks) (on : ModuleLinks) → lines_from m (ms ++ on ∷ []) ≡ lines_from m ms ++ line (m + length ms) on
-lines_more m [] on = append-nil (line m on) ∙ ap (λ k. line k on) (let e : m ≡ m + 0 = omega arith in e)
-lines_more m (x ∷ ms) on =
-    ap (λ (t : List ℕ). line m x ++ t) (lines_more (m + 1) ms on ∙ ap (λ k. lines_from (m + 1) ms ++ line k on) (let e : m + 1 + length ms ≡ m + length (x ∷ ms) = omega arith in e))
-    ∙ sym (append_assoc (line m x) (lines_from (m + 1) ms) (line (m + length (x ∷ ms)) on))
-
-pub more_modules : (lines : List ℕ) (t : ℕ) (ms all : List ModuleLinks) (on : ModuleLinks) (rest after : List ℕ) → AreModules lines t ms rest → rest ≡ line t on ++ after → all ≡ ms ++ on ∷ [] → IsTrue (is_wiring all) → AreModules lines (t + 1) all after
+pub more_modules : (lines : List ℕ) (t : ℕ) (ms all : List WiredModule) (on : WiredModule) (rest after : List ℕ) → AreModules lines t ms rest → rest ≡ line on ++ after → all ≡ ms ++ on ∷ [] → IsTrue (are_wired all) → AreModules lines (t + 1) all after
 more_modules lines t ms all on rest after so_far next more own = record {
   counted = ap length more ∙ length_push ms on ∙ ap (λ k. k + 1) so_far.counted;
   wired = own;
-  spelled = so_far.spelled ∙ ap (λ (x : List ℕ). lines_from 0 ms ++ x) next ∙ sym (append_assoc (lines_from 0 ms) (line t on) after)
-      ∙ ap (λ (x : List ℕ). x ++ after) (
-      ap (λ k. lines_from 0 ms ++ line k on) (let e : t ≡ 0 + length ms = omega (arith, so_far.counted) in e)
-      ∙ sym (lines_more 0 ms on) ∙ ap (lines_from 0) (sym more)
-      );
+  spelled = so_far.spelled ∙ ap (λ (x : List ℕ). lines_of ms ++ x) next ∙ sym (append_assoc (lines_of ms) (line on) after)
+      ∙ ap (λ (x : List ℕ). x ++ after) (sym (lines_more ms on) ∙ ap lines_of (sym more));
 }

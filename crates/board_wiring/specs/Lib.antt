@@ -1,5 +1,8 @@
+pub mod Modules
 pub mod Text
 pub mod Faults
 pub mod Sources
+pub mod Filling
 pub mod Boards
+pub mod Lacks
 pub mod Laws

@@ -1,8 +1,9 @@
 //! A rack that may be a board of its own wiring.
 
 ghost use Rattle.std.specs.Prelude.{◌≡◌, IfErr, IfOk, option_map};
-ghost use Rattle.board_wiring.specs.Boards.{IsBoardOf, IsMiswired, WiresSome, extent_of};
+ghost use Rattle.board_wiring.specs.Boards.{HasSome, IsBoardOf, IsFilled, IsMiswired, extent_of};
 
+use crate::board::Board;
 use crate::fault::WiringFault;
 use crate::reading::read_wiring;
 use batch::{MAX_BLOCKS, MAX_WORDS, Shape};
@@ -10,7 +11,7 @@ use crossbar::BoardWiring;
 
 /// The board of which a text says the wiring, as [`read_wiring`] reads it, or none where there is
 /// no text; or the text's first line at fault.
-pub fn read_board(wiring: Option<&[u8]>) -> Result<Option<BoardWiring>, WiringFault>
+pub fn read_board(wiring: Option<&[u8]>) -> Result<Option<Board>, WiringFault>
     ensures board { IfOk result (IsBoardOf (option_map (λ text. text.now) wiring.entry)) }
     ensures fault { IfErr result (IsMiswired (option_map (λ text. text.now) wiring.entry)) }
 {
@@ -20,14 +21,25 @@ pub fn read_board(wiring: Option<&[u8]>) -> Result<Option<BoardWiring>, WiringFa
     }
 }
 
-/// The shape of the rack against which a batch is read: the widest or, with a board that wires some
-/// module, as each has that was read, one with the modules that it wires.
-pub fn shape_of(board: &Option<BoardWiring>) -> Shape
-    requires { WiresSome board.now }
+/// The shape of the rack against which a batch is read: the widest or, with a board that has some
+/// module, as each has that was read, one with the modules up to its last.
+pub fn shape_of(board: &Option<Board>) -> Shape
+    requires { HasSome board.now }
     ensures { result ≡ extent_of board.now }
 {
     match board {
-        Some(board) => Shape::new(board.modules(), MAX_BLOCKS, MAX_WORDS).unwrap(),
+        Some(board) => Shape::new(board.width(), MAX_BLOCKS, MAX_WORDS).unwrap(),
         None => Shape::WIDEST,
+    }
+}
+
+/// The wiring of the board, with what it leaves out filled as [`Board::wiring`] does it, or none
+/// where there is no board.
+pub fn wiring_of(board: &Option<Board>) -> Option<BoardWiring>
+    ensures { IsFilled board.now result }
+{
+    match board {
+        Some(board) => Some(board.wiring()),
+        None => None,
     }
 }

@@ -2,21 +2,33 @@
 //! module are on.
 //!
 //! Its first line is `wiring N`, where N counts the modules, and N lines
-//! `module M link 0 at A link 3 at B` follow, for the modules from 0 on. A and B are links of the
-//! switch, and none of them stands twice.
+//! `module M link 0 at A link 3 at B` follow, by rising numbers of modules. A and B are links of
+//! the switch, and none of them stands twice. Where a link of the module is on none of them, `none`
+//! stands in the place of `at A`. A module that isn't there has no line.
 //!
-//! [`read_wiring`] gives the wiring that a text denotes (`Denotes` of `specs/Text.antt`), or its
+//! [`read_wiring`] gives the [`Board`] of a text (`Denotes` of `specs/Text.antt`), or the text's
 //! first line at fault (`IsFirstBad` of `specs/Faults.antt`). A text has one of each at most, and
 //! never both (`laws::one_reading`). Where a rack may be such a board or not, as its caller says,
 //! [`read_board`] gives the board, and [`shape_of`] says against which shape a batch is read
-//! (`specs/Boards.antt`).
+//! (`specs/Boards.antt`). [`read_lack`] says what a batch needs and the board hasn't
+//! (`specs/Lacks.antt`).
+//!
+//! The switches below know wirings that leave nothing out. [`Board::wiring`] fills what is left out
+//! with links of the switch that are free (`Fills` of `specs/Boards.antt`).
 #![tactic(auto)]
 
+mod board;
 mod boards;
 mod fault;
+mod filling;
+mod lacks;
 pub mod laws;
 mod reading;
+mod wired_module;
 
-pub use boards::{read_board, shape_of};
+pub use board::Board;
+pub use boards::{read_board, shape_of, wiring_of};
 pub use fault::WiringFault;
+pub use lacks::read_lack;
 pub use reading::read_wiring;
+pub use wired_module::WiredModule;

@@ -1,20 +1,20 @@
 //! The text of a wiring, read from the left. Each reader gives what it has read, and the rest.
 
-ghost use Rattle.std.specs.Prelude.{◌≡◌, ◌≢◌, ℕ, List, ◌<◌, ◌≤◌, ◌++◌, IfSome, IfNone, IfOk, IfErr};
+ghost use Rattle.std.specs.Prelude.{◌≡◌, ◌≢◌, ℕ, List, Option, ◌<◌, ◌≤◌, ◌++◌, IfSome, IfNone, IfOk, IfErr, codes};
 ghost use Rattle.batch.specs.Text.{IsDigit, IsNumber, number};
-ghost use Rattle.crossbar.specs.Wired.{links_of};
-ghost use Rattle.crossbar.specs.declared.module_links.ModuleLinks.{ModuleLinks};
-ghost use Rattle.board_wiring.specs.Text.{Denotes, line};
-ghost use Rattle.board_wiring.specs.Faults.{AreModules, HasNoHead, IsFirstBad, IsHeaded, HasPorts, StopsAt};
+ghost use Rattle.board_wiring.specs.Boards.{modules_of};
+ghost use Rattle.board_wiring.specs.Text.{Denotes, line, place};
+ghost use Rattle.board_wiring.specs.Faults.{AreModules, HasNoHead, IsFirstBad, IsHeaded, HasPorts, IsPort, StopsAt};
+ghost use Rattle.board_wiring.specs.declared.wired_module.WiredModule.{WiredModule};
+ghost use Rattle.c004_commands.specs.declared.port.TheConstants.{PORTS};
+ghost use Rattle.crossbar.specs.declared.switch.TheConstants.{JOINED_MODULES};
 
+use crate::board::{Board, MOST};
 use crate::fault::WiringFault;
+use crate::wired_module::WiredModule;
 use batch::number_before;
 use c004_commands::PORTS;
-use crossbar::{BoardWiring, JOINED_MODULES, ModuleLinks};
 use line_words::behind;
-
-/// The most modules that a board wires.
-const MOST: usize = JOINED_MODULES as usize;
 
 /// A number behind these words, and what stands behind the byte that ends it, which is no digit.
 fn number_behind<'a>(bytes: &'a [u8], words: &[u8], end: u8) -> Option<(usize, &'a [u8])>
@@ -28,16 +28,33 @@ fn number_behind<'a>(bytes: &'a [u8], words: &[u8], end: u8) -> Option<(usize, &
     Some((n, rest))
 }
 
-/// A link of the switch behind these words, and what stands behind the byte that ends it, which is
-/// no digit.
-fn link_behind<'a>(bytes: &'a [u8], words: &[u8], end: u8) -> Option<(u8, &'a [u8])>
+/// Where a link is, behind these words: a link of the switch or none; and what stands behind the
+/// byte that ends it, which is no digit.
+fn place_behind<'a>(bytes: &'a [u8], words: &[u8], end: u8) -> Option<(Option<u8>, &'a [u8])>
+    requires { IsDigit end → ⊥ }
+    ensures some { IfSome result (λ x. IsPort x.0
+        × (bytes.entry.now ≡ words.now ++ (place x.0 end ++ x.1.now))) }
+    ensures none { IfNone result ((link : Option ℕ) (rest : List ℕ) → IsPort link →
+        bytes.entry.now ≢ words.now ++ (place link end ++ rest)) }
+{
+    let bytes = behind(bytes, words)?;
+    if let Some(rest) = behind(bytes, b"none") {
+        return Some((None, behind(rest, &[end])?));
+    }
+    let (link, rest) = link_behind(bytes, end)?;
+    Some((Some(link), rest))
+}
+
+/// A link of the switch behind `at `, and what stands behind the byte that ends it, which is no
+/// digit.
+fn link_behind(bytes: &[u8], end: u8) -> Option<(u8, &[u8])>
     requires { IsDigit end → ⊥ }
     ensures some { IfSome result (λ x. (x.0 < PORTS)
-        × (bytes.entry.now ≡ words.now ++ (number x.0 end ++ x.1.now))) }
+        × (bytes.now ≡ codes "at " ++ (number x.0 end ++ x.1.now))) }
     ensures none { IfNone result ((n : ℕ) (rest : List ℕ) → n < PORTS →
-        bytes.entry.now ≢ words.now ++ (number n end ++ rest)) }
+        bytes.now ≢ codes "at " ++ (number n end ++ rest)) }
 {
-    let (n, rest) = number_behind(bytes, words, end)?;
+    let (n, rest) = number_behind(bytes, b"at ", end)?;
     if n >= PORTS as usize {
         return None;
     }
@@ -56,36 +73,39 @@ fn first_line(text: &[u8]) -> Option<(usize, &[u8])>
     Some((count, rest))
 }
 
-/// The line of the module of this number.
-fn module_line(bytes: &[u8], module_number: usize) -> Option<(ModuleLinks, &[u8])>
-    requires { module_number < JOINED_MODULES }
-    ensures some { IfSome result (λ x. HasPorts x.0
-        × (bytes.now ≡ line module_number x.0 ++ x.1.now)) }
-    ensures none { IfNone result ((on : ModuleLinks) (rest : List ℕ) → HasPorts on →
-        bytes.now ≢ line module_number on ++ rest) }
+/// The line of a module.
+fn module_line(bytes: &[u8]) -> Option<(WiredModule, &[u8])>
+    ensures some { IfSome result (λ x. HasPorts x.0 × (bytes.now ≡ line x.0 ++ x.1.now)) }
+    ensures none { IfNone result ((on : WiredModule) (rest : List ℕ) → HasPorts on →
+        bytes.now ≢ line on ++ rest) }
 {
-    let (found, rest) = number_behind(bytes, b"module ", b' ')?;
-    if found != module_number {
+    let (number, rest) = number_behind(bytes, b"module ", b' ')?;
+    if number >= MOST {
         return None;
     }
-    let (link0, rest) = link_behind(rest, b"link 0 at ", b' ')?;
-    let (link3, rest) = link_behind(rest, b"link 3 at ", b'\n')?;
-    Some((ModuleLinks { link0, link3 }, rest))
+    let (link0, rest) = place_behind(rest, b"link 0 ", b' ')?;
+    let (link3, rest) = place_behind(rest, b"link 3 ", b'\n')?;
+    let on = WiredModule {
+        number,
+        link0,
+        link3,
+    };
+    Some((on, rest))
 }
 
 /// So many modules, line by line.
-fn modules(lines: &[u8], count: usize) -> Result<(BoardWiring, &[u8]), WiringFault>
+fn modules(lines: &[u8], count: usize) -> Result<(Board, &[u8]), WiringFault>
     requires { count ≤ JOINED_MODULES }
-    ensures ok { IfOk result (λ x. AreModules lines.now count (links_of x.0) x.1.now) }
+    ensures ok { IfOk result (λ x. AreModules lines.now count (modules_of x.0) x.1.now) }
     ensures err { IfErr result (StopsAt lines.now count) }
 {
-    let mut board = BoardWiring::none();
+    let mut board = Board::none();
     let mut rest = lines;
     for number in 0..count {
-        let Some((links, after)) = module_line(rest, number) else {
+        let Some((on, after)) = module_line(rest) else {
             return Err(WiringFault::Line(number + 2));
         };
-        let Some(more) = board.with(links) else {
+        let Some(more) = board.with(on) else {
             return Err(WiringFault::Line(number + 2));
         };
         board = more;
@@ -94,15 +114,16 @@ fn modules(lines: &[u8], count: usize) -> Result<(BoardWiring, &[u8]), WiringFau
     Ok((board, rest))
 }
 
-/// Reads a wiring's text: the line `wiring N`, for N from 1 to [`JOINED_MODULES`], and then for
-/// each module M, from 0 on, a line `module M link 0 at A link 3 at B`, where A and B are links of
-/// the switch, below [`PORTS`](c004_commands::PORTS), and none of them stands twice. Nothing stands
-/// behind them. It takes no memory.
+/// Reads a wiring's text: the line `wiring N`, for N from 1 to [`JOINED_MODULES`], and then N lines
+/// `module M link 0 at A link 3 at B`, by rising numbers M below [`JOINED_MODULES`]. A and B are
+/// links of the switch, below [`PORTS`](c004_commands::PORTS), and none of them stands twice. In
+/// the place of `at A` or `at B` may stand `none`. Nothing stands behind these lines. It takes no
+/// memory.
 ///
-/// Gives the wiring that the text denotes, or the text's first line at fault. Takes time that grows
-/// with the length of the text.
-pub fn read_wiring(text: &[u8]) -> Result<BoardWiring, WiringFault>
-    ensures wiring { IfOk result (λ board. Denotes text.now (links_of board)) }
+/// Gives the board whose wiring the text denotes, or the text's first line at fault. Takes time
+/// that grows with the length of the text.
+pub fn read_wiring(text: &[u8]) -> Result<Board, WiringFault>
+    ensures wiring { IfOk result (λ board. Denotes text.now (modules_of board)) }
     ensures fault { IfErr result (IsFirstBad text.now) }
 {
     let Some((count, lines)) = first_line(text) else {

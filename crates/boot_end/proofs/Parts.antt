@@ -1,5 +1,5 @@
 -- Parts of one length, one behind the other: bytes in the midst of them.
-use Rattle.std.proofs.Common.{◌≡◌, ◌<◌, ◌≤◌, ◌+◌, ◌*◌, ℕ, zero, suc, List, [], ◌∷◌, ◌++◌, get_or, length, take, drop, set, sym, ap, ap₂, ◌∙◌, arith, append_assoc, length-append, length-drop}
+use Rattle.std.proofs.Common.{◌≡◌, ◌<◌, ◌≤◌, ◌+◌, ◌*◌, ℕ, zero, suc, List, [], ◌∷◌, ◌++◌, get_or, length, take, drop, set, sym, ap, ap₂, ◌∙◌, arith, append_assoc, length-append}
 use Rattle.std.specs.List.{flat_map}
 use Rattle.std.proofs.lemmas.List.{take-append-le, drop-append-le}
 use Rattle.std.proofs.Math.Seq.{take-append-add, drop-append-add}
@@ -14,22 +14,6 @@ parts_length f n (x ∷ xs) d h =
     let first : length (f x) ≡ n = h 0 (omega arith) in
     let others : length (flat_map f xs) ≡ n * length xs = parts_length f n xs d (λ (i : ℕ) l. h (suc i) (omega arith)) in
     length-append (f x) (flat_map f xs) ∙ omega (arith, first, others)
-
--- bytes within one of them
-pub part_at : {X : Type 0} (f : X → List ℕ) (n m j : ℕ) (xs : List X) (d : X) (k : ℕ) → ((i : ℕ) → i < length xs → length (f (get_or xs i d)) ≡ n) → j + m ≤ n → k < length xs → take m (drop (n * k + j) (flat_map f xs)) ≡ take m (drop j (f (get_or xs k d)))
-part_at f n m j [] d k h l below = absurd (omega arith)
-part_at f n m j (x ∷ xs) d zero h l below =
-    let first : length (f x) ≡ n = h 0 (omega arith) in
-    let at : n * 0 + j ≡ j = omega arith in
-    ap (λ (i : ℕ). take m (drop i (f x ++ flat_map f xs))) at
-    ∙ ap (take m) (drop-append-le j (f x) (flat_map f xs) (omega arith))
-    ∙ take-append-le m (drop j (f x)) (flat_map f xs) (omega (arith, length-drop j (f x)))
-part_at f n m j (x ∷ xs) d (suc k) h l below =
-    let first : length (f x) ≡ n = h 0 (omega arith) in
-    let at : n * suc k + j ≡ length (f x) + (n * k + j) = omega arith in
-    ap (λ (i : ℕ). take m (drop i (f x ++ flat_map f xs))) at
-    ∙ ap (take m) (drop-append-add (f x) (flat_map f xs) (n * k + j))
-    ∙ part_at f n m j xs d k (λ (i : ℕ) b. h (suc i) (omega arith)) l (omega arith)
 
 -- bytes put within the first part, and behind it
 put_first : (part rest more : List ℕ) (j : ℕ) → j + length more ≤ length part → put_at (part ++ rest) j more ≡ put_at part j more ++ rest

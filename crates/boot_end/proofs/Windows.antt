@@ -16,6 +16,7 @@ use Rattle.module_memory.specs.declared.address.TheConstants.{WINDOW_START, WORD
 use Rattle.module_memory.specs.declared.fault.MemoryFault.{MemoryFault}
 use Rattle.module_memory.specs.declared.fault.MemoryFault.TheVariants.{NoModule as RackNoModule, Misaligned as RackMisaligned, Outside as RackOutside}
 use Rattle.module_memory.proofs.Addresses.{windows_are_whole}
+use Rattle.module_memory.proofs.Images.{block_bytes, part_at}
 use Rattle.peek_poke.specs.Blocks.{then_do}
 use Rattle.peek_poke.specs.Housed.{Housed}
 use Rattle.peek_poke.specs.Windows.{unless}
@@ -23,7 +24,7 @@ use Rattle.peek_poke.specs.declared.fault.StoreFault.{StoreFault}
 use Rattle.peek_poke.specs.declared.fault.StoreFault.TheVariants.{Misaligned, Outside}
 use Rattle.boot_end.specs.Laws.{WindowsAreMemory, module_bytes, own_blocks}
 use Rattle.boot_end.specs.Memory.{byte_place, word_from, with_word_from}
-use Rattle.boot_end.proofs.Parts.{parts_length, part_at, part_put, put_at}
+use Rattle.boot_end.proofs.Parts.{parts_length, part_put, put_at}
 
 -- ---- where there is a word
 
@@ -67,9 +68,6 @@ then_unless (Some fault) x f = refl
 
 -- ---- the bytes of a module
 
-block_long : (words : List ℕ) → length (bytes_of_block words) ≡ 4 * length words
-block_long words = parts_length bytes_of_word 4 words 0 (λ i l. refl)
-
 module _ (h : Housed) (a w : ℕ) (whole : IsWhole h.store) (words : AreWords h.store) (inside : h.number < h.store.shape.modules) where
   room : h.number * h.store.shape.blocks + h.store.shape.blocks ≤ length h.store.blocks
   room =
@@ -91,7 +89,7 @@ module _ (h : Housed) (a w : ℕ) (whole : IsWhole h.store) (words : AreWords h.
 
   long : (i : ℕ) → i < length (own_blocks h) → length (bytes_of_block (get_or (own_blocks h) i [])) ≡ 4 * h.store.shape.words
   long i l =
-      block_long (get_or (own_blocks h) i [])
+      block_bytes (get_or (own_blocks h) i [])
       ∙ ap (λ (n : ℕ). 4 * n) (words_of i (omega (arith, count)))
 
   all_bytes : length (module_bytes h) ≡ WORD_BYTES * (h.store.shape.blocks * h.store.shape.words)

@@ -1,13 +1,13 @@
 -- What the rows have of a job that arguments hold.
 use Rattle.std.proofs.Common.{◌≡◌, ◌∙◌, ◌↔◌, ap, sym, subst, not, List, [], ◌∷◌, Option, Some, None, Bool, true, false, IsTrue, codes, refl, Result, Ok, Err, IsErrAnd}
-use Rattle.std.specs.Prelude.{MatchOption, ◌++◌, if◌then◌else◌, find, flat_map, map, option_and_then, option_to_list, unwrap_or}
+use Rattle.std.specs.Prelude.{All, MatchOption, ◌++◌, find, flat_map, map, option_and_then, option_to_list, unwrap_or}
 use Rattle.std.specs.Str.{bytes_eq}
 use Rattle.clap.specs.Words.{Row, Text, all_of, first_of}
 use Rattle.clap.specs.declared.parser.matches.ValueSource.{ValueSource}
 use Rattle.clap.specs.declared.parser.matches.ValueSource.TheVariants.{CommandLine, DefaultValue}
 use Rattle.command_words.specs.declared.commands.CommandName.{CommandName}
 use Rattle.command_words.specs.declared.commands.CommandName.TheVariants as name
-use Rattle.command_words.specs.declared.uses.Access.TheVariants.{Read, Write}
+use Rattle.command_words.specs.declared.uses.Access.TheVariants.{Write}
 use Rattle.command_words.specs.declared.uses.FileUse.{FileUse}
 use Rattle.command_words.specs.declared.jobs.Job.{Job}
 use Rattle.command_words.specs.declared.jobs.Job.TheVariants.{Plan, Check, Draw, Switch, Orders, Drive, C004, Direct, Apply, Run, Serve, Host, Talk, Replay}
@@ -15,9 +15,9 @@ use Rattle.command_words.specs.declared.jobs.Request.{Request}
 use Rattle.plan_answers.specs.declared.source.Source.{Source}
 use Rattle.plan_answers.specs.declared.source.Source.TheVariants as source
 use Rattle.command_words.specs.Program.{command_word}
-use Rattle.command_words.specs.Jobs.{Files, HasJob, HasSome, HasSource, HaveNames, IsJob, IsReading, IsRequest, IsWithinLimits, HasWanted, AreClientNames, MayBeDone, ReadsInputOnce, all_files, client_files, clients_of, file, files_beside, files_of, hears_input, input_name, of_list, name_of, on_image, port_files, schedule_in, scripts_on}
-use Rattle.command_words.specs.declared.reading.Lack.{Lack}
-use Rattle.command_words.specs.declared.reading.Lack.TheVariants.{Memory}
+use Rattle.command_words.specs.Jobs.{Files, HasJob, HasSome, HasSource, HaveNames, IsJob, IsReading, IsRequest, IsWithinLimits, HasWanted, IsClientName, MayBeDone, client_files, clients_of, file, file_uses, files_beside, files_of, hears_input, of_list, name_of, on_image, port_files, schedule_in, scripts_on}
+use Rattle.command_words.specs.declared.faults.Lack.{Lack}
+use Rattle.command_words.specs.declared.faults.Lack.TheVariants.{Memory}
 use Rattle.command_words.proofs.CommandNames.{same_word}
 
 -- what is lacking of a part is lacking of the whole
@@ -169,12 +169,5 @@ same_done (Some p) a b one other done =
     let beside = beside_are p.1 a.job one.job.1 ∙ ap (λ (n : CommandName). beside_in n p.1) same ∙ sym (beside_are p.1 b.job other.job.1) in
     let clients = clients_are p.1 a.job one.job.1 ∙ ap (λ (n : CommandName). clients_in n p.1) same ∙ sym (clients_are p.1 b.job other.job.1) in
     let hears = hears_is p.1 a.job one.job.1 ∙ ap (λ (n : CommandName). hears_in n p.1) same ∙ sym (hears_is p.1 b.job other.job.1) in
-    let Names : Files Text → Bool → List FileUse → Type 0 =
-    λ names hears more. HaveNames (map (file Read) (all_files names ++ (if hears then input_name ∷ [] else [])) ++ more) in
-    record {
-      input = subst (ReadsInputOnce (files_of b.job)) hears (subst (λ (f : Files Text). ReadsInputOnce f (hears_input a.job)) files done.input);
-      files = subst (Names (files_of b.job) (hears_input b.job)) beside
-          (subst (λ (h : Bool). Names (files_of b.job) h (files_beside a.job)) hears
-          (subst (λ (f : Files Text). Names f (hears_input a.job) (files_beside a.job)) files done.files));
-      clients = subst AreClientNames clients done.clients;
-    }
+    let uses : file_uses a.job ≡ file_uses b.job = rw (files, hears, beside) refl in
+    record { files = subst HaveNames uses done.files; clients = subst (All IsClientName) clients done.clients }

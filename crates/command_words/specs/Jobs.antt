@@ -1,5 +1,5 @@
 -- The job that the arguments of the command line name.
-use Rattle.std.specs.Prelude.{◌≡◌, ◌≢◌, ◌⊎◌, ◌↔◌, ℕ, ◌+◌, ◌≤◌, List, [], ◌∷◌, ◌++◌, Some, None, String, codes, length, map, find, count_by, flat_map, string_bytes, Option, All, AllPairs, IsTrue, Bool, true, false, not, if◌then◌else◌, option_and_then, option_to_list, MatchOption, Result, Ok, Err, ⊤}
+use Rattle.std.specs.Prelude.{◌≡◌, ◌≢◌, ◌⊎◌, ◌↔◌, ℕ, ◌≤◌, List, [], ◌∷◌, ◌++◌, Some, None, String, codes, length, map, find, flat_map, string_bytes, Option, All, AllPairs, IsTrue, Bool, true, false, not, if◌then◌else◌, option_and_then, option_to_list, MatchOption, Result, Ok, Err, ⊤}
 use Rattle.std.specs.Str.{bytes_eq}
 use Rattle.std.specs.Str.Parse.{IsNumeral, digits_value, without_leading_plus}
 use Rattle.clap.specs.Words.{Row, Text, Kinds, IsAmong, all_of, fault_of, first_of, found_of, one_of, rows_of, subcommand_of, subcommand_rows_of}
@@ -13,7 +13,7 @@ use Rattle.plan_answers.specs.declared.source.Planning.{Planning}
 use Rattle.plan_answers.specs.declared.source.Planning.TheVariants as planning
 use Rattle.plan_answers.specs.declared.source.Source.{Source}
 use Rattle.plan_answers.specs.declared.source.Source.TheVariants as source
-use Rattle.command_words.specs.declared.limits.TheConstants.{LAST_MODULE, LAST_SETTING, MAX_CLIENTS}
+use Rattle.command_words.specs.declared.limits.TheConstants.{LAST_MODULE, MAX_CLIENTS, MAX_NUMBER}
 use Rattle.command_words.specs.declared.uses.Access.{Access}
 use Rattle.command_words.specs.declared.uses.Access.TheVariants.{Read, Write, Port}
 use Rattle.command_words.specs.declared.uses.FileUse.{FileUse}
@@ -23,8 +23,8 @@ use Rattle.command_words.specs.declared.jobs.Request.{Request}
 use Rattle.command_words.specs.declared.jobs.SharedRack.{SharedRack}
 use Rattle.command_words.specs.declared.jobs.ArgumentsFault.{ArgumentsFault}
 use Rattle.command_words.specs.declared.jobs.ArgumentsFault.TheVariants.{Clap, NoMemory}
-use Rattle.command_words.specs.declared.reading.Lack.{Lack}
-use Rattle.command_words.specs.declared.reading.Lack.TheVariants.{Memory}
+use Rattle.command_words.specs.declared.faults.Lack.{Lack}
+use Rattle.command_words.specs.declared.faults.Lack.TheVariants.{Memory}
 use Rattle.command_words.specs.declared.commands.CommandName.{CommandName}
 use Rattle.command_words.specs.declared.commands.CommandName.TheVariants as name
 use Rattle.command_words.specs.Program.{program, command_word}
@@ -38,27 +38,20 @@ abbrev pub IsGiven : Text → List Row → Type 0
 IsGiven id rows =
     option_and_then (λ row. row.source) (find (λ row. bytes_eq row.id id) rows) ≡ Some CommandLine
 
--- the number that the text of `--workers` reads as
+-- the number that the text of an option reads as, where it is there, up to the last
+abbrev pub HasNumeral : Text → ℕ → List Row → Option ℕ → Type 0
+HasNumeral id last rows None = first_of id rows ≡ None
+HasNumeral id last rows (Some n) =
+    (text : Text) × (one_of id rows ≡ Some text) × IsNumeral 10 (without_leading_plus text)
+    × (n ≡ digits_value 10 (without_leading_plus text)) × (n ≤ last)
+
+-- the number of `--workers`
 abbrev pub HasWorkers : List Row → ℕ → Type 0
-HasWorkers rows n =
-    (text : Text) × (one_of (codes "workers") rows ≡ Some text)
-    × IsNumeral 10 (without_leading_plus text) × (n ≡ digits_value 10 (without_leading_plus text))
-    × (1 ≤ n) × (n ≤ MAX_WORKERS)
+HasWorkers rows n = HasNumeral (codes "workers") MAX_WORKERS rows (Some n) × (1 ≤ n)
 
--- the number that the text of `--module` reads as, where it is there
-abbrev pub HasModule : List Row → Option ℕ → Type 0
-HasModule rows None = first_of (codes "module") rows ≡ None
-HasModule rows (Some m) =
-    (text : Text) × (one_of (codes "module") rows ≡ Some text)
-    × IsNumeral 10 (without_leading_plus text) × (m ≡ digits_value 10 (without_leading_plus text))
-    × (m ≤ LAST_MODULE)
-
--- the number of a setting that the text of `--from` reads as
+-- the number of `--from`, of a setting
 abbrev pub HasFirst : List Row → ℕ → Type 0
-HasFirst rows n =
-    (text : Text) × (one_of (codes "from") rows ≡ Some text)
-    × IsNumeral 10 (without_leading_plus text) × (n ≡ digits_value 10 (without_leading_plus text))
-    × (n ≤ LAST_SETTING)
+HasFirst rows n = HasNumeral (codes "from") MAX_NUMBER rows (Some n)
 
 -- the text of an argument
 abbrev pub HasText : Text → List Row → Text → Type 0
@@ -128,8 +121,8 @@ HasJob rows (Switch batch source wiring workers) =
     HasText (codes "BATCH") rows batch × HasSource rows source
     × HasOption (codes "wiring") rows wiring × HasWorkers rows workers
 HasJob rows (Orders batch source of_module workers) =
-    HasText (codes "BATCH") rows batch × HasSource rows source × HasModule rows of_module
-    × HasWorkers rows workers
+    HasText (codes "BATCH") rows batch × HasSource rows source
+    × HasNumeral (codes "module") LAST_MODULE rows of_module × HasWorkers rows workers
 HasJob rows (Drive batch port port_b source wiring first goes_on workers) =
     HasText (codes "BATCH") rows batch × HasText (codes "PORT") rows port
     × HasOption (codes "PORT_B") rows port_b × HasSource rows source
@@ -255,14 +248,6 @@ hears_input C004 = true
 hears_input (Talk rack) = true
 hears_input job = false
 
--- how many of these names stand for standard input
-abbrev pub inputs_in : List Text → ℕ
-inputs_in names = count_by (λ name. bytes_eq name input_name) names
-
--- standard input is one of a job's files at most, and none of them where it hears it itself
-abbrev pub ReadsInputOnce : Files Text → Bool → Type 0
-ReadsInputOnce files hears = inputs_in (all_files files) + (if hears then 1 else 0) ≤ 1
-
 -- a file of this name, of which a job makes this use
 abbrev pub file : Access → Text → FileUse
 file access name = record { name = name; access = access }
@@ -309,11 +294,13 @@ Exclude one other = ⊤
 abbrev pub MayHaveName : FileUse → Type 0
 MayHaveName it = Exclude it.access Read → it.name ≢ input_name
 
--- they have two names, where they have to be two
+-- they have two names, where they have to be two, or the one is standard input
 abbrev pub HaveTwoNames : FileUse → FileUse → Type 0
-HaveTwoNames one other = Exclude one.access other.access → one.name ≢ other.name
+HaveTwoNames one other =
+    Exclude one.access other.access ⊎ (one.name ≡ input_name) → one.name ≢ other.name
 
--- nothing is written that is read, or written too, as far as names say
+-- nothing is written that is read, or written too, and standard input is read once, as far as names
+-- say
 pub record HaveNames (files : List FileUse) : Type 0 where
   pub each : All MayHaveName files
   pub apart : AllPairs HaveTwoNames files
@@ -331,17 +318,11 @@ line_feed = 10
 abbrev pub IsClientName : Text → Type 0
 IsClientName name = (name ≢ []) × All (λ byte. byte ≢ line_feed) name
 
--- clients may have these names: each may, and no two are the same
-pub record AreClientNames (names : List Text) : Type 0 where
-  pub each : All IsClientName names
-  pub apart : AllPairs (λ name later. name ≢ later) names
-
--- a job may be done: one of its files at most is standard input, it writes to none that it reads or
--- writes too, and its clients can be told apart
+-- a job may be done: it reads standard input once at most, it writes to no file that it reads or
+-- writes too, and its clients have names. No two have one, since both would be told by one file
 pub record MayBeDone (job : Job) : Type 0 where
-  pub input : ReadsInputOnce (files_of job) (hears_input job)
   pub files : HaveNames (file_uses job)
-  pub clients : AreClientNames (clients_of job)
+  pub clients : All IsClientName (clients_of job)
 
 -- the arguments ask for this: they fit the grammar, and hold a job that may be done
 pub record AskFor (arguments : List Text) (request : Request) : Type 0 where
@@ -396,8 +377,8 @@ HasWanted name.Draw rows =
 HasWanted name.Switch rows =
     HasSome (HasText (codes "BATCH") rows) × HasSome (HasSource rows) × HasSome (HasWorkers rows)
 HasWanted name.Orders rows =
-    HasSome (HasText (codes "BATCH") rows) × HasSome (HasSource rows) × HasSome (HasModule rows)
-    × HasSome (HasWorkers rows)
+    HasSome (HasText (codes "BATCH") rows) × HasSome (HasSource rows)
+    × HasSome (HasNumeral (codes "module") LAST_MODULE rows) × HasSome (HasWorkers rows)
 HasWanted name.Drive rows =
     HasSome (HasText (codes "BATCH") rows) × HasSome (HasText (codes "PORT") rows)
     × HasSome (HasSource rows) × HasSome (HasFirst rows) × HasSome (HasWorkers rows)

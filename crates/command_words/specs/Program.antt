@@ -9,20 +9,16 @@ use Rattle.clap.specs.declared.builder.action.ArgAction.TheVariants.{SetTrue}
 use Rattle.clap.specs.declared.builder.value_parser.ValueParser.TheVariants as parser
 use Rattle.exchange_limits.specs.declared.limits.TheConstants.{MAX_WORKERS}
 use Rattle.command_words.specs.declared.commands.Argument.{Argument}
-use Rattle.command_words.specs.declared.commands.Argument.TheVariants.{Shape, File, Batch, Schedule, Port, PortB, Moves, Image, Record, Scripts, Clients, ImageOption, RecordOut, ImageOut, Settings, ScheduleOption, WiringOption, FromOption, Module, Steady, GoOn, Workers, Quiet}
+use Rattle.command_words.specs.declared.commands.Argument.TheVariants.{Shape, File, Batch, Schedule, Port, PortB, Moves, Image, Record, Scripts, Clients, ImageIn, RecordOut, ImageOut, Settings, Scheduled, Wiring, First, Module, Steady, GoOn, Workers, Quiet}
 use Rattle.command_words.specs.declared.commands.CommandName.{CommandName}
 use Rattle.command_words.specs.declared.commands.CommandName.TheVariants.{Plan, Check, Draw, Switch, Orders, Drive, C004, Direct, Apply, Run, Serve, Host, Talk, Replay}
-use Rattle.command_words.specs.declared.limits.TheConstants.{LAST_MODULE, LAST_SETTING, MAX_CLIENTS}
+use Rattle.command_words.specs.declared.limits.TheConstants.{LAST_MODULE, MAX_CLIENTS, MAX_NUMBER}
 
 -- ---- what a command takes
 
 -- an argument that has to be there
 abbrev pub one_argument : List ℕ → Rule
 one_argument id = record (new_rule id) { required = true }
-
--- an argument that may be left out
-abbrev pub spare_word : List ℕ → Rule
-spare_word id = new_rule id
 
 -- an argument that has to be there, and may be there so many times
 abbrev pub client_arguments : List ℕ → Rule
@@ -34,26 +30,9 @@ client_arguments id =
 abbrev pub option : List ℕ → Rule
 option id = record (new_rule id) { long = Some id; value_names = 1 }
 
--- `--workers`, at least 1, and 1 where it is left out
-abbrev pub workers : Rule
-workers =
-    record (option (codes "workers")) {
-      defaults = codes "1" ∷ [];
-      parser = Some (parser.Signed (pos 1) (pos MAX_WORKERS));
-    }
-
--- `--module`, of which a rack may have the number, and which may be left out
-abbrev pub module_option : Rule
-module_option =
-    record (option (codes "module")) { parser = Some (parser.Signed (pos 0) (pos LAST_MODULE)) }
-
--- `--from`, a setting's number, and 0 where it is left out
-abbrev pub from : Rule
-from =
-    record (option (codes "from")) {
-      defaults = codes "0" ∷ [];
-      parser = Some (parser.Signed (pos 0) (pos LAST_SETTING));
-    }
+-- an option with a number from the one to the other, as `--module M`, which may be left out
+abbrev pub number_option : List ℕ → ℕ → ℕ → Rule
+number_option id low high = record (option id) { parser = Some (parser.Signed (pos low) (pos high)) }
 
 -- an option with no value, as `--quiet`, which may be left out
 abbrev pub flag : List ℕ → Rule
@@ -66,23 +45,23 @@ rule_for File = one_argument (codes "FILE")
 rule_for Batch = one_argument (codes "BATCH")
 rule_for Schedule = one_argument (codes "SCHEDULE")
 rule_for Port = one_argument (codes "PORT")
-rule_for PortB = spare_word (codes "PORT_B")
+rule_for PortB = new_rule (codes "PORT_B")
 rule_for Moves = one_argument (codes "MOVES")
 rule_for Image = one_argument (codes "IMAGE")
 rule_for Record = one_argument (codes "RECORD")
 rule_for Scripts = client_arguments (codes "SCRIPT")
 rule_for Clients = client_arguments (codes "CLIENT")
-rule_for ImageOption = option (codes "image")
+rule_for ImageIn = option (codes "image")
 rule_for RecordOut = option (codes "record")
 rule_for ImageOut = option (codes "image-out")
 rule_for Settings = option (codes "settings")
-rule_for ScheduleOption = option (codes "schedule")
-rule_for WiringOption = option (codes "wiring")
-rule_for FromOption = from
-rule_for Module = module_option
+rule_for Scheduled = option (codes "schedule")
+rule_for Wiring = option (codes "wiring")
+rule_for First = record (number_option (codes "from") 0 MAX_NUMBER) { defaults = codes "0" ∷ [] }
+rule_for Module = number_option (codes "module") 0 LAST_MODULE
 rule_for Steady = flag (codes "steady")
 rule_for GoOn = flag (codes "go-on")
-rule_for Workers = workers
+rule_for Workers = record (number_option (codes "workers") 1 MAX_WORKERS) { defaults = codes "1" ∷ [] }
 rule_for Quiet = flag (codes "quiet")
 
 -- ---- the commands
@@ -99,31 +78,25 @@ sheet_of Plan = (codes "plan", File ∷ Steady ∷ Workers ∷ Quiet ∷ [])
 sheet_of Check = (codes "check", Batch ∷ Schedule ∷ Quiet ∷ [])
 sheet_of Draw = (codes "draw", Batch ∷ Schedule ∷ Settings ∷ Quiet ∷ [])
 sheet_of Switch =
-    (codes "switch", Batch ∷ ScheduleOption ∷ Steady ∷ Workers ∷ WiringOption ∷ Quiet ∷ [])
+    (codes "switch", Batch ∷ Scheduled ∷ Steady ∷ Workers ∷ Wiring ∷ Quiet ∷ [])
 sheet_of Orders =
-    (codes "orders", Batch ∷ ScheduleOption ∷ Steady ∷ Workers ∷ Module ∷ Quiet ∷ [])
+    (codes "orders", Batch ∷ Scheduled ∷ Steady ∷ Workers ∷ Module ∷ Quiet ∷ [])
 sheet_of Drive = (
   codes "drive",
-  Batch ∷ Port ∷ PortB ∷ ScheduleOption ∷ Steady ∷ Workers ∷ WiringOption ∷ FromOption ∷ GoOn
+  Batch ∷ Port ∷ PortB ∷ Scheduled ∷ Steady ∷ Workers ∷ Wiring ∷ First ∷ GoOn
       ∷ Quiet ∷ [],
 )
 sheet_of C004 = (codes "c004", Quiet ∷ [])
 sheet_of Direct = (codes "direct", Moves ∷ Quiet ∷ [])
 sheet_of Apply = (codes "apply", Shape ∷ Batch ∷ Image ∷ Workers ∷ Quiet ∷ [])
-sheet_of Run = (
-  codes "run",
-  Shape ∷ Batch ∷ ImageOption ∷ ScheduleOption ∷ Steady ∷ Workers ∷ Quiet ∷ [],
-)
-sheet_of Serve = (
-  codes "serve",
-  Shape ∷ Scripts ∷ ImageOption ∷ RecordOut ∷ ImageOut ∷ Workers ∷ Quiet ∷ [],
-)
-sheet_of Host = (
-  codes "host",
-  Shape ∷ Clients ∷ ImageOption ∷ RecordOut ∷ ImageOut ∷ Workers ∷ Quiet ∷ [],
-)
-sheet_of Talk = (codes "talk", Shape ∷ ImageOption ∷ RecordOut ∷ ImageOut ∷ Quiet ∷ [])
-sheet_of Replay = (codes "replay", Shape ∷ Record ∷ ImageOption ∷ Quiet ∷ [])
+sheet_of Run =
+    (codes "run", Shape ∷ Batch ∷ ImageIn ∷ Scheduled ∷ Steady ∷ Workers ∷ Quiet ∷ [])
+sheet_of Serve =
+    (codes "serve", Shape ∷ Scripts ∷ ImageIn ∷ RecordOut ∷ ImageOut ∷ Workers ∷ Quiet ∷ [])
+sheet_of Host =
+    (codes "host", Shape ∷ Clients ∷ ImageIn ∷ RecordOut ∷ ImageOut ∷ Workers ∷ Quiet ∷ [])
+sheet_of Talk = (codes "talk", Shape ∷ ImageIn ∷ RecordOut ∷ ImageOut ∷ Quiet ∷ [])
+sheet_of Replay = (codes "replay", Shape ∷ Record ∷ ImageIn ∷ Quiet ∷ [])
 
 abbrev pub command_word : CommandName → List ℕ
 command_word name = (sheet_of name).0

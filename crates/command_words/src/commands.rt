@@ -4,6 +4,11 @@ ghost use Rattle.std.specs.Prelude.{◌≡◌, ◌≢◌, IfNone, IfSome};
 ghost use Rattle.command_words.specs.declared.commands.CommandName.{CommandName};
 ghost use Rattle.command_words.specs.Program.{arguments_of, command_word};
 
+use crate::help::{
+    APPLY, C004, CHECK, CommandHelp, DIRECT, DRAW, DRIVE, HOST, ORDERS, PLAN, REPLAY, RUN, SERVE,
+    SWITCH, TALK,
+};
+
 /// A command by its name.
 #[derive(Clone, Copy)]
 pub(crate) enum CommandName {
@@ -50,7 +55,7 @@ pub(crate) enum Argument {
     /// `CLIENT..`, as many.
     Clients,
     /// `--image FILE`.
-    ImageOption,
+    ImageIn,
     /// `--record FILE`.
     RecordOut,
     /// `--image-out FILE`.
@@ -58,11 +63,11 @@ pub(crate) enum Argument {
     /// `--settings A..B`.
     Settings,
     /// `--schedule FILE`.
-    ScheduleOption,
+    Scheduled,
     /// `--wiring FILE`.
-    WiringOption,
+    Wiring,
     /// `--from K`.
-    FromOption,
+    First,
     /// `--module M`.
     Module,
     /// `--steady`.
@@ -107,86 +112,57 @@ impl CommandName {
         None
     }
 
-    /// The word that calls it, and what it takes, in this order.
-    pub(crate) fn sheet(self) -> (&'static str, &'static [Argument])
+    /// The word that calls it, what it takes, in this order, and its help.
+    pub(crate) fn sheet(self) -> (&'static str, &'static [Argument], &'static CommandHelp)
         ensures word { result.0.now ≡ command_word self }
         ensures arguments { result.1.now ≡ arguments_of self }
     {
         use Argument::{
-            Batch, Clients, File, FromOption, GoOn, Image, ImageOption, ImageOut, Module, Moves,
-            Port, PortB, Quiet, Record, RecordOut, Schedule, ScheduleOption, Scripts, Settings,
-            Shape, Steady, WiringOption, Workers,
+            Batch, Clients, File, First, GoOn, Image, ImageIn, ImageOut, Module, Moves, Port,
+            PortB, Quiet, Record, RecordOut, Schedule, Scheduled, Scripts, Settings, Shape, Steady,
+            Wiring, Workers,
         };
         match self {
-            CommandName::Plan => ("plan", &[File, Steady, Workers, Quiet]),
-            CommandName::Check => ("check", &[Batch, Schedule, Quiet]),
-            CommandName::Draw => ("draw", &[Batch, Schedule, Settings, Quiet]),
-            CommandName::Switch => (
+            Self::Plan => ("plan", &[File, Steady, Workers, Quiet], &PLAN),
+            Self::Check => ("check", &[Batch, Schedule, Quiet], &CHECK),
+            Self::Draw => ("draw", &[Batch, Schedule, Settings, Quiet], &DRAW),
+            Self::Switch => (
                 "switch",
-                &[Batch, ScheduleOption, Steady, Workers, WiringOption, Quiet],
+                &[Batch, Scheduled, Steady, Workers, Wiring, Quiet],
+                &SWITCH,
             ),
-            CommandName::Orders => (
+            Self::Orders => (
                 "orders",
-                &[Batch, ScheduleOption, Steady, Workers, Module, Quiet],
+                &[Batch, Scheduled, Steady, Workers, Module, Quiet],
+                &ORDERS,
             ),
-            CommandName::Drive => {
-                (
-                    "drive",
-                    &[
-                        Batch,
-                        Port,
-                        PortB,
-                        ScheduleOption,
-                        Steady,
-                        Workers,
-                        WiringOption,
-                        FromOption,
-                        GoOn,
-                        Quiet,
-                    ],
-                )
-            }
-            CommandName::C004 => ("c004", &[Quiet]),
-            CommandName::Direct => ("direct", &[Moves, Quiet]),
-            CommandName::Apply => ("apply", &[Shape, Batch, Image, Workers, Quiet]),
-            CommandName::Run => (
+            Self::Drive => (
+                "drive",
+                &[
+                    Batch, Port, PortB, Scheduled, Steady, Workers, Wiring, First, GoOn, Quiet,
+                ],
+                &DRIVE,
+            ),
+            Self::C004 => ("c004", &[Quiet], &C004),
+            Self::Direct => ("direct", &[Moves, Quiet], &DIRECT),
+            Self::Apply => ("apply", &[Shape, Batch, Image, Workers, Quiet], &APPLY),
+            Self::Run => (
                 "run",
-                &[
-                    Shape,
-                    Batch,
-                    ImageOption,
-                    ScheduleOption,
-                    Steady,
-                    Workers,
-                    Quiet,
-                ],
+                &[Shape, Batch, ImageIn, Scheduled, Steady, Workers, Quiet],
+                &RUN,
             ),
-            CommandName::Serve => (
+            Self::Serve => (
                 "serve",
-                &[
-                    Shape,
-                    Scripts,
-                    ImageOption,
-                    RecordOut,
-                    ImageOut,
-                    Workers,
-                    Quiet,
-                ],
+                &[Shape, Scripts, ImageIn, RecordOut, ImageOut, Workers, Quiet],
+                &SERVE,
             ),
-            CommandName::Host => (
+            Self::Host => (
                 "host",
-                &[
-                    Shape,
-                    Clients,
-                    ImageOption,
-                    RecordOut,
-                    ImageOut,
-                    Workers,
-                    Quiet,
-                ],
+                &[Shape, Clients, ImageIn, RecordOut, ImageOut, Workers, Quiet],
+                &HOST,
             ),
-            CommandName::Talk => ("talk", &[Shape, ImageOption, RecordOut, ImageOut, Quiet]),
-            CommandName::Replay => ("replay", &[Shape, Record, ImageOption, Quiet]),
+            Self::Talk => ("talk", &[Shape, ImageIn, RecordOut, ImageOut, Quiet], &TALK),
+            Self::Replay => ("replay", &[Shape, Record, ImageIn, Quiet], &REPLAY),
         }
     }
 }

@@ -1,7 +1,9 @@
 //! The mistakes in arguments that clap lets through.
 
-ghost use Rattle.std.specs.Prelude.{◌≡◌, ◌≢◌, IfOk};
-ghost use Rattle.clap.specs.declared.error.kind.ErrorKind.TheVariants.{DisplayHelp, DisplayVersion};
+ghost use Rattle.std.specs.Prelude.{◌≡◌, IfOk};
+ghost use Rattle.command_words.specs.declared.faults.Lack.TheVariants.{Memory};
+ghost use Rattle.command_words.specs.declared.jobs.ArgumentsFault.TheVariants.{NoMemory};
+ghost use Rattle.clap.specs.declared.error.kind.ErrorKind.TheVariants.{ArgumentConflict};
 ghost use Rattle.clap.specs.Values.{kind_of};
 ghost use Rattle.command_words.specs.Jobs.{IsMistake};
 
@@ -10,73 +12,67 @@ use crate::jobs::ArgumentsFault;
 use clap::error::ErrorKind;
 use std::alloc::{AllocError, Global};
 
-/// The fault of arguments that clap has let through.
-fn misused(alloc: Global, kind: ErrorKind, message: &str) -> ArgumentsFault
-    ensures { kind ≢ DisplayHelp → kind ≢ DisplayVersion → IsMistake result }
-{
-    match error_of(alloc, kind, message) {
-        Ok(error) => ArgumentsFault::from(error),
-        Err(_) => ArgumentsFault::NoMemory,
+/// What a job lacks whose arguments clap has let through.
+#[derive(Clone, Copy)]
+pub(crate) enum Lack {
+    /// An argument that has to be there. Clap has refused such arguments before.
+    Word,
+    /// A choice between `--steady` and `--workers`.
+    Planning,
+    /// A choice between a schedule's file and these.
+    Source,
+    /// A name for each client that is one.
+    Clients,
+    /// A file of its own for each use of standard input.
+    Input,
+    /// A file of its own for each that is written.
+    Files,
+    /// Memory.
+    Memory,
+}
+
+impl From<AllocError> for Lack {
+    ghost from_gives = { λ _ lack. lack ≡ Memory };
+
+    fn from(_error: AllocError) -> Lack {
+        Lack::Memory
     }
 }
 
-/// Clap's error of this kind.
-fn error_of(alloc: Global, kind: ErrorKind, message: &str) -> Result<clap::Error, AllocError>
-    ensures { IfOk result (λ error. kind_of error ≡ kind) }
-{
-    program(alloc)?.error(kind, message)
+impl Lack {
+    /// What is told of it.
+    fn message(self) -> &'static str {
+        match self {
+            Lack::Word => "a word is missing",
+            Lack::Planning => "`--steady` and `--workers` exclude each other",
+            Lack::Source => "`--schedule` excludes `--steady` and `--workers`",
+            Lack::Clients => "a client's name is empty or has a line feed",
+            Lack::Input =>
+                "standard input is read once: `-` can name one file, and none of `talk`, or of `drive` without `--go-on`",
+            Lack::Files =>
+                "a file that is written, for `--record`, `--image-out`, a client or PORT, can't be `-`, nor one that is read, or written too, as by two clients of one name",
+            Lack::Memory => "no memory",
+        }
+    }
 }
 
-/// The fault of an argument that is missing.
-pub(crate) fn missing(alloc: Global) -> ArgumentsFault
-    ensures { IsMistake result }
+/// Clap's error with this message.
+fn error_of(alloc: Global, message: &str) -> Result<clap::Error, AllocError>
+    ensures { IfOk result (λ error. kind_of error ≡ ArgumentConflict) }
 {
-    misused(
-        alloc,
-        ErrorKind::MissingRequiredArgument,
-        "a word is missing",
-    )
+    program(alloc)?.error(ErrorKind::ArgumentConflict, message)
 }
 
-/// The fault of workers for a steady plan.
-pub(crate) fn steady_workers(alloc: Global) -> ArgumentsFault
-    ensures { IsMistake result }
+/// The fault of what a job lacks.
+pub(crate) fn fault_of(alloc: Global, lack: Lack) -> ArgumentsFault
+    ensures memory { lack ≡ Memory → result ≡ NoMemory }
+    ensures mistake { IsMistake result }
 {
-    let message = "`--steady` and `--workers` exclude each other";
-    misused(alloc, ErrorKind::ArgumentConflict, message)
-}
-
-/// The fault of a schedule's file beside options of a plan.
-pub(crate) fn planned_schedule(alloc: Global) -> ArgumentsFault
-    ensures { IsMistake result }
-{
-    let message = "`--schedule` excludes `--steady` and `--workers`";
-    misused(alloc, ErrorKind::ArgumentConflict, message)
-}
-
-/// The fault of arguments of which several name standard input.
-pub(crate) fn named_twice(alloc: Global) -> ArgumentsFault
-    ensures { IsMistake result }
-{
-    let message =
-        "standard input is read once: `-` can name one file, and none of `talk`, or of `drive` without `--go-on`";
-    misused(alloc, ErrorKind::ArgumentConflict, message)
-}
-
-/// The fault of arguments by which a file would be written that is read, or written too, or
-/// standard output.
-pub(crate) fn overwritten(alloc: Global) -> ArgumentsFault
-    ensures { IsMistake result }
-{
-    let message =
-        "a file that is written, for `--record`, `--image-out`, a client or PORT, can't be `-`, nor one that is read, or written too";
-    misused(alloc, ErrorKind::ArgumentConflict, message)
-}
-
-/// The fault of arguments whose clients can't be told apart, or have a name that is no name.
-pub(crate) fn misnamed(alloc: Global) -> ArgumentsFault
-    ensures { IsMistake result }
-{
-    let message = "a client's name is empty, has a line feed or stands twice";
-    misused(alloc, ErrorKind::ValueValidation, message)
+    if matches!(lack, Lack::Memory) {
+        return ArgumentsFault::NoMemory;
+    }
+    match error_of(alloc, lack.message()) {
+        Ok(error) => ArgumentsFault::from(error),
+        Err(_) => ArgumentsFault::NoMemory,
+    }
 }

@@ -1,8 +1,8 @@
 //! The files that a job reads.
 
-ghost use Rattle.std.specs.Prelude.{◌≡◌, [], None};
+ghost use Rattle.std.specs.Prelude.{◌≡◌};
 ghost use Rattle.plan_answers.specs.Lent.{bytes_of};
-ghost use Rattle.command_words.specs.Jobs.{files_of, hears_input, schedule_in, scripts_on};
+ghost use Rattle.command_words.specs.Jobs.{files_of, hears_input, of_list as list_files, schedule_in, scripts_on as script_files};
 ghost use Rattle.command_words.specs.Files.{file_names};
 
 use crate::jobs::Job;
@@ -25,16 +25,29 @@ pub struct JobFiles<'a> {
     pub scripts: &'a [Text],
 }
 
-/// No file.
-fn no_files<'a>() -> JobFiles<'a>
-    ensures { file_names result ≡ scripts_on None [] }
+/// One text, what may be read with it, and a wiring.
+fn of_list<'a>(list: &'a Text, other: Option<&'a Text>, wiring: Option<&'a Text>) -> JobFiles<'a>
+    ensures { file_names result ≡ list_files list.now (bytes_of other.entry) (bytes_of wiring.entry) }
+{
+    let list = Some(list);
+    JobFiles {
+        list,
+        other,
+        wiring,
+        ..scripts_on(None, &[])
+    }
+}
+
+/// Scripts, on a rack with this image.
+fn scripts_on<'a>(image: Option<&'a Text>, scripts: &'a [Text]) -> JobFiles<'a>
+    ensures { file_names result ≡ script_files (bytes_of image.entry) scripts.now }
 {
     JobFiles {
-        image: None,
+        image,
         list: None,
         other: None,
         wiring: None,
-        scripts: &[],
+        scripts,
     }
 }
 
@@ -63,30 +76,14 @@ impl Job {
     pub fn files(&self) -> JobFiles<'_>
         ensures { file_names result ≡ files_of self.now }
     {
-        let none = no_files();
         match self {
-            Job::Plan { file: list, .. } | Job::Direct { moves: list } => JobFiles {
-                list: Some(list),
-                ..none
-            },
-            Job::Check {
+            Job::Plan { file: list, .. } | Job::Direct { moves: list } => of_list(list, None, None),
+            Job::Check { batch, schedule } => of_list(batch, Some(schedule), None),
+            Job::Draw {
                 batch,
-                schedule: other,
-            }
-            | Job::Draw {
-                batch,
-                schedule: other,
+                schedule,
                 ..
-            }
-            | Job::Apply {
-                batch,
-                image: other,
-                ..
-            } => JobFiles {
-                list: Some(batch),
-                other: Some(other),
-                ..none
-            },
+            } => of_list(batch, Some(schedule), None),
             Job::Switch {
                 batch,
                 source,
@@ -98,17 +95,9 @@ impl Job {
                 source,
                 wiring,
                 ..
-            } => JobFiles {
-                list: Some(batch),
-                other: schedule_of(source),
-                wiring: lent(wiring),
-                ..none
-            },
-            Job::Orders { batch, source, .. } => JobFiles {
-                list: Some(batch),
-                other: schedule_of(source),
-                ..none
-            },
+            } => of_list(batch, schedule_of(source), lent(wiring)),
+            Job::Orders { batch, source, .. } => of_list(batch, schedule_of(source), None),
+            Job::Apply { batch, image, .. } => of_list(batch, Some(image), None),
             Job::Run {
                 batch,
                 source,
@@ -116,9 +105,7 @@ impl Job {
                 ..
             } => JobFiles {
                 image: lent(image),
-                list: Some(batch),
-                other: schedule_of(source),
-                ..none
+                ..of_list(batch, schedule_of(source), None)
             },
             Job::Replay {
                 recorded,
@@ -126,19 +113,11 @@ impl Job {
                 ..
             } => JobFiles {
                 image: lent(image),
-                list: Some(recorded),
-                ..none
+                ..of_list(recorded, None, None)
             },
-            Job::Serve { rack, scripts, .. } => JobFiles {
-                image: lent(&rack.image),
-                scripts: scripts.as_slice(),
-                ..none
-            },
-            Job::Host { rack, .. } | Job::Talk { rack } => JobFiles {
-                image: lent(&rack.image),
-                ..none
-            },
-            Job::C004 => none,
+            Job::Serve { rack, scripts, .. } => scripts_on(lent(&rack.image), scripts.as_slice()),
+            Job::Host { rack, .. } | Job::Talk { rack } => scripts_on(lent(&rack.image), &[]),
+            Job::C004 => scripts_on(None, &[]),
         }
     }
 

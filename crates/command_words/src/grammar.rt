@@ -3,12 +3,12 @@
 ghost use Rattle.std.specs.Prelude.{IfErr, IfOk, OnOk};
 ghost use Rattle.command_words.specs.Jobs.{AreMatchesOf, IsFaultIn, IsTaken, texts_of};
 ghost use Rattle.clap.specs.Words.{app_of, new_app};
-ghost use Rattle.command_words.specs.Program.{IsArgument, IsCommand, IsLocal, command as command_app, flag, option, program, rule_for, spare_word, top, with_arguments, with_command, one_argument, client_arguments, from as first_setting, module_option, workers};
+ghost use Rattle.command_words.specs.Program.{IsArgument, IsCommand, IsLocal, command as command_app, flag, option, program, rule_for, top, with_arguments, with_command, one_argument, client_arguments};
 
 use crate::commands::{Argument, CommandName};
-use crate::help::{CommandHelp, PROGRAM, help_of, help_on};
+use crate::help::{CommandHelp, PROGRAM, help_on};
 use crate::jobs::ArgumentsFault;
-use crate::limits::{LAST_MODULE, LAST_SETTING, MAX_CLIENTS, VERSION};
+use crate::limits::{LAST_MODULE, MAX_CLIENTS, MAX_NUMBER, VERSION};
 use clap::{Arg, ArgAction, ArgMatches, Command, value_parser};
 use exchange_limits::MAX_WORKERS;
 use std::alloc::{AllocError, Global};
@@ -18,13 +18,6 @@ fn one_argument<'a>(alloc: Global, id: &'a str, help: &'a str) -> Arg<'a>
     ensures { IsArgument (one_argument id.entry.now) result }
 {
     Arg::new(alloc, id).required(true).help(help)
-}
-
-/// An argument that may be left out.
-fn spare_word<'a>(alloc: Global, id: &'a str, help: &'a str) -> Arg<'a>
-    ensures { IsArgument (spare_word id.entry.now) result }
-{
-    Arg::new(alloc, id).help(help)
 }
 
 /// From 1 to [`MAX_CLIENTS`] arguments.
@@ -39,33 +32,6 @@ fn option<'a>(alloc: Global, id: &'a str, value: &'a str, help: &'a str) -> Arg<
     ensures { IsArgument (option id.entry.now) result }
 {
     Arg::new(alloc, id).long(id).value_name(value).help(help)
-}
-
-/// `--workers N`.
-fn workers<'a>(alloc: Global, help: &'a str) -> Arg<'a>
-    ensures { IsArgument workers result }
-{
-    option(alloc, "workers", "1..64", help)
-        .value_parser(value_parser!(u8).range(1..=MAX_WORKERS as i64))
-        .default_value("1")
-}
-
-/// `--from K`.
-fn from<'a>(alloc: Global, help: &'a str) -> Arg<'a>
-    ensures { IsArgument first_setting result }
-{
-    option(alloc, "from", "K", help)
-        .value_parser(value_parser!(u16).range(0..=LAST_SETTING as i64))
-        .default_value("0")
-}
-
-/// `--module M`.
-fn module_option<'a>(alloc: Global, help: &'a str) -> Arg<'a>
-    ensures { IsArgument module_option result }
-{
-    option(alloc, "module", "0..31", help).value_parser(value_parser!(u8).range(
-        0..=LAST_MODULE as i64,
-    ))
 }
 
 /// An option with no value, as `--quiet`.
@@ -89,23 +55,29 @@ fn arg_of<'a>(alloc: Global, argument: Argument) -> Arg<'a>
         Argument::Batch => one_argument(alloc, "BATCH", help),
         Argument::Schedule => one_argument(alloc, "SCHEDULE", help),
         Argument::Port => one_argument(alloc, "PORT", help),
-        Argument::PortB => spare_word(alloc, "PORT_B", help),
+        Argument::PortB => Arg::new(alloc, "PORT_B").help(help),
         Argument::Moves => one_argument(alloc, "MOVES", help),
         Argument::Image => one_argument(alloc, "IMAGE", help),
         Argument::Record => one_argument(alloc, "RECORD", help),
         Argument::Scripts => client_arguments(alloc, "SCRIPT", help),
         Argument::Clients => client_arguments(alloc, "CLIENT", help),
-        Argument::ImageOption => option(alloc, "image", "FILE", help),
+        Argument::ImageIn => option(alloc, "image", "FILE", help),
         Argument::RecordOut => option(alloc, "record", "FILE", help),
         Argument::ImageOut => option(alloc, "image-out", "FILE", help),
         Argument::Settings => option(alloc, "settings", "A..B", help),
-        Argument::ScheduleOption => option(alloc, "schedule", "FILE", help),
-        Argument::WiringOption => option(alloc, "wiring", "FILE", help),
-        Argument::FromOption => from(alloc, help),
-        Argument::Module => module_option(alloc, help),
+        Argument::Scheduled => option(alloc, "schedule", "FILE", help),
+        Argument::Wiring => option(alloc, "wiring", "FILE", help),
+        Argument::First => option(alloc, "from", "K", help)
+            .value_parser(value_parser!(u32).range(0..=MAX_NUMBER as i64))
+            .default_value("0"),
+        Argument::Module => option(alloc, "module", "0..31", help).value_parser(value_parser!(
+            u8
+        ).range(0..=LAST_MODULE as i64)),
         Argument::Steady => flag(alloc, "steady", help),
         Argument::GoOn => flag(alloc, "go-on", help),
-        Argument::Workers => workers(alloc, help),
+        Argument::Workers => option(alloc, "workers", "1..64", help)
+            .value_parser(value_parser!(u8).range(1..=MAX_WORKERS as i64))
+            .default_value("1"),
         Argument::Quiet => flag(alloc, "quiet", help),
     }
 }
@@ -140,8 +112,8 @@ fn with_arguments<'a>(
 fn command_of<'a>(alloc: Global, name: CommandName) -> Result<Command<'a>, AllocError>
     ensures { IfOk result (IsCommand (command_app name)) }
 {
-    let (word, arguments): (&'a str, &[Argument]) = name.sheet();
-    let command = command(alloc, word, help_of(name));
+    let (word, arguments, help): (&'a str, &[Argument], &CommandHelp) = name.sheet();
+    let command = command(alloc, word, help);
     with_arguments(alloc, command, arguments)
 }
 

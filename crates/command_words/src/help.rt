@@ -2,7 +2,7 @@
 //! rows hold the words, and what lies on both sides of the limit; how many modules one switch joins
 //! is of the chip, and a row holds the words.
 
-use crate::commands::{Argument, CommandName};
+use crate::commands::Argument;
 
 /// What help says of a command.
 pub(crate) struct CommandHelp {
@@ -14,32 +14,10 @@ pub(crate) struct CommandHelp {
     pub(crate) notes: &'static str,
 }
 
-/// What help says of a command.
-pub(crate) fn help_of(name: CommandName) -> &'static CommandHelp {
-    match name {
-        CommandName::Plan => &PLAN,
-        CommandName::Check => &CHECK,
-        CommandName::Draw => &DRAW,
-        CommandName::Switch => &SWITCH,
-        CommandName::Orders => &ORDERS,
-        CommandName::Drive => &DRIVE,
-        CommandName::C004 => &C004,
-        CommandName::Direct => &DIRECT,
-        CommandName::Apply => &APPLY,
-        CommandName::Run => &RUN,
-        CommandName::Serve => &SERVE,
-        CommandName::Host => &HOST,
-        CommandName::Talk => &TALK,
-        CommandName::Replay => &REPLAY,
-    }
-}
-
 /// What help says of `plan`.
-const PLAN: CommandHelp = CommandHelp {
+pub(crate) const PLAN: CommandHelp = CommandHelp {
     about: "Prints a schedule of a batch: which transfers move in which switch setting",
-    example: "\
-Example:
-  ./exchange plan examples/three-transfers.txt",
+    example: "Example:\n  ./exchange plan examples/three-transfers.txt",
     notes: "\
 FILE is a batch text: the line `batch N`, then N lines of the form
   push I b R c   module I writes its block b into block c of module R
@@ -75,7 +53,7 @@ memory, 2 the words fit no command, 3 the answer couldn't be written.",
 };
 
 /// What help says of `check`.
-const CHECK: CommandHelp = CommandHelp {
+pub(crate) const CHECK: CommandHelp = CommandHelp {
     about: "Judges a schedule of a batch: whether its certificate shows that none is shorter",
     example: "\
 Example:
@@ -113,7 +91,7 @@ words fit no command, 3 the answer couldn't be written.",
 };
 
 /// What help says of `draw`.
-const DRAW: CommandHelp = CommandHelp {
+pub(crate) const DRAW: CommandHelp = CommandHelp {
     about: "Draws a schedule of a batch: a picture in SVG, to be looked at in a browser",
     example: "\
 Example:
@@ -152,11 +130,9 @@ words fit no command, 3 the answer couldn't be written.",
 };
 
 /// What help says of `switch`.
-const SWITCH: CommandHelp = CommandHelp {
+pub(crate) const SWITCH: CommandHelp = CommandHelp {
     about: "Tells a real switch's bytes: what a run of a batch sends over the configuration link",
-    example: "\
-Example:
-  ./exchange switch examples/two-pushes.txt",
+    example: "Example:\n  ./exchange switch examples/two-pushes.txt",
     notes: "\
 BATCH is a batch text, in the form that `exchange plan --help` shows. Its
 schedule is the plan that a run makes, or that of `exchange plan --steady` with
@@ -176,18 +152,22 @@ m on link m of each, and each setting has two lines:
 A run has two switches where its rack has more than 16 modules, whatever BATCH
 names. Behind each setting it also enquires all outputs, which isn't told here.
 With --wiring the links are those of a board with one switch. FILE has a line
-for each of its N modules, from 0 on, and one before them:
+for each of its N modules, by rising numbers, and one before them:
   wiring N
   module M link 0 at A link 3 at B   link 0 of module M is on link A of the
                                      switch, and link 3 on link B
-with N from 1 to 16, and links from 0 to 31, each of them once.
-Whether two transfers write one block, which a run refuses, isn't looked at.
+with N from 1 to 16, M from 0 to 15, and links from 0 to 31, each of them once.
+A module that isn't there has no line. Where a link of one is on no link of the
+switch, `none` stands for `at A`.
+Where two transfers write one block, which a run refuses, standard error tells.
 
 Else it is the first of these that is wrong. The files are read first:
   refused file            a file can't be read
   refused wiring line N   line N of the wiring, from 1, is wrong or missing
-  refused ..              BATCH, as `exchange plan --help` shows; with --wiring
-                          it may name no module that isn't wired
+  refused ..              BATCH, as `exchange plan --help` shows
+  refused no module T     with --wiring: transfer T, from 0, names a module that
+                          isn't there
+  refused no link T       the same, where a link that T uses isn't there
   refused schedule line N line N of FILE, as `exchange check --help` shows
   refused check ..        the same, where FILE has no schedule of BATCH
 
@@ -196,11 +176,9 @@ Status: 0 the bytes were printed, 1 they were refused or there was no memory,
 };
 
 /// What help says of `orders`.
-const ORDERS: CommandHelp = CommandHelp {
+pub(crate) const ORDERS: CommandHelp = CommandHelp {
     about: "Tells what each module does: what it copies first, and sends and receives in each setting",
-    example: "\
-Example:
-  ./exchange orders examples/swap.txt",
+    example: "Example:\n  ./exchange orders examples/swap.txt",
     notes: "\
 BATCH is a batch text, in the form that `exchange plan --help` shows. Which
 schedule of it the orders are for, `exchange switch --help` tells.
@@ -231,7 +209,7 @@ Status: 0 the orders were printed, 1 they were refused or there was no memory,
 };
 
 /// What help says of `drive`.
-const DRIVE: CommandHelp = CommandHelp {
+pub(crate) const DRIVE: CommandHelp = CommandHelp {
     about: "Sets a real switch: sends its bytes setting by setting, and asks it whether each stands",
     example: "\
 Example: a driver and a switch of this program, with two pipes between them:
@@ -256,7 +234,7 @@ sent again. Once all outputs have answered as the setting calls for, this is tol
 A setting that joins what stands already is told at once: nothing is sent for it.
 Behind each a line of standard input is waited for, whatever it says: it tells
 that their blocks have moved. With --go-on nothing is waited for. With --from K
-the first setting is setting K, set as from a reset; K is 0 to 4095.
+the first setting is setting K, set as from a reset; K is 0 to 999999999.
 
 The last line says how it ended. The switches are left as they are:
   driven settings S            all S settings stood, one after the other
@@ -283,7 +261,7 @@ memory, 2 the words fit no command, 3 standard output couldn't be written.",
 };
 
 /// What help says of `c004`.
-const C004: CommandHelp = CommandHelp {
+pub(crate) const C004: CommandHelp = CommandHelp {
     about: "Is a C004 switch: configuration bytes in, answers to enquiries out",
     example: "\
 Example: input 3 feeds output 17, which is then enquired:
@@ -310,11 +288,9 @@ no memory, 2 the words fit no command, 3 an answer couldn't be written.",
 };
 
 /// What help says of `direct`.
-const DIRECT: CommandHelp = CommandHelp {
+pub(crate) const DIRECT: CommandHelp = CommandHelp {
     about: "Makes a batch of moves: which are pushed and which are pulled, for the fewest settings",
-    example: "\
-Example:
-  ./exchange direct examples/patterns/gather.moves.txt",
+    example: "Example:\n  ./exchange direct examples/patterns/gather.moves.txt",
     notes: "\
 MOVES is a text of moves: the line `moves N`, then N lines of the form
   move M b N c   block b of module M goes to block c of module N
@@ -340,7 +316,7 @@ Status: 0 a batch was printed, 1 the moves were refused or there was no memory,
 };
 
 /// What help says of `apply`.
-const APPLY: CommandHelp = CommandHelp {
+pub(crate) const APPLY: CommandHelp = CommandHelp {
     about: "Runs a batch over your own words: an image in, the image with the blocks placed out",
     example: "\
 Example:
@@ -367,11 +343,9 @@ words fit no command, 3 the answer couldn't be written.",
 };
 
 /// What help says of `run`.
-const RUN: CommandHelp = CommandHelp {
+pub(crate) const RUN: CommandHelp = CommandHelp {
     about: "Runs a batch on a rack: sets the switches, moves the blocks and reports",
-    example: "\
-Example:
-  ./exchange run 3x2x2 examples/two-pushes.txt",
+    example: "Example:\n  ./exchange run 3x2x2 examples/two-pushes.txt",
     notes: "\
 SHAPE is MxKxW: M modules, from 1 to 32, each of K blocks, from 1 to 64, each
 of W words, from 1 to 256. BATCH is a batch text, in the form that
@@ -409,11 +383,9 @@ words fit no command, 3 the answer couldn't be written.",
 };
 
 /// What help says of `serve`.
-const SERVE: CommandHelp = CommandHelp {
+pub(crate) const SERVE: CommandHelp = CommandHelp {
     about: "Serves scripts side by side on one exchange, and prints the replies to each",
-    example: "\
-Example:
-  ./exchange serve 2x2x2 examples/look.session.txt",
+    example: "Example:\n  ./exchange serve 2x2x2 examples/look.session.txt",
     notes: "\
 SHAPE is MxKxW, in the form that `exchange run --help` shows. Each SCRIPT is a
 file of session lines; 1 to 16 of them are served at once, each in a thread of
@@ -479,7 +451,7 @@ answer, the record or the image couldn't be written.",
 };
 
 /// What help says of `host`.
-const HOST: CommandHelp = CommandHelp {
+pub(crate) const HOST: CommandHelp = CommandHelp {
     about: "Serves live clients side by side on one exchange, each through two pipes of its own",
     example: "\
 Example: two clients on one rack. Make the pipes, and start the host:
@@ -532,7 +504,7 @@ command, 3 the answer, the record or the image couldn't be written.",
 };
 
 /// What help says of `talk`.
-const TALK: CommandHelp = CommandHelp {
+pub(crate) const TALK: CommandHelp = CommandHelp {
     about: "Serves you on the terminal: a session of one client, line by line",
     example: "\
 Example:
@@ -563,11 +535,9 @@ record or the image couldn't be written.",
 };
 
 /// What help says of `replay`.
-const REPLAY: CommandHelp = CommandHelp {
+pub(crate) const REPLAY: CommandHelp = CommandHelp {
     about: "Replays a record: makes its calls again, compares each reply, and prints the image left",
-    example: "\
-Example:
-  ./exchange replay 2x2x2 examples/two-clients.record.txt > after.img",
+    example: "Example:\n  ./exchange replay 2x2x2 examples/two-clients.record.txt > after.img",
     notes: "\
 SHAPE is MxKxW, in the form that `exchange run --help` shows. RECORD is what
 --record of `exchange serve` wrote, or of `host` or `talk`: the line `record N`,
@@ -608,9 +578,7 @@ memory, 2 the words fit no command, 3 the answer couldn't be written.",
 /// What help says of the program, below the commands too.
 pub(crate) const PROGRAM: CommandHelp = CommandHelp {
     about: "Plans block transfers between transputer modules that C004 crossbars join",
-    example: "\
-Example:
-  ./exchange run 3x2x2 examples/two-pushes.txt",
+    example: "Example:\n  ./exchange run 3x2x2 examples/two-pushes.txt",
     notes: "\
 `exchange plan --help` shows the form of a batch. Where a file's name is `-`,
 standard input is read; of a command's files one at most may be that. How many
@@ -640,14 +608,14 @@ pub(crate) fn help_on(argument: Argument) -> &'static str {
         Argument::Record => "The file of the record, or - for standard input",
         Argument::Scripts => "A file of session lines, or - for standard input",
         Argument::Clients => "The name of a client, whose files are CLIENT.in and CLIENT.out",
-        Argument::ImageOption =>
+        Argument::ImageIn =>
             "The file of the words before, an image as `exchange apply --help` shows",
         Argument::RecordOut => "The file for the record of all sessions' calls",
         Argument::ImageOut => "The file for the image of the words behind all sessions",
         Argument::Settings => "The settings to draw, A to B, counted from 0",
-        Argument::ScheduleOption => "The file of its schedule, or - for standard input",
-        Argument::WiringOption => "The file of the board's wiring, or - for standard input",
-        Argument::FromOption => "The setting of the schedule to begin with, counted from 0",
+        Argument::Scheduled => "The file of its schedule, or - for standard input",
+        Argument::Wiring => "The file of the board's wiring, or - for standard input",
+        Argument::First => "The setting of the schedule to begin with, counted from 0",
         Argument::Module => "The module whose orders are wanted, from 0 to 31",
         Argument::Steady => "Plan so that the switch changes seldom",
         Argument::GoOn => "Wait for no line of standard input behind a setting",

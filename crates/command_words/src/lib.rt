@@ -8,13 +8,11 @@
 //! done (`IsFaultIn`). Lack of memory is told as such. What help says no contract tells.
 #![tactic(auto)]
 
-mod clients;
 mod commands;
 mod faults;
 mod files;
 mod grammar;
 mod help;
-mod input;
 mod jobs;
 mod limits;
 mod outputs;

@@ -10,9 +10,9 @@ pub const MAX_CLIENTS: usize = MAX_SESSIONS;
 /// The last module that a rack may have.
 pub(crate) const LAST_MODULE: usize = MAX_MODULES - 1;
 
-/// The last setting that a schedule can have, counted from 0: it has at most as many settings as a
-/// batch has transfers.
-pub(crate) const LAST_SETTING: usize = 4095;
+/// The largest number that a line of a text may have, and so no schedule has as many settings and
+/// one more.
+pub(crate) const MAX_NUMBER: usize = 999_999_999;
 
 /// The program's version.
 pub(crate) const VERSION: &str = "1.0.0";

@@ -1,8 +1,11 @@
-//! Whether the files that a job names may be those that it reads and writes.
+//! Whether the files that a job names may be those that it reads and writes, and its clients have
+//! names.
 
 ghost use Rattle.std.specs.Prelude.{◌↔◌, All, IsTrue};
-ghost use Rattle.command_words.specs.Jobs.{HaveNames, HaveTwoNames, MayHaveName};
+ghost use Rattle.command_words.specs.Jobs.{HaveNames, HaveTwoNames, IsClientName, MayHaveName, clients_of};
 
+use crate::jobs::Job;
+use crate::text::Text;
 use crate::uses::{Access, FileUse};
 
 /// Whether the file isn't both written and named `-`.
@@ -16,7 +19,8 @@ fn may_have_name(file: &FileUse) -> bool
 fn have_two_names(one: &FileUse, other: &FileUse) -> bool
     ensures { IsTrue result ↔ HaveTwoNames one.now other.now }
 {
-    !(one.access.excludes(other.access) && one.name.as_str() == other.name.as_str())
+    let are_two = one.access.excludes(other.access) || one.name.is_input();
+    !(are_two && one.name.as_str() == other.name.as_str())
 }
 
 /// Whether a file and each of others have two names, where they have to be two.
@@ -31,7 +35,8 @@ fn is_apart(file: &FileUse, others: &[FileUse]) -> bool
     true
 }
 
-/// Whether nothing is written that is read, or written too, as far as names say.
+/// Whether nothing is written that is read, or written too, and standard input is read once, as far
+/// as names say.
 pub(crate) fn have_names(files: &[FileUse]) -> bool
     ensures { IsTrue result ↔ HaveNames files.now }
 {
@@ -41,4 +46,34 @@ pub(crate) fn have_names(files: &[FileUse]) -> bool
         }
     }
     true
+}
+
+/// Whether a client may have this name: it isn't empty, and stands in one line.
+fn is_client_name(name: &Text) -> bool
+    ensures { IsTrue result ↔ IsClientName name.now }
+{
+    let bytes = name.as_str().as_bytes();
+    !bytes.is_empty() && !bytes.contains(&b'\n')
+}
+
+/// Whether clients may have these names.
+fn are_client_names(names: &[Text]) -> bool
+    ensures { IsTrue result ↔ All IsClientName names.now }
+{
+    for name in names {
+        if !is_client_name(name) {
+            return false;
+        }
+    }
+    true
+}
+
+/// Whether each of a job's clients has a name that it may have.
+pub(crate) fn names_clients(job: &Job) -> bool
+    ensures { IsTrue result ↔ All IsClientName (clients_of job.now) }
+{
+    match job {
+        Job::Host { clients, .. } => are_client_names(clients.as_slice()),
+        _ => true,
+    }
 }

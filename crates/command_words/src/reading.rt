@@ -3,71 +3,29 @@
 ghost use Rattle.std.specs.Prelude.{◌≡◌, ◌≢◌, ◌↔◌, IfErr, IfOk, IsTrue, OnOk};
 ghost use Rattle.command_words.specs.declared.jobs.Job.{Job};
 ghost use Rattle.command_words.specs.declared.jobs.Request.{Request};
-ghost use Rattle.command_words.specs.declared.jobs.ArgumentsFault.TheVariants.{NoMemory};
-ghost use Rattle.command_words.specs.declared.reading.Lack.TheVariants.{Memory};
-ghost use Rattle.command_words.specs.Jobs.{AskFor, HasFirst, HasModule, HasOption, HasPlanning, HasServed, HasRack, HasSource, HasText, HasWorkers, GivesRequest, IsFaultIn, IsGiven, IsMistake, IsReading, IsReadJob, IsRequest, IsTaken, IsWithinLimits, MayBeDone, rows_in, texts_of};
+ghost use Rattle.command_words.specs.declared.faults.Lack.TheVariants.{Memory};
+ghost use Rattle.command_words.specs.Jobs.{AskFor, HasFirst, HasNumeral, HasOption, HasPlanning, HasServed, HasRack, HasSource, HasText, HasWorkers, GivesRequest, IsFaultIn, IsGiven, IsReading, IsReadJob, IsRequest, IsTaken, IsWithinLimits, MayBeDone, rows_in, texts_of};
 
-use crate::clients::names_clients;
 use crate::commands::CommandName;
-use crate::faults::{
-    misnamed, missing, named_twice, overwritten, planned_schedule, steady_workers,
-};
+use crate::faults::{Lack, fault_of};
 use crate::grammar::matches_of;
-use crate::input::reads_input_once;
 use crate::jobs::{ArgumentsFault, Job, Request, SharedRack};
-use crate::limits::{LAST_MODULE, LAST_SETTING, MAX_CLIENTS};
-use crate::outputs::have_names;
+use crate::limits::{LAST_MODULE, MAX_CLIENTS, MAX_NUMBER};
+use crate::outputs::{have_names, names_clients};
 use crate::text::Text;
 use crate::text_list::TextList;
 use crate::uses::file_uses;
 use clap::ArgMatches;
 use clap::parser::ValueSource;
-use exchange_limits::WorkerCount;
+use exchange_limits::{MAX_WORKERS, WorkerCount};
 use plan_answers::{Planning, Source};
 use std::alloc::{AllocError, Global};
-
-/// What a job lacks whose arguments clap has let through.
-#[derive(Clone, Copy)]
-enum Lack {
-    /// An argument that has to be there. Clap has refused such arguments before.
-    Word,
-    /// A choice between `--steady` and `--workers`.
-    Planning,
-    /// A choice between a schedule's file and these.
-    Source,
-    /// Memory.
-    Memory,
-}
-
-impl From<AllocError> for Lack {
-    ghost from_gives = { λ _ lack. lack ≡ Memory };
-
-    fn from(_error: AllocError) -> Lack {
-        Lack::Memory
-    }
-}
-
-/// The fault of what a job lacks.
-fn fault_of(alloc: Global, lack: Lack) -> ArgumentsFault
-    ensures memory { lack ≡ Memory → result ≡ NoMemory }
-    ensures mistake { IsMistake result }
-{
-    match lack {
-        Lack::Word => missing(alloc),
-        Lack::Planning => steady_workers(alloc),
-        Lack::Source => planned_schedule(alloc),
-        Lack::Memory => ArgumentsFault::NoMemory,
-    }
-}
 
 /// The text of an argument that has to be there.
 fn text_of(alloc: Global, matches: &ArgMatches<'_>, id: &str) -> Result<Text, Lack>
     ensures { IsReading (HasText id.now (rows_in matches.now)) result }
 {
-    match matches.get_str(id) {
-        Some(text) => Ok(Text::of(alloc, text)?),
-        None => Err(Lack::Word),
-    }
+    option_of(alloc, matches, id)?.ok_or(Lack::Word)
 }
 
 /// The text of an option, where it is there.
@@ -92,40 +50,34 @@ fn served_of(alloc: Global, matches: &ArgMatches<'_>, id: &str) -> Result<TextLi
     }
 }
 
+/// The number of an option, up to the last, where it is there.
+fn number_of(matches: &ArgMatches<'_>, id: &str, last: usize) -> Result<Option<usize>, Lack>
+    ensures { IsReading (HasNumeral id.now last (rows_in matches.now)) result }
+{
+    if matches.get_str(id).is_none() {
+        return Ok(None);
+    }
+    match matches.get_one::<usize>(id) {
+        Some(number) if number <= last => Ok(Some(number)),
+        _ => Err(Lack::Word),
+    }
+}
+
 /// The number of `--workers`.
 fn workers_of(matches: &ArgMatches<'_>) -> Result<WorkerCount, Lack>
     ensures { IsReading (HasWorkers (rows_in matches.now)) result }
 {
-    let Some(number) = matches.get_one::<usize>("workers") else {
-        return Err(Lack::Word);
-    };
-    WorkerCount::new(number).ok_or(Lack::Word)
-}
-
-/// The number of `--module`, where it is there.
-fn module_of(matches: &ArgMatches<'_>) -> Result<Option<usize>, Lack>
-    ensures { IsReading (HasModule (rows_in matches.now)) result }
-{
-    if matches.get_str("module").is_none() {
-        return Ok(None);
+    match number_of(matches, "workers", MAX_WORKERS)? {
+        Some(number) => WorkerCount::new(number).ok_or(Lack::Word),
+        None => Err(Lack::Word),
     }
-    let Some(number) = matches.get_one::<usize>("module") else {
-        return Err(Lack::Word);
-    };
-    if number > LAST_MODULE {
-        return Err(Lack::Word);
-    }
-    Ok(Some(number))
 }
 
 /// The number of `--from`.
 fn first_of(matches: &ArgMatches<'_>) -> Result<usize, Lack>
     ensures { IsReading (HasFirst (rows_in matches.now)) result }
 {
-    match matches.get_one::<usize>("from") {
-        Some(number) if number <= LAST_SETTING => Ok(number),
-        _ => Err(Lack::Word),
-    }
+    number_of(matches, "from", MAX_NUMBER)?.ok_or(Lack::Word)
 }
 
 /// Whether the arguments themselves give an option.
@@ -173,173 +125,82 @@ fn rack_of(alloc: Global, matches: &ArgMatches<'_>) -> Result<SharedRack, Lack>
     })
 }
 
-/// The job of `plan`.
-fn plan_job(alloc: Global, found: &ArgMatches<'_>) -> Result<Job, Lack>
-    ensures { IsReadJob CommandName.Plan (rows_in found.now) result }
-{
-    Ok(Job::Plan {
-        file: text_of(alloc, found, "FILE")?,
-        planning: planning_of(found)?,
-        workers: workers_of(found)?,
-    })
-}
-
-/// The job of `check`.
-fn check_job(alloc: Global, found: &ArgMatches<'_>) -> Result<Job, Lack>
-    ensures { IsReadJob CommandName.Check (rows_in found.now) result }
-{
-    Ok(Job::Check {
-        batch: text_of(alloc, found, "BATCH")?,
-        schedule: text_of(alloc, found, "SCHEDULE")?,
-    })
-}
-
-/// The job of `draw`.
-fn draw_job(alloc: Global, found: &ArgMatches<'_>) -> Result<Job, Lack>
-    ensures { IsReadJob CommandName.Draw (rows_in found.now) result }
-{
-    Ok(Job::Draw {
-        batch: text_of(alloc, found, "BATCH")?,
-        schedule: text_of(alloc, found, "SCHEDULE")?,
-        settings: option_of(alloc, found, "settings")?,
-    })
-}
-
-/// The job of `switch`.
-fn switch_job(alloc: Global, found: &ArgMatches<'_>) -> Result<Job, Lack>
-    ensures { IsReadJob CommandName.Switch (rows_in found.now) result }
-{
-    Ok(Job::Switch {
-        batch: text_of(alloc, found, "BATCH")?,
-        source: source_of(alloc, found)?,
-        wiring: option_of(alloc, found, "wiring")?,
-        workers: workers_of(found)?,
-    })
-}
-
-/// The job of `orders`.
-fn orders_job(alloc: Global, found: &ArgMatches<'_>) -> Result<Job, Lack>
-    ensures { IsReadJob CommandName.Orders (rows_in found.now) result }
-{
-    Ok(Job::Orders {
-        batch: text_of(alloc, found, "BATCH")?,
-        source: source_of(alloc, found)?,
-        module: module_of(found)?,
-        workers: workers_of(found)?,
-    })
-}
-
-/// The job of `drive`.
-fn drive_job(alloc: Global, found: &ArgMatches<'_>) -> Result<Job, Lack>
-    ensures { IsReadJob CommandName.Drive (rows_in found.now) result }
-{
-    Ok(Job::Drive {
-        batch: text_of(alloc, found, "BATCH")?,
-        port: text_of(alloc, found, "PORT")?,
-        port_b: option_of(alloc, found, "PORT_B")?,
-        source: source_of(alloc, found)?,
-        wiring: option_of(alloc, found, "wiring")?,
-        first: first_of(found)?,
-        goes_on: is_given(found, "go-on"),
-        workers: workers_of(found)?,
-    })
-}
-
-/// The job of `direct`.
-fn direct_job(alloc: Global, found: &ArgMatches<'_>) -> Result<Job, Lack>
-    ensures { IsReadJob CommandName.Direct (rows_in found.now) result }
-{
-    Ok(Job::Direct {
-        moves: text_of(alloc, found, "MOVES")?,
-    })
-}
-
-/// The job of `apply`.
-fn apply_job(alloc: Global, found: &ArgMatches<'_>) -> Result<Job, Lack>
-    ensures { IsReadJob CommandName.Apply (rows_in found.now) result }
-{
-    Ok(Job::Apply {
-        shape: text_of(alloc, found, "SHAPE")?,
-        batch: text_of(alloc, found, "BATCH")?,
-        image: text_of(alloc, found, "IMAGE")?,
-        workers: workers_of(found)?,
-    })
-}
-
-/// The job of `run`.
-fn run_job(alloc: Global, found: &ArgMatches<'_>) -> Result<Job, Lack>
-    ensures { IsReadJob CommandName.Run (rows_in found.now) result }
-{
-    Ok(Job::Run {
-        shape: text_of(alloc, found, "SHAPE")?,
-        batch: text_of(alloc, found, "BATCH")?,
-        source: source_of(alloc, found)?,
-        image: option_of(alloc, found, "image")?,
-        workers: workers_of(found)?,
-    })
-}
-
-/// The job of `serve`.
-fn serve_job(alloc: Global, found: &ArgMatches<'_>) -> Result<Job, Lack>
-    ensures { IsReadJob CommandName.Serve (rows_in found.now) result }
-{
-    Ok(Job::Serve {
-        rack: rack_of(alloc, found)?,
-        scripts: served_of(alloc, found, "SCRIPT")?,
-        workers: workers_of(found)?,
-    })
-}
-
-/// The job of `host`.
-fn host_job(alloc: Global, found: &ArgMatches<'_>) -> Result<Job, Lack>
-    ensures { IsReadJob CommandName.Host (rows_in found.now) result }
-{
-    Ok(Job::Host {
-        rack: rack_of(alloc, found)?,
-        clients: served_of(alloc, found, "CLIENT")?,
-        workers: workers_of(found)?,
-    })
-}
-
-/// The job of `talk`.
-fn talk_job(alloc: Global, found: &ArgMatches<'_>) -> Result<Job, Lack>
-    ensures { IsReadJob CommandName.Talk (rows_in found.now) result }
-{
-    Ok(Job::Talk {
-        rack: rack_of(alloc, found)?,
-    })
-}
-
-/// The job of `replay`.
-fn replay_job(alloc: Global, found: &ArgMatches<'_>) -> Result<Job, Lack>
-    ensures { IsReadJob CommandName.Replay (rows_in found.now) result }
-{
-    Ok(Job::Replay {
-        shape: text_of(alloc, found, "SHAPE")?,
-        recorded: text_of(alloc, found, "RECORD")?,
-        image: option_of(alloc, found, "image")?,
-    })
-}
-
 /// The job of a command by its matches.
 fn job_of(alloc: Global, name: CommandName, found: &ArgMatches<'_>) -> Result<Job, Lack>
     ensures { IsReadJob name (rows_in found.now) result }
 {
     match name {
-        CommandName::Plan => plan_job(alloc, found),
-        CommandName::Check => check_job(alloc, found),
-        CommandName::Draw => draw_job(alloc, found),
-        CommandName::Switch => switch_job(alloc, found),
-        CommandName::Orders => orders_job(alloc, found),
-        CommandName::Drive => drive_job(alloc, found),
+        CommandName::Plan => Ok(Job::Plan {
+            file: text_of(alloc, found, "FILE")?,
+            planning: planning_of(found)?,
+            workers: workers_of(found)?,
+        }),
+        CommandName::Check => Ok(Job::Check {
+            batch: text_of(alloc, found, "BATCH")?,
+            schedule: text_of(alloc, found, "SCHEDULE")?,
+        }),
+        CommandName::Draw => Ok(Job::Draw {
+            batch: text_of(alloc, found, "BATCH")?,
+            schedule: text_of(alloc, found, "SCHEDULE")?,
+            settings: option_of(alloc, found, "settings")?,
+        }),
+        CommandName::Switch => Ok(Job::Switch {
+            batch: text_of(alloc, found, "BATCH")?,
+            source: source_of(alloc, found)?,
+            wiring: option_of(alloc, found, "wiring")?,
+            workers: workers_of(found)?,
+        }),
+        CommandName::Orders => Ok(Job::Orders {
+            batch: text_of(alloc, found, "BATCH")?,
+            source: source_of(alloc, found)?,
+            module: number_of(found, "module", LAST_MODULE)?,
+            workers: workers_of(found)?,
+        }),
+        CommandName::Drive => Ok(Job::Drive {
+            batch: text_of(alloc, found, "BATCH")?,
+            port: text_of(alloc, found, "PORT")?,
+            port_b: option_of(alloc, found, "PORT_B")?,
+            source: source_of(alloc, found)?,
+            wiring: option_of(alloc, found, "wiring")?,
+            first: first_of(found)?,
+            goes_on: is_given(found, "go-on"),
+            workers: workers_of(found)?,
+        }),
         CommandName::C004 => Ok(Job::C004),
-        CommandName::Direct => direct_job(alloc, found),
-        CommandName::Apply => apply_job(alloc, found),
-        CommandName::Run => run_job(alloc, found),
-        CommandName::Serve => serve_job(alloc, found),
-        CommandName::Host => host_job(alloc, found),
-        CommandName::Talk => talk_job(alloc, found),
-        CommandName::Replay => replay_job(alloc, found),
+        CommandName::Direct => Ok(Job::Direct {
+            moves: text_of(alloc, found, "MOVES")?,
+        }),
+        CommandName::Apply => Ok(Job::Apply {
+            shape: text_of(alloc, found, "SHAPE")?,
+            batch: text_of(alloc, found, "BATCH")?,
+            image: text_of(alloc, found, "IMAGE")?,
+            workers: workers_of(found)?,
+        }),
+        CommandName::Run => Ok(Job::Run {
+            shape: text_of(alloc, found, "SHAPE")?,
+            batch: text_of(alloc, found, "BATCH")?,
+            source: source_of(alloc, found)?,
+            image: option_of(alloc, found, "image")?,
+            workers: workers_of(found)?,
+        }),
+        CommandName::Serve => Ok(Job::Serve {
+            rack: rack_of(alloc, found)?,
+            scripts: served_of(alloc, found, "SCRIPT")?,
+            workers: workers_of(found)?,
+        }),
+        CommandName::Host => Ok(Job::Host {
+            rack: rack_of(alloc, found)?,
+            clients: served_of(alloc, found, "CLIENT")?,
+            workers: workers_of(found)?,
+        }),
+        CommandName::Talk => Ok(Job::Talk {
+            rack: rack_of(alloc, found)?,
+        }),
+        CommandName::Replay => Ok(Job::Replay {
+            shape: text_of(alloc, found, "SHAPE")?,
+            recorded: text_of(alloc, found, "RECORD")?,
+            image: option_of(alloc, found, "image")?,
+        }),
     }
 }
 
@@ -370,29 +231,25 @@ fn request_named(alloc: Global, arguments: &[String]) -> Result<Request, Argumen
             Ok(request) => Ok(request),
             Err(lack) => Err(fault_of(alloc, lack)),
         },
-        None => Err(missing(alloc)),
+        None => Err(fault_of(alloc, Lack::Word)),
     }
 }
 
-/// Whether a job may be done: its fault, where several of its files are standard input, its clients
-/// can't be told apart, or what is written would go to a file that is read or written too, or to
-/// standard output.
-fn judged(alloc: Global, job: &Job) -> Result<(), ArgumentsFault>
+/// Whether a job may be done: what it lacks, where a client has no name that is one, or a file is
+/// named twice that can't be.
+fn judge(alloc: Global, job: &Job) -> Result<(), Lack>
     ensures done { OnOk result (MayBeDone job.now) }
-    ensures refused { IfErr result (λ fault. fault ≢ NoMemory → MayBeDone job.now → ⊥) }
-    ensures mistake { IfErr result IsMistake }
+    ensures refused { IfErr result (λ lack. lack ≢ Memory → MayBeDone job.now → ⊥) }
 {
-    if !reads_input_once(job) {
-        return Err(named_twice(alloc));
-    }
     if !names_clients(job) {
-        return Err(misnamed(alloc));
+        return Err(Lack::Clients);
     }
     let files = file_uses(alloc, job)?;
-    if !have_names(files.as_slice()) {
-        return Err(overwritten(alloc));
+    if have_names(files.as_slice()) {
+        return Ok(());
     }
-    Ok(())
+    let inputs = files.iter().filter(|file| file.name.is_input()).count();
+    Err(if inputs > 1 { Lack::Input } else { Lack::Files })
 }
 
 /// Reads the program's arguments, the first of which is its own name.
@@ -413,11 +270,11 @@ pub fn read_arguments(alloc: Global, arguments: &[String]) -> Result<Request, Ar
     let request = request_named(alloc, arguments)?;
     // A `?` would take a refused request apart here, which makes the proof long; `drop` does it
     // elsewhere.
-    match judged(alloc, &request.job) {
+    match judge(alloc, &request.job) {
         Ok(()) => Ok(request),
-        Err(fault) => {
+        Err(lack) => {
             drop(request);
-            Err(fault)
+            Err(fault_of(alloc, lack))
         }
     }
 }

@@ -1,8 +1,8 @@
 //! The files that a job names, and what it does with each.
 
-ghost use Rattle.std.specs.Prelude.{◌≡◌, ◌↔◌, ◌++◌, ◌∷◌, [], IfOk, IsTrue, OnOk, flat_map, if◌then◌else◌, map, option_to_list};
+ghost use Rattle.std.specs.Prelude.{◌≡◌, ◌↔◌, ◌++◌, ◌∷◌, [], IfOk, IsTrue, OnOk, flat_map, map, option_to_list};
 ghost use Rattle.plan_answers.specs.Lent.{bytes_of};
-ghost use Rattle.command_words.specs.Jobs.{Exclude, client_files, file, files_beside, files_read, input_name, kept_files, port_files, file_uses as the_uses};
+ghost use Rattle.command_words.specs.Jobs.{Exclude, client_files, file, files_beside, files_read, kept_files, port_files, file_uses as the_uses};
 
 use crate::files::lent;
 use crate::jobs::{Job, SharedRack};
@@ -57,28 +57,22 @@ impl Model for Gathered {
 }
 
 impl Gathered {
-    /// A file of this name.
-    fn add_text(&mut self, access: Access, name: Text) -> Result<(), AllocError>
-        ensures { OnOk result (self.new ≡ self.old ++ file access name ∷ []) }
-    {
-        self.uses.push(FileUse { name, access })?;
-        Ok(())
-    }
-
-    /// A file of this name.
-    fn add(&mut self, access: Access, name: &Text) -> Result<(), AllocError>
-        ensures { OnOk result (self.new ≡ self.old ++ file access name.now ∷ []) }
-    {
-        let name = Text::of(self.alloc, name.as_str())?;
-        self.add_text(access, name)
-    }
-
     /// A file of this name with an ending.
     fn add_ending(&mut self, access: Access, name: &Text, ending: &str) -> Result<(), AllocError>
         ensures { OnOk result (self.new ≡ self.old ++ file access (name.now ++ ending.now) ∷ []) }
     {
         let name = name.with_ending(self.alloc, ending)?;
-        self.add_text(access, name)
+        self.uses.push(FileUse { name, access })?;
+        Ok(())
+    }
+
+    /// A file of this name.
+    fn add(&mut self, access: Access, name: &str) -> Result<(), AllocError>
+        ensures { OnOk result (self.new ≡ self.old ++ file access name.now ∷ []) }
+    {
+        let name = Text::of(self.alloc, name)?;
+        self.uses.push(FileUse { name, access })?;
+        Ok(())
     }
 
     /// A file of this name, where there is one.
@@ -87,7 +81,7 @@ impl Gathered {
             (self.new ≡ self.old ++ map (file access) (option_to_list (bytes_of name.entry))) }
     {
         match name {
-            Some(name) => self.add(access, name),
+            Some(name) => self.add(access, name.as_str()),
             None => Ok(()),
         }
     }
@@ -97,21 +91,9 @@ impl Gathered {
         ensures { OnOk result (self.new ≡ self.old ++ map (file Access.Read) names.now) }
     {
         for name in names {
-            self.add(Access::Read, name)?;
+            self.add(Access::Read, name.as_str())?;
         }
         Ok(())
-    }
-
-    /// Standard input, where it is heard.
-    fn read_input(&mut self, is_heard: bool) -> Result<(), AllocError>
-        ensures { OnOk result (self.new
-            ≡ self.old ++ map (file Access.Read) (if is_heard then input_name ∷ [] else [])) }
-    {
-        if !is_heard {
-            return Ok(());
-        }
-        let name = Text::of(self.alloc, "-")?;
-        self.add_text(Access::Read, name)
     }
 
     /// The files that a job reads itself, in their order.
@@ -124,7 +106,10 @@ impl Gathered {
         self.add_option(Access::Read, files.other)?;
         self.add_option(Access::Read, files.wiring)?;
         self.read_all(files.scripts)?;
-        self.read_input(job.hears_input())
+        if !job.hears_input() {
+            return Ok(());
+        }
+        self.add(Access::Read, "-")
     }
 
     /// The files for the record of sessions and for the image that they leave.
@@ -146,11 +131,15 @@ impl Gathered {
         Ok(())
     }
 
-    /// The files of a port.
-    fn add_port(&mut self, port: &Text) -> Result<(), AllocError>
-        ensures { OnOk result (self.new ≡ self.old ++ port_files port.now) }
+    /// The files of a port, where there is one.
+    fn add_port(&mut self, port: Option<&Text>) -> Result<(), AllocError>
+        ensures { OnOk result
+            (self.new ≡ self.old ++ flat_map port_files (option_to_list (bytes_of port.entry))) }
     {
-        self.add(Access::Port, port)?;
+        let Some(port) = port else {
+            return Ok(());
+        };
+        self.add(Access::Port, port.as_str())?;
         self.add_ending(Access::Port, port, ".in")?;
         self.add_ending(Access::Read, port, ".out")
     }
@@ -166,11 +155,8 @@ impl Gathered {
                 self.add_clients(clients.as_slice())
             }
             Job::Drive { port, port_b, .. } => {
-                self.add_port(port)?;
-                match port_b {
-                    Some(port) => self.add_port(port),
-                    None => Ok(()),
-                }
+                self.add_port(Some(port))?;
+                self.add_port(lent(port_b))
             }
             _ => Ok(()),
         }

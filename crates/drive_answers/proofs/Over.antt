@@ -1,5 +1,5 @@
 -- A drive over ports that were opened for it and given back.
-use Rattle.std.proofs.Common.{◌≡◌, ◌<◌, [], ℕ, List, Some, ap, subst, ◌∙◌}
+use Rattle.std.proofs.Common.{◌≡◌, ◌<◌, [], ℕ, List, Option, Some, ap, subst, ◌∙◌}
 use Rattle.batch.specs.declared.transfer.Transfer.{Transfer}
 use Rattle.crossbar.specs.declared.port.ConfigPort.{Ghosts}
 use Rattle.switch_driver.specs.Driving.{HasDriveCause, IsDriven}
@@ -8,7 +8,15 @@ use Rattle.switch_driver.specs.declared.driving.Driven.TheVariants.{Completed, S
 use Rattle.switch_driver.specs.declared.fault.SettingFault.TheVariants.{Port, Switch}
 use Rattle.switch_driver.specs.declared.stage.Cue.{Cue}
 use Rattle.switch_settings.specs.declared.rack_wiring.RackWiring.{RackWiring}
-use Rattle.drive_answers.specs.Answers.{HasPortFailed, IsDrivenOver}
+use Rattle.board_wiring.specs.Boards.{IsBoardOf, IsFilled, extent_of}
+use Rattle.board_wiring.specs.Lacks.{HasWaysOn}
+use Rattle.board_wiring.specs.declared.board.Board.{Board}
+use Rattle.crossbar.specs.declared.board.BoardWiring.{BoardWiring}
+use Rattle.plan_answers.specs.Schedules.{IsScheduleFrom}
+use Rattle.plan_answers.specs.declared.source.Source.{Source}
+use Rattle.drive_answers.specs.Answers.{HasFailed, HasFailedOver, HasPortFailed, IsDrivenOver, rack_for}
+use Rattle.drive_answers.specs.declared.fault.DriveFault.{DriveFault}
+use Rattle.drive_answers.specs.declared.fault.DriveFault.TheVariants.{Untold as NotTold, NoMemory}
 use Rattle.drive_answers.specs.Ways.{Names, Ways, given_back, opened_by}
 
 -- ports that hadn't failed before
@@ -32,3 +40,10 @@ driven_over hears seen rack batch settings first how names was opened opens old 
       went = rw fresh at went;
       cause = port_failed seen rack batch settings first how old new none cause;
     }
+
+-- where there is no answer, of a schedule of the batch that the text denotes
+pub failed : {S : Type 0} (hears : S → ℕ → List ℕ → Cue → S → Type 0) (source : Source (List ℕ)) (text : List ℕ) (wiring : Option (List ℕ)) (first : ℕ) (names : Names) (was opens : Ways) (told tells : S) (board : Option Board) (filled : Option BoardWiring) (batch : List Transfer) (settings : List (List ℕ))
+    → IsBoardOf wiring board → IsScheduleFrom source (extent_of board) text batch settings → HasWaysOn board batch → IsFilled board filled → (fault : DriveFault) → HasFailedOver hears (rack_for filled batch) batch settings first names was opens told tells fault
+    → HasFailed hears source text wiring first names was opens told tells fault
+failed hears source text wiring first names was opens told tells board filled batch settings is_board from has fills NotTold over = (board, filled, batch, settings, is_board, from, has, fills, over)
+failed hears source text wiring first names was opens told tells board filled batch settings is_board from has fills NoMemory over = over

@@ -46,9 +46,9 @@ told_tried {I} {O} remaining contents rack batch settings first names was opens 
 pub told_answer : {I O : Type 0} (remaining : I → Option (List ℕ)) (contents : O → Option (List ℕ)) (source : Source (List ℕ)) (batch_text : List ℕ) (wiring : Option (List ℕ)) (first : ℕ) (names : Names) (was opens : Ways) (told tells : Lines I O) (printed : Printed)
     → IsDriveAnswer (λ a n ns c b. HasToldLine remaining contents n ns c a b) source batch_text wiring first names was opens told tells printed
     → AsText remaining contents told tells (λ d. IsDriveAnswer (TellsLine told.waits) source batch_text wiring first names was opens (untold remaining told) d printed)
-told_answer {I} {O} remaining contents source batch_text wiring first names was opens told tells printed (tried board batch settings is_board from start is) =
-    let so = told_tried remaining contents (rack_for board batch) batch settings first names was opens told tells printed is in
-    record { text = so.text; appended = so.appended; loan = so.loan; waits = so.waits; is = tried board batch settings is_board from start so.is }
+told_answer {I} {O} remaining contents source batch_text wiring first names was opens told tells printed (tried board filled batch settings is_board from has fills start is) =
+    let so = told_tried remaining contents (rack_for filled batch) batch settings first names was opens told tells printed is in
+    record { text = so.text; appended = so.appended; loan = so.loan; waits = so.waits; is = tried board filled batch settings is_board from has fills start so.is }
 told_answer {I} {O} remaining contents source batch_text wiring first names was opens told tells printed (wrong refusal why refused same none) =
     none_told remaining contents told tells _ same (wrong refusal why refused refl none)
 
@@ -56,8 +56,8 @@ told_answer {I} {O} remaining contents source batch_text wiring first names was 
 pub told_failure : {I O : Type 0} (remaining : I → Option (List ℕ)) (contents : O → Option (List ℕ)) (source : Source (List ℕ)) (batch_text : List ℕ) (wiring : Option (List ℕ)) (first : ℕ) (names : Names) (was opens : Ways) (told tells : Lines I O) (fault : DriveFault)
     → HasFailed (λ a n ns c b. HasToldLine remaining contents n ns c a b) source batch_text wiring first names was opens told tells fault
     → AsText remaining contents told tells (λ d. HasFailed (TellsLine told.waits) source batch_text wiring first names was opens (untold remaining told) d fault)
-told_failure {I} {O} remaining contents source batch_text wiring first names was opens told tells Untold (board, batch, settings, is_board, from, (k, over)) =
-    let so = told_over remaining contents (rack_for board batch) batch settings first (UntoldAt k) names was opens told tells over in
-    record { text = so.text; appended = so.appended; loan = so.loan; waits = so.waits; is = (board, batch, settings, is_board, from, (k, so.is)) }
+told_failure {I} {O} remaining contents source batch_text wiring first names was opens told tells Untold (board, filled, batch, settings, is_board, from, has, fills, (k, over)) =
+    let so = told_over remaining contents (rack_for filled batch) batch settings first (UntoldAt k) names was opens told tells over in
+    record { text = so.text; appended = so.appended; loan = so.loan; waits = so.waits; is = (board, filled, batch, settings, is_board, from, has, fills, (k, so.is)) }
 told_failure {I} {O} remaining contents source batch_text wiring first names was opens told tells NoMemory (same, none) =
     none_told remaining contents told tells _ same (refl, none)

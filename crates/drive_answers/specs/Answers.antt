@@ -2,8 +2,11 @@
 -- ports of these names, which were opened for them.
 use Rattle.std.specs.Prelude.{◌≡◌, ◌<◌, ◌⊎◌, ℕ, List, [], length, Option, Some, None, if◌then◌else◌, nat_lt}
 use Rattle.batch.specs.declared.transfer.Transfer.{Transfer}
-use Rattle.board_wiring.specs.Boards.{IsBoardOf, IsMiswired, extent_of}
+use Rattle.batch.specs.Text.{Denotes}
+use Rattle.board_wiring.specs.Boards.{IsBoardOf, IsFilled, IsMiswired, extent_of}
+use Rattle.board_wiring.specs.Lacks.{HasWaysOn, IsLackOn}
 use Rattle.board_wiring.specs.Sources.{of_wiring}
+use Rattle.board_wiring.specs.declared.board.Board.{Board}
 use Rattle.board_wiring.specs.declared.fault.WiringFault.{WiringFault}
 use Rattle.crossbar.specs.declared.board.BoardWiring.{BoardWiring}
 use Rattle.crossbar.specs.declared.switch.TheConstants.{JOINED_MODULES}
@@ -32,11 +35,11 @@ use Rattle.drive_answers.specs.Ways.{IsUnopened, Names, Ways, how_many, used}
 abbrev pub IsStart : ℕ → List (List ℕ) → Type 0
 IsStart first settings = (first ≡ 0) ⊎ (first < length settings)
 
--- the rack that a batch is driven on: the board, where there is one, and else the modules that as
--- many switches join as the batch needs
+-- the rack that a batch is driven on: a board of this wiring, where there is one, and else the
+-- modules that as many switches join as the batch needs
 abbrev pub rack_for : Option BoardWiring → List Transfer → RackWiring
 rack_for None batch = Usual (joined_by (is_wide batch))
-rack_for (Some board) batch = Own board
+rack_for (Some wiring) batch = Own wiring
 
 -- how many switches a rack has
 abbrev pub switches_in : RackWiring → ℕ
@@ -83,30 +86,39 @@ HasFailedOver {S} hears rack batch settings first names was opens told tells NoM
 -- ---- the answer
 
 -- What is first wrong with the texts: that of the wiring is looked at first, and then the others
--- against a rack with the modules that it wires. Then the schedule has to have the setting from
--- which on it is driven.
+-- against a rack with modules up to the board's last. What the batch needs and the board hasn't is
+-- refused behind faults of the batch's text, and before those of a schedule. Then the schedule has
+-- to have the setting from which on it is driven.
 pub data IsFirstDriveWrong (source : Source (List ℕ)) (text : List ℕ) (wiring : Option (List ℕ))
     (first : ℕ) (refusal : Refusal) : Type 0 where
   wiring_wrong : (fault : WiringFault) → IsMiswired wiring fault → refusal ≡ of_wiring fault
       → IsFirstDriveWrong source text wiring first refusal
-  texts_wrong : (board : Option BoardWiring) → IsBoardOf wiring board
-      → IsWrongFrom source (extent_of board) text refusal
+  lacking : (board : Option Board) (batch : List Transfer) → IsBoardOf wiring board
+      → Denotes (extent_of board) text batch → IsLackOn board batch refusal
       → IsFirstDriveWrong source text wiring first refusal
-  no_setting : (board : Option BoardWiring) (batch : List Transfer) (settings : List (List ℕ))
+  texts_wrong : (board : Option Board) → IsBoardOf wiring board
+      → IsWrongFrom source (extent_of board) text refusal
+      → ((batch : List Transfer) → Denotes (extent_of board) text batch → HasWaysOn board batch)
+      → IsFirstDriveWrong source text wiring first refusal
+  no_setting : (board : Option Board) (batch : List Transfer) (settings : List (List ℕ))
       → IsBoardOf wiring board → IsScheduleFrom source (extent_of board) text batch settings
+      → HasWaysOn board batch
       → (IsStart first settings → ⊥) → refusal ≡ NoSetting first
       → IsFirstDriveWrong source text wiring first refusal
 
--- what was done with a schedule from this source, of the batch that the text denotes, from this
--- setting on, on the rack that is wired so, over the ports of these names; or the refusal of what is
--- first wrong with the texts: then no port was opened, and nothing was told
+-- What was done with a schedule from this source, of the batch that the text denotes, from this
+-- setting on, on the rack that is wired so, over the ports of these names. All links that the batch
+-- needs are there, whatever free links stand in the rack's wiring for what a board leaves out. Or
+-- the refusal of what is first wrong with the texts: then no port was opened, and nothing was told.
 pub data IsDriveAnswer {S : Type 0} (hears : S → ℕ → List ℕ → Cue → S → Type 0)
     (source : Source (List ℕ)) (text : List ℕ) (wiring : Option (List ℕ)) (first : ℕ)
     (names : Names) (was opens : Ways) (told tells : S) (printed : Printed) : Type 0 where
-  tried : (board : Option BoardWiring) (batch : List Transfer) (settings : List (List ℕ))
+  tried : (board : Option Board) (filled : Option BoardWiring) (batch : List Transfer)
+      (settings : List (List ℕ))
       → IsBoardOf wiring board → IsScheduleFrom source (extent_of board) text batch settings
-      → IsStart first settings
-      → IsTried hears (rack_for board batch) batch settings first names was opens told tells printed
+      → HasWaysOn board batch → IsFilled board filled → IsStart first settings
+      → IsTried hears (rack_for filled batch) batch settings first names was opens told tells
+      printed
       → IsDriveAnswer hears source text wiring first names was opens told tells printed
   wrong : (refusal : Refusal) → IsFirstDriveWrong source text wiring first refusal
       → Refuses refusal printed → tells ≡ told → opens ≡ was
@@ -116,9 +128,11 @@ pub data IsDriveAnswer {S : Type 0} (hears : S → ℕ → List ℕ → Cue → 
 abbrev pub HasFailed : {S : Type 0} → (S → ℕ → List ℕ → Cue → S → Type 0) → Source (List ℕ)
     → List ℕ → Option (List ℕ) → ℕ → Names → Ways → Ways → S → S → DriveFault → Type 0
 HasFailed {S} hears source text wiring first names was opens told tells Untold =
-    (board : Option BoardWiring) × (batch : List Transfer) × (settings : List (List ℕ))
+    (board : Option Board) × (filled : Option BoardWiring) × (batch : List Transfer)
+    × (settings : List (List ℕ))
     × IsBoardOf wiring board × IsScheduleFrom source (extent_of board) text batch settings
-    × HasFailedOver hears (rack_for board batch) batch settings first names was opens told tells
+    × HasWaysOn board batch × IsFilled board filled
+    × HasFailedOver hears (rack_for filled batch) batch settings first names was opens told tells
     Untold
 HasFailed {S} hears source text wiring first names was opens told tells NoMemory =
     (tells ≡ told) × (opens ≡ was)

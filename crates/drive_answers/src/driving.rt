@@ -20,7 +20,7 @@ use crate::names::PortNames;
 use crate::ports::Ports;
 use crate::sight::Sight;
 use batch::Batch;
-use board_wiring::{read_board, shape_of};
+use board_wiring::{Board, read_board, read_lack, shape_of, wiring_of};
 use c004_commands::PORTS;
 use crossbar::{BoardWiring, JOINED_MODULES};
 use exchange_limits::WorkerCount;
@@ -44,15 +44,15 @@ fn modules_of(wide: bool) -> usize
     }
 }
 
-/// The rack that a batch is driven on. A board wires all modules that the batch names.
-fn rack_of(board: &Option<BoardWiring>, batch: &Batch) -> RackWiring
-    requires { IfSome board.now (λ board. HasModulesOf (length (links_of board)) batch.now) }
-    ensures rack { result ≡ rack_for board.now batch.now }
+/// The rack that a batch is driven on. A wiring has all modules that the batch names.
+fn rack_of(wiring: &Option<BoardWiring>, batch: &Batch) -> RackWiring
+    requires { IfSome wiring.now (λ wiring. HasModulesOf (length (links_of wiring)) batch.now) }
+    ensures rack { result ≡ rack_for wiring.now batch.now }
     ensures few { wired_in result ≤ MOST }
     ensures modules { HasModulesOf (wired_in result) batch.now }
 {
-    match board {
-        Some(board) => RackWiring::Own(*board),
+    match wiring {
+        Some(wiring) => RackWiring::Own(*wiring),
         None => RackWiring::Usual(modules_of(is_wide(batch.as_slice()))),
     }
 }
@@ -76,9 +76,11 @@ fn is_start(first: usize, schedule: &Schedule) -> bool
 }
 
 /// Drives a schedule of the batch on the rack from this setting on, over the ports of these names,
-/// which are opened for it, and says how that ended.
+/// which are opened for it, and says how that ended. The board, where there is one, says where an
+/// output leads.
 fn drive_over<Q: Ports, S: Stage>(
     alloc: Global,
+    board: &Option<Board>,
     rack: RackWiring,
     batch: &Batch,
     schedule: &Schedule,
@@ -111,7 +113,7 @@ fn drive_over<Q: Ports, S: Stage>(
             match ending(room, how) {
                 Ok(answer) => Ok(DriveEnd {
                     answer,
-                    sight: Sight::of(rack, &how),
+                    sight: Sight::of(board, rack, &how),
                 }),
                 Err(fault) => Err(fault),
             }
@@ -143,12 +145,15 @@ fn refused(alloc: Global, why: Refusal) -> Result<DriveEnd, DriveFault>
 /// port failed, `stopped setting K switch O` where that output is the first that doesn't reply what
 /// setting K calls for, and `stopped setting K input` where setting K stands, and it can't be heard
 /// whether another is wanted; or `left setting K` where the stage wants no other. K and S are the
-/// schedule's numbers. The rack has two switches where the batch names a module above 15. The batch is read against the widest
-/// shape. So many workers make a plain plan. Want of memory comes before a port is opened.
+/// schedule's numbers. The rack has two switches where the batch names a module above 15. The batch
+/// is read against the widest shape. So many workers make a plain plan. Want of memory comes before
+/// a port is opened.
 ///
 /// Where there is a text of a board's wiring, the settings are put on the board's one switch, and O
 /// is its output's own number. That text is looked at first, and `refused wiring line N` tells its
-/// first line at fault; the batch is read against a shape with the modules that it wires.
+/// first line at fault; the batch is read against a shape with modules up to the board's last.
+/// Behind the batch it is looked for its first transfer that names a module that the board hasn't,
+/// or needs a link that it hasn't.
 pub fn answer_drive<R: Threads + Sync, Q: Ports, S: Stage>(
     rt: &R,
     alloc: Global,
@@ -172,14 +177,19 @@ pub fn answer_drive<R: Threads + Sync, Q: Ports, S: Stage>(
         Ok(board) => board,
         Err(fault) => return refused(alloc, fault.into()),
     };
+    if let Some(lack) = read_lack(alloc, &board, batch)? {
+        return refused(alloc, lack);
+    }
     match Scheduled::read(rt, alloc, shape_of(&board), batch, source, workers) {
         Ok(scheduled) => {
             let (batch, schedule) = (scheduled.batch(), scheduled.schedule());
             if !is_start(first, schedule) {
                 return refused(alloc, Refusal::NoSetting(first));
             }
-            let rack = rack_of(&board, batch);
-            drive_over(alloc, rack, batch, schedule, first, names, ports, stage)
+            let rack = rack_of(&wiring_of(&board), batch);
+            drive_over(
+                alloc, &board, rack, batch, schedule, first, names, ports, stage,
+            )
         }
         Err(refusal) => refused(alloc, refusal),
     }

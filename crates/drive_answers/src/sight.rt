@@ -3,8 +3,9 @@
 ghost use Rattle.std.specs.Prelude.{◌≡◌};
 ghost use Rattle.drive_answers.specs.Endings.{number_of as output_number};
 
+use board_wiring::Board;
 use c004_commands::{CONNECTED, OutputState, PORTS};
-use crossbar::{BoardWiring, Chip, JOINED_MODULES};
+use crossbar::{Chip, JOINED_MODULES};
 use std::fmt;
 use switch_driver::{Disagreement, Driven, SettingFault};
 use switch_settings::RackWiring;
@@ -23,7 +24,7 @@ pub(crate) fn number_of(found: &Disagreement) -> usize
 #[derive(Clone, Copy, Debug, PartialEq, Eq)]
 struct Place {
     link: u8,
-    module: u8,
+    module: usize,
 }
 
 /// An output that didn't reply what a setting calls for: where it leads, what the setting calls
@@ -38,8 +39,9 @@ pub struct Sight {
 }
 
 impl Sight {
-    /// What was seen where a drive stopped at an output.
-    pub(crate) fn of(rack: RackWiring, how: &Driven) -> Option<Sight> {
+    /// What was seen where a drive stopped at an output of a rack, or of the board, where there is
+    /// one.
+    pub(crate) fn of(board: &Option<Board>, rack: RackWiring, how: &Driven) -> Option<Sight> {
         let Driven::Stopped {
             fault: SettingFault::Switch(found),
             ..
@@ -49,7 +51,10 @@ impl Sight {
         };
         Some(Sight {
             found: *found,
-            place: place_of(rack, found),
+            place: match board {
+                Some(board) => place_on(board, found.output),
+                None => Some(usual_place(rack, found)),
+            },
             is_one_way: is_one_way(rack),
         })
     }
@@ -68,35 +73,30 @@ fn is_one_way(rack: RackWiring) -> bool {
     }
 }
 
-/// The link that an output leads to.
-fn place_of(rack: RackWiring, found: &Disagreement) -> Option<Place> {
-    let module = found.output;
-    match rack {
-        RackWiring::Own(board) => place_on(&board, found.output),
-        RackWiring::Usual(modules) if modules > JOINED_MODULES as usize => {
-            let link = match found.chip {
-                Chip::A => 3,
-                Chip::B => 0,
-            };
-            Some(Place { link, module })
-        }
-        RackWiring::Usual(_) if module < JOINED_MODULES => Some(Place { link: 0, module }),
-        RackWiring::Usual(_) => {
-            let module = module - JOINED_MODULES;
-            Some(Place { link: 3, module })
-        }
+/// The link that an output of a rack leads to.
+fn usual_place(rack: RackWiring, found: &Disagreement) -> Place {
+    let module = usize::from(found.output);
+    if is_one_way(rack) {
+        let link = match found.chip {
+            Chip::A => 3,
+            Chip::B => 0,
+        };
+        return Place { link, module };
+    }
+    match module.checked_sub(usize::from(JOINED_MODULES)) {
+        Some(module) => Place { link: 3, module },
+        None => Place { link: 0, module },
     }
 }
 
 /// The link that is on an output of a board's switch, where one is.
-fn place_on(board: &BoardWiring, output: u8) -> Option<Place> {
-    for number in 0..board.modules() {
-        let on = board.links(number);
-        let module = number as u8;
-        if on.link0 == output {
+fn place_on(board: &Board, output: u8) -> Option<Place> {
+    for on in board.modules() {
+        let module = on.number;
+        if on.link0 == Some(output) {
             return Some(Place { link: 0, module });
         }
-        if on.link3 == output {
+        if on.link3 == Some(output) {
             return Some(Place { link: 3, module });
         }
     }

@@ -1,11 +1,13 @@
 -- What goes to the files that sessions write.
-use Rattle.std.proofs.Common.{◌≡◌, ◌∙◌, ◌++◌, ℕ, List, Option, Some, None, Result, Ok, Err, OnOk, OnErr, IsOk, ap, sym, subst, refl}
+use Rattle.std.proofs.Common.{◌≡◌, ◌∙◌, ◌++◌, ℕ, List, Option, Some, None, [], Result, Ok, Err, OnOk, OnErr, IsOk, append-nil, ap, sym, subst, refl}
 use Rattle.std.specs.Prelude.{MatchOption, option_map}
 use Rattle.std.specs.Io.KnownBytes.{Appends}
 use Rattle.batch_book.specs.History.{Account}
 use Rattle.command_words.specs.declared.jobs.Job.{Job}
 use Rattle.exchange.specs.Outcomes.{HasTold}
-use Rattle.exchange.specs.Outputs.{AreClosed, AreKept, AreNamed, AreOpened, AreOutputsWritten, HasNothingGone, HaveGone, IsFileWritten, IsOpened, lost_none, name_of, output_of, record_of}
+use Rattle.exchange.specs.Outputs.{AreClosed, AreKept, AreKeptInPart, AreNamed, AreOpened, AreOutputsWritten, HasNothingGone, HaveGone, HaveGoneInPart, IsFileWritten, IsOpened, lost_none, name_of, output_of, record_of}
+use Rattle.exchange.specs.declared.lost.Lost.{Lost}
+use Rattle.exchange.specs.declared.lost.Reason.{Reason}
 use Rattle.exchange.specs.declared.notes.Answered.{Answered}
 use Rattle.exchange.specs.declared.notes.NoAnswer.{NoAnswer}
 use Rattle.exchange.specs.declared.outputs.OutFile.{OutFile}
@@ -58,13 +60,30 @@ kept contents received begins job None old new receipts opened named written clo
 kept contents received begins job (Some account) old new receipts opened named written closed =
     (gone contents received begins (record_of job) _ old.recorded new.recorded receipts.recorded opened.0 named.0 written.0 closed.0, gone contents received begins (output_of job) _ old.image new.image receipts.image opened.1 named.1 written.1 closed.1)
 
+-- a file to which as much went as could be written
+gone_in_part : {F C : Type 0} (contents : F → Option (List ℕ)) (received : C → Option (List ℕ)) (begins : List ℕ → List ℕ) (name : Option (List ℕ)) (bytes : List ℕ) (old new : Option (OutFile F)) (lost : Option Reason) (receipt : Option C)
+    → IsOpened contents begins name old → name_of old ≡ name → IsFileWritten contents bytes old new lost → option_map received receipt ≡ option_map (λ out. contents out.file) new → HaveGoneInPart begins received name bytes receipt
+gone_in_part contents received begins name bytes old new None receipt opened named written closed =
+    (bytes, [], sym (append-nil bytes), gone contents received begins name bytes old new receipt opened named written closed)
+gone_in_part contents received begins name bytes None new (Some why) receipt opened named written closed = absurd (let bad : Some why ≡ None = written.1 in cc)
+gone_in_part contents received begins name bytes (Some o) None (Some why) receipt opened named written closed = absurd written
+gone_in_part contents received begins name bytes (Some o) (Some n) (Some why) receipt opened named written closed =
+    (written.front, written.missing, written.bytes_are, gone contents received begins name written.front (Some o) (Some n) receipt opened named written.appended closed)
+
+kept_in_part : {F C : Type 0} (contents : F → Option (List ℕ)) (received : C → Option (List ℕ)) (begins : List ℕ → List ℕ) (job : Job) (left : Option Account) (old new : Outputs F) (lost : Lost) (receipts : Receipts C)
+    → AreOpened contents begins (record_of job) (output_of job) old → AreNamed (record_of job) (output_of job) old → AreOutputsWritten contents left old new lost → AreClosed contents received new receipts → AreKeptInPart begins received job left receipts
+kept_in_part contents received begins job None old new lost receipts opened named written closed =
+    unkept contents received begins job old new receipts opened written.0 closed
+kept_in_part contents received begins job (Some account) old new lost receipts opened named written closed =
+    (gone_in_part contents received begins (record_of job) _ old.recorded new.recorded lost.recorded receipts.recorded opened.0 named.0 written.0 closed.0, gone_in_part contents received begins (output_of job) _ old.image new.image lost.image receipts.image opened.1 named.1 written.1 closed.1)
+
 -- the same of what was answered
 pub kept_where_done : {F C : Type 0} (contents : F → Option (List ℕ)) (received : C → Option (List ℕ)) (begins : List ℕ → List ℕ) (job : Job) (r : Result Answered NoAnswer) (first : Result Unit NoAnswer) (before after : Option (List ℕ)) (is : List ℕ → Answered → Option Account → Type 0) (unanswered cut : List ℕ → Type 0) (old new : Outputs F) (receipts : Receipts C)
     → OnOk r (IsOk first) → OnOk first (AreNamed (record_of job) (output_of job) old) → AreOpened contents begins (record_of job) (output_of job) old → AreClosed contents received new receipts
     → HasTold before after (λ told done. (left : Option Account) × is told done left × AreOutputsWritten contents left old new done.lost) unanswered cut r
-    → HasTold before after (λ told done. (left : Option Account) × is told done left × (done.lost ≡ lost_none → AreKept begins received job left receipts)) unanswered cut r
+    → HasTold before after (λ told done. (left : Option Account) × is told done left × (done.lost ≡ lost_none → AreKept begins received job left receipts) × AreKeptInPart begins received job left receipts) unanswered cut r
 kept_where_done contents received begins job (Ok done) (Ok u) before after is unanswered cut old new receipts ok named opened closed t =
-    (t.0, t.1, (t.2.0, t.2.1, λ none. kept contents received begins job t.2.0 old new receipts opened named (subst (AreOutputsWritten contents t.2.0 old new) none t.2.2) closed), tt)
+    (t.0, t.1, (t.2.0, t.2.1, (λ none. kept contents received begins job t.2.0 old new receipts opened named (subst (AreOutputsWritten contents t.2.0 old new) none t.2.2) closed), kept_in_part contents received begins job t.2.0 old new done.lost receipts opened named t.2.2 closed), tt)
 kept_where_done contents received begins job (Ok done) (Err e) before after is unanswered cut old new receipts ok named opened closed t = absurd (let bad = ok in cc)
 kept_where_done contents received begins job (Err missed) first before after is unanswered cut old new receipts ok named opened closed t = (t.0, t.1, tt, t.3)
 

@@ -1,5 +1,5 @@
 -- What is printed behind what a session was told, and what is told beside it.
-use Rattle.std.proofs.Common.{ℕ, Bool, ◌++◌, List, Option, Some, None, Result, Ok, Err, IfOk, IfErr, IsErrAnd, OnOk, OnErr, ap, ◌∙◌, append_assoc, append-nil, IfSome, ◌⊎◌, inl, inr, refl, subst, sym, ◌≡◌, []}
+use Rattle.std.proofs.Common.{ℕ, Bool, ◌++◌, ◌∷◌, List, Option, Some, None, Result, Ok, Err, IfOk, IfErr, IsErrAnd, OnOk, OnErr, ap, ◌∙◌, append_assoc, append-nil, IfSome, ◌⊎◌, inl, inr, refl, subst, sym, ◌≡◌, []}
 use Rattle.std.specs.Prelude.{String, option_map, string_bytes}
 use Rattle.std.specs.Global.{Global}
 use Rattle.std.specs.Io.KnownBytes.{Appends}
@@ -25,13 +25,13 @@ use Rattle.session_answers.specs.HostAnswers.{SessionEnd}
 use Rattle.session_answers.specs.declared.ended_session.Ending.{Ending}
 use Rattle.exchange.specs.Clients.{ends_of}
 use Rattle.exchange.specs.Responses.{Given, IsAlone, IsJobAnswer, IsJobInVain, IsToldInVain, Named, Response, unanswered}
-use Rattle.exchange.specs.Notes.{IsToldInPart, IsBeside, IsNoteOn, IsNoted, IsToldUnless, IsWholeLine}
+use Rattle.exchange.specs.Notes.{AreToldLines, HasJobOverlap, IsToldInPart, IsBeside, IsNoteOn, IsNoted, IsToldUnless, IsWholeLine}
 use Rattle.exchange.specs.Outcomes.{HasTold, IsAnswered, IsMissed, IsNothing, IsRefused, IsUnanswered, response_of}
 use Rattle.exchange.specs.declared.found.Found.{Found}
 use Rattle.command_words.specs.declared.jobs.ArgumentsFault.TheVariants as arguments_fault
 use Rattle.command_words.specs.Jobs.{AskFor, Files, file_uses}
 use Rattle.exchange.specs.declared.limits.TheConstants.{UNWRITTEN}
-use Rattle.exchange.specs.Ends.{Streams, IsDone, IsEndForArguments, IsCutFor, IsFaultEnd, IsPrinted, IsUnwrittenOf, streams_of}
+use Rattle.exchange.specs.Ends.{Leaving, Streams, IsDone, IsEndForArguments, IsCutFor, IsFaultEnd, IsPrinted, IsUnwrittenOf, streams_of}
 
 -- nothing was told before what is answered, or refused
 pub told_nothing : {X : Type 0} (r : Result X NoAnswer) (before : Option (List ℕ)) (is : List ℕ → X → Type 0) (behind cut : List ℕ → Type 0) → behind [] → IfErr r IsRefused → IfOk r (is []) → HasTold before before is behind cut r
@@ -92,16 +92,29 @@ if_not (Err e) P so = so
 pub alone : (P : Printed → Type 0) (ports : Ways) (ends : List SessionEnd) (found : Found) (answer : Printed) → (found.answer ≡ answer) × (found.book ≡ None) → P answer → IsAlone (response_of [] found ports ends) × P found.answer
 alone P ports ends found answer is so = ((refl, is.1), subst P (sym is.0) so)
 
+-- what is told beside, where an overlap is known of more
+pub beside_of : (P Q : Type 0) (request : Request) (before after : Option (List ℕ)) → (P → Q) → IsBeside P request before after → IsBeside Q request before after
+beside_of P Q request before after f (inl same) = inl same
+beside_of P Q request before after f (inr (inl talk)) = inr (inl talk)
+beside_of P Q request before after f (inr (inr (inl dropped))) = inr (inr (inl dropped))
+beside_of P Q request before after f (inr (inr (inr (inl t)))) = inr (inr (inr (inl (t.0, t.1, f t.2, t.3))))
+beside_of P Q request before after f (inr (inr (inr (inr lines)))) = inr (inr (inr (inr lines)))
+
+-- one line more
+pub told_line_more : (a b c : Option (List ℕ)) (lines : List (List ℕ)) (line : List ℕ) → AreToldLines a b lines → IsWholeLine line → IsToldInPart b c line → AreToldLines a c (lines ++ line ∷ [])
+told_line_more a b c [] line are whole told = (c, whole, subst (λ (x : Option (List ℕ)). IsToldInPart x c line) are told, refl)
+told_line_more a b c (first ∷ lines) line are whole told = (are.0, are.1, are.2, told_line_more are.0 b c lines line are.3 whole told)
+
 -- the bytes of a line, if there is one
 abbrev pub bytes_of_line : Option (String Global) → Option (List ℕ)
 bytes_of_line note = option_map (λ line. string_bytes line) note
 
 -- what is told of an answer
-noted : (request : Request) (end : Printed) (note : Option (List ℕ)) (eb em ea : Option (List ℕ))
-    → IsNoteOn end note → IsBeside request eb em → IsToldUnless request.is_quiet note em ea → IsNoted request end eb ea
-noted request end said eb em ea on beside (inl silent) = (em, beside, inl silent)
-noted request end None eb em ea on beside (inr t) = absurd (let bad : None ≡ Some t.1 = t.2 in cc)
-noted request end (Some line) eb em ea on beside (inr t) =
+noted : (overlap : Type 0) (request : Request) (end : Printed) (note : Option (List ℕ)) (eb em ea : Option (List ℕ))
+    → IsNoteOn end note → IsBeside overlap request eb em → IsToldUnless request.is_quiet note em ea → IsNoted overlap request end eb ea
+noted overlap request end said eb em ea on beside (inl silent) = (em, beside, inl silent)
+noted overlap request end None eb em ea on beside (inr t) = absurd (let bad : None ≡ Some t.1 = t.2 in cc)
+noted overlap request end (Some line) eb em ea on beside (inr t) =
     let same : t.1 ≡ line = (let e : Some line ≡ Some t.1 = t.2 in cc) in
     (em, beside, inr (t.0, t.1, rw same on, t.3))
 
@@ -113,28 +126,28 @@ file_told (Some text) h = record { refused = refl; of = inl (refusal.File, (λ e
 -- an answer that is printed behind it
 pub answered : {E : Type 0} (r : Result ℕ E) (named : Named) (keeps : Job → Response → Type 0) (given : Given) (request : Request) (told : List ℕ) (left : Option Account) (ports : Ways) (ends : List SessionEnd) (done : Answered) (out_before out_after has eb em ea : Option (List ℕ))
     → Appends out_before out_after told → AreSeenApart named.leads (file_uses request.job) → IsJobAnswer named.holds given request.job (record { told = told; end = done.answer; left = left; ports = ports; ends = ends }) → (done.lost ≡ lost_none → keeps request.job (record { told = told; end = done.answer; left = left; ports = ports; ends = ends })) → IsAnswered done
-    → IsBeside request eb em → IfOk r (λ status. IsPrinted out_after has done.answer status × (done.lost ≡ lost_none)) → IsToldUnless request.is_quiet (bytes_of_line done.note) em ea
+    → IsBeside (HasJobOverlap named.holds given request.job) request eb em → IfOk r (λ status. IsPrinted out_after has done.answer status × (done.lost ≡ lost_none)) → IsToldUnless request.is_quiet (bytes_of_line done.note) em ea
     → IfOk r (IsDone named keeps given request (streams_of out_before has eb ea))
 answered (Ok status) named keeps given request told left ports ends done out_before out_after has eb em ea first apart is kept note beside then said = (
   record { told = told; end = done.answer; left = left; ports = ports; ends = ends },
   inl (apart, is),
   kept then.1,
   record { text = Appends-trans out_before out_after has told done.answer.text first then.0.text; status = then.0.status },
-  noted request done.answer (bytes_of_line done.note) eb em ea note beside said,
+  noted _ request done.answer (bytes_of_line done.note) eb em ea note beside said,
 )
 answered (Err e) named keeps given request told left ports ends done out_before out_after has eb em ea first apart is kept note beside then said = tt
 
 -- and why there is none
 pub not_answered : {E : Type 0} (r : Result ℕ E) (named : Named) (keeps : Job → Response → Type 0) (given : Given) (request : Request) (told : List ℕ) (why : Unanswered) (line : Option (String Global)) (out_before out_after has eb em ea : Option (List ℕ))
     → Appends out_before out_after told → IsJobInVain named.holds given request.job told → keeps request.job (record { told = told; end = unanswered why; left = None; ports = given.ports; ends = [] }) → IsNoteOn (unanswered why) (bytes_of_line line)
-    → IsBeside request eb em → IfOk r (IsPrinted out_after has (unanswered why)) → IsToldUnless request.is_quiet (bytes_of_line line) em ea
+    → IsBeside (HasJobOverlap named.holds given request.job) request eb em → IfOk r (IsPrinted out_after has (unanswered why)) → IsToldUnless request.is_quiet (bytes_of_line line) em ea
     → IfOk r (IsDone named keeps given request (streams_of out_before has eb ea))
 not_answered (Ok status) named keeps given request told why line out_before out_after has eb em ea first none kept note beside then said = (
   record { told = told; end = unanswered why; left = None; ports = given.ports; ends = [] },
   inr (none, refl, refl, refl, (why, refl)),
   kept,
   record { text = Appends-trans out_before out_after has told (unanswered why).text first then.text; status = then.status },
-  noted request (unanswered why) (bytes_of_line line) eb em ea note beside said,
+  noted _ request (unanswered why) (bytes_of_line line) eb em ea note beside said,
 )
 not_answered (Err e) named keeps given request told why line out_before out_after has eb em ea first none kept note beside then said = tt
 
@@ -161,24 +174,24 @@ printed_in_part before mid after told text first t = (told ++ t.0, t.1, ap (λ (
 -- what couldn't be written of an answer
 of_answer : (done : Answered) (what : Unwritten) (before after : Option (List ℕ)) → IsUnwrittenOf done before after what → IsToldInPart before after done.answer.text
 of_answer done (unwritten.Answer error lost) before after is = is.1
-of_answer done unwritten.Setting before after is = absurd is
+of_answer done (unwritten.Setting reason) before after is = absurd is
 of_answer done (unwritten.Kept lost) before after is = (done.answer.text, [], sym (append-nil done.answer.text), is.0)
 
-pub answered_in_part : (r : Result ℕ Unwritten) (named : Named) (ports : Ways) (ends : List SessionEnd) (arguments : List (List ℕ)) (given : Given) (request : Request) (told : List ℕ) (left : Option Account) (done : Answered) (before mid after : Option (List ℕ))
-    → AskFor arguments request → Appends before mid told → AreSeenApart named.leads (file_uses request.job) → IsJobAnswer named.holds given request.job (record { told = told; end = done.answer; left = left; ports = ports; ends = ends })
-    → IfErr r (IsUnwrittenOf done mid after) → OnErr r (IsCutFor named ports ends arguments given before after)
-answered_in_part (Ok status) named ports ends arguments given request told left done before mid after ask first apart is cut = tt
-answered_in_part (Err what) named ports ends arguments given request told left done before mid after ask first apart is cut =
-    let response : Response = record { told = told; end = done.answer; left = left; ports = ports; ends = ends } in
-    (Ok request, ask, tt, inl (response, inl (apart, is), (refl, refl), printed_in_part before mid after told done.answer.text first (of_answer done what mid after cut)))
+pub answered_in_part : (r : Result ℕ Unwritten) (named : Named) (leaves : Leaving) (arguments : List (List ℕ)) (given : Given) (request : Request) (told : List ℕ) (left : Option Account) (done : Answered) (before mid after : Option (List ℕ))
+    → AskFor arguments request → Appends before mid told → AreSeenApart named.leads (file_uses request.job) → IsJobAnswer named.holds given request.job (record { told = told; end = done.answer; left = left; ports = leaves.ports; ends = leaves.ends })
+    → leaves.keeps request.job (record { told = told; end = done.answer; left = left; ports = leaves.ports; ends = leaves.ends }) → IfErr r (IsUnwrittenOf done mid after) → OnErr r (IsCutFor named leaves arguments given before after)
+answered_in_part (Ok status) named leaves arguments given request told left done before mid after ask first apart is keeps cut = tt
+answered_in_part (Err what) named leaves arguments given request told left done before mid after ask first apart is keeps cut =
+    let response : Response = record { told = told; end = done.answer; left = left; ports = leaves.ports; ends = leaves.ends } in
+    (Ok request, ask, tt, inl (response, inl (apart, is), keeps, printed_in_part before mid after told done.answer.text first (of_answer done what mid after cut)))
 
-pub refused_in_part : {E : Type 0} (r : Result ℕ E) (named : Named) (ports : Ways) (ends : List SessionEnd) (arguments : List (List ℕ)) (given : Given) (request : Request) (told : List ℕ) (why : Unanswered) (before mid after : Option (List ℕ))
-    → AskFor arguments request → Appends before mid told → IsUnanswered (IsJobInVain named.holds given request.job) given.ports ports ends told
-    → OnErr r (IsToldInPart mid after (unanswered why).text) → OnErr r (IsCutFor named ports ends arguments given before after)
-refused_in_part (Ok status) named ports ends arguments given request told why before mid after ask first none cut = tt
-refused_in_part (Err e) named ports ends arguments given request told why before mid after ask first none cut =
+pub refused_in_part : {E : Type 0} (r : Result ℕ E) (named : Named) (leaves : Leaving) (arguments : List (List ℕ)) (given : Given) (request : Request) (told : List ℕ) (why : Unanswered) (before mid after : Option (List ℕ))
+    → AskFor arguments request → Appends before mid told → IsJobInVain named.holds given request.job told → leaves.keeps request.job (record { told = told; end = unanswered why; left = None; ports = given.ports; ends = [] })
+    → OnErr r (IsToldInPart mid after (unanswered why).text) → OnErr r (IsCutFor named leaves arguments given before after)
+refused_in_part (Ok status) named leaves arguments given request told why before mid after ask first none keeps cut = tt
+refused_in_part (Err e) named leaves arguments given request told why before mid after ask first none keeps cut =
     let response : Response = record { told = told; end = unanswered why; left = None; ports = given.ports; ends = [] } in
-    (Ok request, ask, tt, inl (response, inr (none.0, refl, refl, refl, (why, refl)), (sym none.1, sym none.2), printed_in_part before mid after told (unanswered why).text first cut))
+    (Ok request, ask, tt, inl (response, inr (none, refl, refl, refl, (why, refl)), keeps, printed_in_part before mid after told (unanswered why).text first cut))
 
 -- the end for a request
 pub asked : {E : Type 0} (r : Result ℕ E) (named : Named) (keeps : Job → Response → Type 0) (none : Type 0) (arguments : List (List ℕ)) (given : Given) (request : Request) (streams : Streams) → AskFor arguments request → IfOk r (IsDone named keeps given request streams) → IfOk r (IsEndForArguments named keeps none arguments given streams)

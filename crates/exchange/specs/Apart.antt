@@ -1,5 +1,5 @@
 -- Which files are one, by what their names lead to.
-use Rattle.std.specs.Prelude.{◌≡◌, ◌⊎◌, ◌↔◌, ℕ, Bool, false, List, Option, AllPairs, IsTrue, MatchOption}
+use Rattle.std.specs.Prelude.{◌≡◌, ◌⊎◌, ◌↔◌, ℕ, Bool, false, List, Option, AllPairs, IsTrue, MatchOption, string_bytes}
 use Rattle.command_words.specs.declared.uses.Access.{Access}
 use Rattle.command_words.specs.declared.uses.Access.TheVariants.{Port}
 use Rattle.command_words.specs.declared.uses.FileUse.{FileUse}
@@ -14,7 +14,7 @@ Leading = List ℕ → Option Place → Type 0
 pub record AreOneFile (one other : Place) : Type 0 where
   pub device : one.device ≡ other.device
   pub number : one.number ≡ other.number
-  pub name : one.name.now ≡ other.name.now
+  pub name : string_bytes one.name ≡ string_bytes other.name
 
 -- files of these uses have to be two, and are one. A character device, as a terminal, may be one,
 -- but as a port

@@ -1,5 +1,5 @@
 -- How the program ends.
-use Rattle.std.specs.Prelude.{◌≡◌, ◌≢◌, ◌⊎◌, ◌++◌, ℕ, List, [], Option, Result, Ok, Err, IfErr, IfOk, ⊤, codes}
+use Rattle.std.specs.Prelude.{◌≡◌, ◌≢◌, ◌⊎◌, ◌++◌, ℕ, List, [], Option, Some, None, Result, Ok, Err, IfErr, IfOk, ⊤, codes}
 use Rattle.std.specs.Io.KnownBytes.{Appends}
 use Rattle.plan_answers.specs.Refusals.{Printed}
 use Rattle.plan_answers.specs.declared.limits.TheConstants.{DONE}
@@ -13,8 +13,8 @@ use Rattle.exchange.specs.declared.limits.TheConstants.{MISUSED}
 use Rattle.exchange.specs.declared.unanswered.Unanswered.TheVariants.{NoMemory}
 use Rattle.session_answers.specs.HostAnswers.{SessionEnd}
 use Rattle.exchange.specs.Responses.{Given, IsJobCut, IsResponseTo, Named, Response, unanswered}
-use Rattle.exchange.specs.Notes.{IsNoted, IsToldInPart}
-use Rattle.exchange.specs.Outputs.{AreKept, Beginning, IsLostTold, lost_none, none_opened}
+use Rattle.exchange.specs.Notes.{HasJobOverlap, IsNoted, IsToldInPart}
+use Rattle.exchange.specs.Outputs.{AreKept, AreKeptInPart, Beginning, IsLostTold, lost_none, none_opened}
 use Rattle.exchange.specs.declared.outputs.Receipts.{Receipts}
 use Rattle.exchange.specs.declared.notes.Answered.{Answered}
 use Rattle.exchange.specs.declared.unwritten.Unwritten.{Unwritten}
@@ -46,14 +46,16 @@ pub record IsPrinted (before after : Option (List ℕ)) (printed : Printed) (cod
 abbrev pub IsUnwrittenOf : Answered → Option (List ℕ) → Option (List ℕ) → Unwritten → Type 0
 IsUnwrittenOf done before after (Answer error lost) =
     (lost ≡ done.lost) × IsToldInPart before after done.answer.text
-IsUnwrittenOf done before after Setting = ⊥
+IsUnwrittenOf done before after (Setting reason) = ⊥
 IsUnwrittenOf done before after (Kept lost) =
     Appends before after done.answer.text × (lost ≡ done.lost) × (lost ≢ lost_none)
 
--- what was told of it on standard error; where an answer couldn't be written, it may be any text
+-- what was told of it on standard error; where an answer couldn't be written, or a reason is known,
+-- it may be any text
 abbrev pub IsUnwrittenTold : Unwritten → Option (List ℕ) → Option (List ℕ) → Type 0
 IsUnwrittenTold (Answer error lost) before after = ⊤
-IsUnwrittenTold Setting before after =
+IsUnwrittenTold (Setting (Some error)) before after = ⊤
+IsUnwrittenTold (Setting None) before after =
     IsToldInPart before after (codes "exchange: a setting that stands can't be told\n")
 IsUnwrittenTold (Kept lost) before after = IsLostTold lost before after
 
@@ -86,7 +88,8 @@ IsDone named keeps given request streams code =
     (response : Response) × IsResponseTo named given request.job response
     × keeps request.job response
     × IsPrinted streams.out_before streams.out_after (printed_of response) code
-    × IsNoted request response.end streams.err_before streams.err_after
+    × IsNoted (HasJobOverlap named.holds given request.job) request response.end streams.err_before
+    streams.err_after
 
 -- nothing was told on standard error
 abbrev pub IsSilent : Streams → Type 0
@@ -115,19 +118,38 @@ IsEndForArguments named keeps none arguments given streams code =
     (request : Result Request ArgumentsFault) × IfOk request (AskFor arguments)
     × IfErr request (IsFaultIn arguments) × IsEndFor named keeps none given request streams code
 
--- ports and clients are left so
-abbrev pub IsLeftAs : Ways → List SessionEnd → Response → Type 0
-IsLeftAs ports ends response = (response.ports ≡ ports) × (response.ends ≡ ends)
+-- what is left where not all could be written: ports, clients' ends, and what is so of the files,
+-- by what comes of a job, and where it has no answer
+pub record Leaving : Type 1 where
+  pub ports : Ways
+  pub ends : List SessionEnd
+  pub keeps : Keeping
+  pub cut : Job → Type 0
+  pub none : Type 0
+
+-- so it is of these files: fronts of what belongs there went to them; nothing, where a job has no
+-- answer; and where nothing is asked for none was opened
+abbrev pub leaving : {C : Type 0} → Beginning → (C → Option (List ℕ)) → Receipts C → Ways → Ways
+    → List SessionEnd → Leaving
+leaving begins received receipts was ports ends =
+    record {
+      ports = ports;
+      ends = ends;
+      keeps = λ job response. AreKeptInPart begins received job response.left receipts
+          × (response.ports ≡ ports) × (response.ends ≡ ends);
+      cut = λ job. AreKept begins received job None receipts;
+      none = IsNoneLeft receipts was ports ends;
+    }
 
 -- A front of the response to what is asked for was printed; or of what is told before it, where not
 -- all of that could be.
-abbrev pub IsDoneInPart : Named → Ways → List SessionEnd → Given → Request
-    → (before after : Option (List ℕ)) → Type 0
-IsDoneInPart named ports ends given request before after =
+abbrev pub IsDoneInPart : Named → Leaving → Given → Request → (before after : Option (List ℕ))
+    → Type 0
+IsDoneInPart named left given request before after =
     ((response : Response) × IsResponseTo named given request.job response
-    × IsLeftAs ports ends response × IsToldInPart before after (printed_of response).text)
-    ⊎ ((told : List ℕ) × IsJobCut named.holds given request.job ports told
-    × Appends before after told)
+    × left.keeps request.job response × IsToldInPart before after (printed_of response).text)
+    ⊎ ((told : List ℕ) × IsJobCut named.holds given request.job left.ports left.ends told
+    × left.cut request.job × Appends before after told)
 
 -- the same of arguments that are at fault; of clap's texts it may be anything
 abbrev pub IsFaultCut : ArgumentsFault → (before after : Option (List ℕ)) → Type 0
@@ -135,18 +157,18 @@ IsFaultCut arguments_fault.NoMemory before after =
     IsToldInPart before after (unanswered NoMemory).text
 IsFaultCut (arguments_fault.Clap error) before after = ⊤
 
-abbrev pub IsCut : Named → Ways → List SessionEnd → Given → Result Request ArgumentsFault
+abbrev pub IsCut : Named → Leaving → Given → Result Request ArgumentsFault
     → (before after : Option (List ℕ)) → Type 0
-IsCut named ports ends given (Ok request) before after =
-    IsDoneInPart named ports ends given request before after
-IsCut named ports ends given (Err fault) before after = IsFaultCut fault before after
+IsCut named left given (Ok request) before after =
+    IsDoneInPart named left given request before after
+IsCut named left given (Err fault) before after = left.none × IsFaultCut fault before after
 
--- what was printed for these arguments where not all could be written
-abbrev pub IsCutFor : Named → Ways → List SessionEnd → List (List ℕ) → Given
-    → (before after : Option (List ℕ)) → Type 0
-IsCutFor named ports ends arguments given before after =
+-- what was printed for these arguments where not all could be written, and what is left
+abbrev pub IsCutFor : Named → Leaving → List (List ℕ) → Given → (before after : Option (List ℕ))
+    → Type 0
+IsCutFor named left arguments given before after =
     (request : Result Request ArgumentsFault) × IfOk request (AskFor arguments)
-    × IfErr request (IsFaultIn arguments) × IsCut named ports ends given request before after
+    × IfErr request (IsFaultIn arguments) × IsCut named left given request before after
 
 -- how it ends where the arguments can't be had as texts
 abbrev pub IsEndWithoutArguments : Option (List ℕ) → Option (List ℕ) → ℕ → Type 0

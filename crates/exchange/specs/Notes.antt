@@ -1,17 +1,23 @@
 -- What is told on standard error beside what is printed.
-use Rattle.std.specs.Prelude.{◌≡◌, ◌≢◌, ◌⊎◌, ◌++◌, ⊤, ℕ, Bool, false, List, [], Option, Some, None, IfSome, codes}
+use Rattle.std.specs.Prelude.{◌≡◌, ◌≢◌, ◌⊎◌, ◌++◌, ⊤, ℕ, Bool, false, List, [], ◌∷◌, Option, Some, None, IfSome, codes}
 use Rattle.std.specs.Io.KnownBytes.{Appends}
 use Rattle.client_session.specs.Listening.{Told, TellsOfRefusals}
 use Rattle.plan_answers.specs.Refusals.{Printed}
 use Rattle.plan_answers.specs.declared.limits.TheConstants.{REFUSED}
 use Rattle.command_words.specs.declared.jobs.Job.{Job}
-use Rattle.command_words.specs.declared.jobs.Job.TheVariants.{C004}
+use Rattle.command_words.specs.declared.jobs.Job.TheVariants.{Switch, Drive, C004, Host}
 use Rattle.command_words.specs.declared.jobs.Request.{Request}
 use Rattle.refusals.specs.declared.refusal.Refusal.{Refusal}
 use Rattle.refusals.specs.declared.refusal.Refusal.TheVariants.{NoMemory}
 use Rattle.refusals.specs.Refusals.{refusal_line}
 use Rattle.refusal_notes.specs.Told.{line_told}
-use Rattle.exchange.specs.Responses.{IsTalk}
+use Rattle.batch.specs.Extent.{widest}
+use Rattle.batch.specs.Overlap.{Overlap}
+use Rattle.batch.specs.Text.{Denotes}
+use Rattle.batch.specs.declared.transfer.Transfer.{Transfer}
+use Rattle.command_words.specs.Jobs.{Files, files_of}
+use Rattle.exchange.specs.Contents.{AreContents, Holding}
+use Rattle.exchange.specs.Responses.{Given, IsTalk, text_in}
 
 -- ---- of what a line is told
 
@@ -65,22 +71,62 @@ abbrev pub IsC004 : Job → Type 0
 IsC004 C004 = ⊤
 IsC004 job = ⊥
 
--- what was told beside what is replied: nothing, but for `talk`, where the arguments don't ask for
--- silence: there what may be told of some refusals, one after another, behind what stood there; and
--- but for `c004`, which tells what it drops
-abbrev pub IsBeside : Request → Option (List ℕ) → Option (List ℕ) → Type 0
-IsBeside request before after =
+-- the job is `switch` or `drive`
+abbrev pub SetsSwitches : Job → Type 0
+SetsSwitches (Switch batch source wiring workers) = ⊤
+SetsSwitches (Drive batch port port_b source wiring first goes_on workers) = ⊤
+SetsSwitches job = ⊥
+
+-- two transfers of the batch of this text write one block
+abbrev pub HasOverlap : List ℕ → Type 0
+HasOverlap text =
+    (batch : List Transfer) × (i j : ℕ) × Denotes widest text batch × Overlap batch i j
+
+-- so it is of the batch that a job's files hold
+abbrev pub HasJobOverlap : Holding → Given → Job → Type 0
+HasJobOverlap holds given job =
+    (files : Files (List ℕ)) × (rest : Option (List ℕ))
+    × AreContents holds given.input (files_of job) files rest × HasOverlap (text_in files.list)
+
+-- the job is `host`
+abbrev pub IsHost : Job → Type 0
+IsHost (Host rack clients workers) = ⊤
+IsHost job = ⊥
+
+-- whole lines were told, one after another, each as far as it could be written
+abbrev pub AreToldLines : Option (List ℕ) → Option (List ℕ) → List (List ℕ) → Type 0
+AreToldLines before after [] = after ≡ before
+AreToldLines before after (line ∷ lines) =
+    (mid : Option (List ℕ)) × IsWholeLine line × IsToldInPart before mid line
+    × AreToldLines mid after lines
+
+-- such lines were told, unless none are wanted
+abbrev pub HasToldLines : Bool → Option (List ℕ) → Option (List ℕ) → Type 0
+HasToldLines quiet before after =
+    (after ≡ before)
+    ⊎ ((quiet ≡ false) × ((lines : List (List ℕ)) × AreToldLines before after lines))
+
+-- What was told beside what is replied, where the arguments don't ask for silence, and else
+-- nothing: by `talk` what may be told of some refusals, one after another, behind what stood there;
+-- by `c004` what it drops; by `switch` and `drive` at most a whole line, and that only where
+-- transfers overlap; and by `host` some whole lines.
+abbrev pub IsBeside : Type 0 → Request → Option (List ℕ) → Option (List ℕ) → Type 0
+IsBeside overlap request before after =
     (after ≡ before)
     ⊎ ((request.is_quiet ≡ false) × IsTalk request.job
     × TellsOfRefusals MayTell (told_there before) (told_there after))
     ⊎ ((request.is_quiet ≡ false) × IsC004 request.job
     × ((told : List ℕ) × Appends before after told))
+    ⊎ ((request.is_quiet ≡ false) × SetsSwitches request.job × overlap
+    × ((line : List ℕ) × IsWholeLine line × IsToldInPart before after line))
+    ⊎ ((request.is_quiet ≡ false) × IsHost request.job
+    × ((lines : List (List ℕ)) × AreToldLines before after lines))
 
--- what was told on standard error of an answer, behind what was told beside a session: nothing, or
--- one text of a refusal or of what stopped a drive, and nothing where the arguments ask for that
-abbrev pub IsNoted : Request → Printed → Option (List ℕ) → Option (List ℕ) → Type 0
-IsNoted request end before after =
-    (mid : Option (List ℕ)) × IsBeside request before mid
+-- what was told on standard error of an answer, behind what was told beside it: nothing, or one
+-- text of a refusal or of what stopped a drive, and nothing where the arguments ask for that
+abbrev pub IsNoted : Type 0 → Request → Printed → Option (List ℕ) → Option (List ℕ) → Type 0
+IsNoted overlap request end before after =
+    (mid : Option (List ℕ)) × IsBeside overlap request before mid
     × (Appends mid after []
     ⊎ ((request.is_quiet ≡ false) × (line : List ℕ) × HasSecondLine end line
     × IsToldInPart mid after line))

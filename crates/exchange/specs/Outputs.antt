@@ -119,6 +119,20 @@ AreKept begins received job (Some left) receipts =
     HaveGone begins received (record_of job) (record_text left.history) receipts.recorded
     × HaveGone begins received (output_of job) (image_of left.machine.store) receipts.image
 
+-- the same of a front of these bytes, which may be all
+abbrev pub HaveGoneInPart : {C : Type 0} → Beginning → (C → Option (List ℕ)) → Option (List ℕ)
+    → List ℕ → Option C → Type 0
+HaveGoneInPart begins received name bytes receipt =
+    (front rest : List ℕ) × (bytes ≡ front ++ rest) × HaveGone begins received name front receipt
+
+-- fronts of what belongs there went to these files; where no book is left, nothing
+abbrev pub AreKeptInPart : {C : Type 0} → Beginning → (C → Option (List ℕ)) → Job
+    → Option Account → Receipts C → Type 0
+AreKeptInPart begins received job None receipts = AreKept begins received job None receipts
+AreKeptInPart begins received job (Some left) receipts =
+    HaveGoneInPart begins received (record_of job) (record_text left.history) receipts.recorded
+    × HaveGoneInPart begins received (output_of job) (image_of left.machine.store) receipts.image
+
 -- these bytes were written to the file for them, if there is one; or a front of them, where it is
 -- told why not all
 abbrev pub IsFileWritten : {F : Type 0} → (F → Option (List ℕ)) → List ℕ → Option (OutFile F)

@@ -161,11 +161,12 @@ IsJobAnswer holds given job response =
     × LeavesRest job given.ports response.ports response.ends
 
 -- the same of what was told where not all of it could be written
-abbrev pub IsJobCut : Holding → Given → Job → Ways → List ℕ → Type 0
-IsJobCut holds given job ports told =
+abbrev pub IsJobCut : Holding → Given → Job → Ways → List SessionEnd → List ℕ → Type 0
+IsJobCut holds given job ports ends told =
     (files : Files (List ℕ)) × (rest : Option (List ℕ))
     × AreContents holds given.input (files_of job) files rest
     × IsToldCut job files (given_by rest given.ports given.clients) ports told
+    × LeavesRest job given.ports ports ends
 
 -- what was told where a job has no answer: nothing, or so much behind its files
 abbrev pub IsJobInVain : Holding → Given → Job → List ℕ → Type 0

@@ -17,18 +17,18 @@ use std::fs;
 use std::fs::Metadata;
 use std::io::ErrorKind;
 use std::os::unix::fs::{FileTypeExt, MetadataExt};
-use std::path::Path;
+use std::path::{Path, PathBuf};
 use std::rt::Files;
 
 /// The file that a name leads to.
-#[derive(Clone, Copy)]
-pub struct Place<'a> {
+#[derive(Drop)]
+pub struct Place {
     /// The device on which it is, or its folder.
     pub device: u64,
     /// Its number there, or that of its folder.
     pub number: u64,
     /// Its name in that folder, where it isn't there yet, and else nothing.
-    pub name: &'a str,
+    pub name: String,
     /// Whether it is a character device, as a terminal is.
     pub is_device: bool,
 }
@@ -40,8 +40,8 @@ pub trait Places {
     ghost leads: { Self → List ℕ → Option Place → Type 0 };
 
     /// The file that a name leads to, where that can be told.
-    fn place<'a>(&self, name: &'a str) -> Result<Option<Place<'a>>, AllocError>
-        ensures { IfOk result (leads self.now name.entry.now) };
+    fn place(&self, name: &str) -> Result<Option<Place>, AllocError>
+        ensures { IfOk result (leads self.now name.now) };
 }
 
 impl Places for HostRuntime {
@@ -49,24 +49,56 @@ impl Places for HostRuntime {
 
     ghost leads = { λ _ _ _. ⊤ };
 
-    fn place<'a>(&self, name: &'a str) -> Result<Option<Place<'a>>, AllocError> {
-        let path = if name == "-" { "/dev/stdin" } else { name };
-        if let Some(metadata) = look(self, path)? {
-            return Ok(Some(place_of(&metadata, "")));
+    fn place(&self, name: &str) -> Result<Option<Place>, AllocError> {
+        let name = if name == "-" { "/dev/stdin" } else { name };
+        match look(self, name)? {
+            Some(metadata) => Ok(Some(place_of(&metadata, String::new(self.alloc())))),
+            None => place_unmade(self, name),
         }
-        let path = Path::new(path);
-        let (Some(folder), Some(name)) = (path.parent(), path.file_name()) else {
-            return Ok(None);
-        };
-        let folder = if folder.as_str().is_empty() {
-            "."
-        } else {
-            folder.as_str()
-        };
-        match look(self, folder)? {
-            Some(metadata) => Ok(Some(place_of(&metadata, name))),
-            None => Ok(None),
+    }
+}
+
+/// How many links are followed, one behind another.
+const MAX_LINKS: usize = 40;
+
+/// The place of a file that isn't there yet: its name in its folder. A link leads to what it names.
+fn place_unmade(rt: &HostRuntime, name: &str) -> Result<Option<Place>, AllocError> {
+    let mut path = PathBuf::from_str(rt.alloc(), name)?;
+    for _ in 0..MAX_LINKS {
+        match target_of(rt, path.as_path())? {
+            Some(target) => path = target,
+            None => return place_in_folder(rt, path.as_path()),
         }
+    }
+    Ok(None)
+}
+
+/// What a link names, where there is a link.
+fn target_of(rt: &HostRuntime, path: Path<'_>) -> Result<Option<PathBuf>, AllocError> {
+    let target = match fs::read_link(rt, path) {
+        Ok(target) => target,
+        Err(error) if error.kind() == ErrorKind::OutOfMemory => return Err(AllocError),
+        Err(_) => return Ok(None),
+    };
+    match path.parent() {
+        Some(folder) => Ok(Some(folder.join(rt.alloc(), target)?)),
+        None => Ok(Some(target)),
+    }
+}
+
+/// The place that a name in a folder is.
+fn place_in_folder(rt: &HostRuntime, path: Path<'_>) -> Result<Option<Place>, AllocError> {
+    let (Some(folder), Some(name)) = (path.parent(), path.file_name()) else {
+        return Ok(None);
+    };
+    let folder = if folder.as_str().is_empty() {
+        "."
+    } else {
+        folder.as_str()
+    };
+    match look(rt, folder)? {
+        Some(metadata) => Ok(Some(place_of(&metadata, format!(in rt.alloc(); "{name}")?))),
+        None => Ok(None),
     }
 }
 
@@ -80,7 +112,7 @@ fn look<R: Files>(rt: &R, path: &str) -> Result<Option<Metadata>, AllocError> {
 }
 
 /// The file of which the system says this, or one of this name in that folder.
-fn place_of<'a>(metadata: &Metadata, name: &'a str) -> Place<'a> {
+fn place_of(metadata: &Metadata, name: String) -> Place {
     Place {
         device: metadata.dev(),
         number: metadata.ino(),
@@ -90,10 +122,12 @@ fn place_of<'a>(metadata: &Metadata, name: &'a str) -> Place<'a> {
 }
 
 /// Whether both are one file.
-fn are_one_file(one: &Place<'_>, other: &Place<'_>) -> bool
+fn are_one_file(one: &Place, other: &Place) -> bool
     ensures { IsTrue result ↔ AreOneFile one.now other.now }
 {
-    one.device == other.device && one.number == other.number && one.name == other.name
+    one.device == other.device
+        && one.number == other.number
+        && one.name.as_str() == other.name.as_str()
 }
 
 /// Whether it is a port.
@@ -105,7 +139,7 @@ fn is_port(access: Access) -> bool
 
 /// Whether files of these uses have to be two, and are one. A character device may be one, but as a
 /// port.
-fn clash_at(one: Access, other: Access, place: &Place<'_>, there: &Place<'_>) -> bool
+fn clash_at(one: Access, other: Access, place: &Place, there: &Place) -> bool
     ensures { IsTrue result ↔ Clash one other place.now there.now }
 {
     one.excludes(other)
@@ -114,12 +148,7 @@ fn clash_at(one: Access, other: Access, place: &Place<'_>, there: &Place<'_>) ->
 }
 
 /// The same, where both can be told.
-fn clash_seen(
-    one: Access,
-    other: Access,
-    place: &Option<Place<'_>>,
-    there: &Option<Place<'_>>,
-) -> bool
+fn clash_seen(one: Access, other: Access, place: &Option<Place>, there: &Option<Place>) -> bool
     ensures { IsTrue result ↔ IsClashSeen one other place.now there.now }
 {
     match (place, there) {

@@ -2,6 +2,7 @@
 
 ghost use Rattle.std.specs.Prelude.{◌≡◌, ℕ, List, IfOk};
 
+use crate::found::Lack;
 use crate::sent_file::SentFile;
 use command_words::Text;
 use contract_data::PassedBytes;
@@ -9,6 +10,8 @@ use session_answers::{AllThere, ClientStreams};
 use std::alloc::Global;
 use std::fs::File;
 use std::io;
+use std::io::ErrorKind;
+use std::sync::OnceLock;
 
 /// What opens the files of clients, in the thread of each, once all threads are there.
 pub trait ClientFiles: Sync {
@@ -30,6 +33,22 @@ pub(crate) struct FileStreams<'a, S> {
     pub(crate) system: &'a S,
     pub(crate) alloc: Global,
     pub(crate) clients: &'a [Text],
+    /// Of each client the file that couldn't be opened, where one couldn't, and why.
+    pub(crate) unopened: &'a [OnceLock<Lack>],
+}
+
+impl<'a, S> FileStreams<'a, S> {
+    /// Keeps which file of a client couldn't be opened, and why, where there is memory for that.
+    fn keep(&self, client: usize, name: String, error: &io::Error) {
+        if error.kind() == ErrorKind::OutOfMemory {
+            return;
+        }
+        if let Some(unopened) = self.unopened.get(client)
+            && let Ok(why) = error.to_string(self.alloc)
+        {
+            let _ = unopened.try_set(Lack { name, why });
+        }
+    }
 }
 
 impl<'a, S: ClientFiles> ClientStreams for FileStreams<'a, S> {
@@ -62,9 +81,20 @@ impl<'a, S: ClientFiles> ClientStreams for FileStreams<'a, S> {
         let name = self.name(client);
         let said = format!(in self.alloc; "{name}.in")?;
         let told = format!(in self.alloc; "{name}.out")?;
-        let reader = self.system.open_heard(&there, said.as_str())?;
-        let writer = self.system.open_told(&there, told.as_str())?;
-        Ok((reader, writer))
+        let reader = match self.system.open_heard(&there, said.as_str()) {
+            Ok(reader) => reader,
+            Err(error) => {
+                self.keep(client, said, &error);
+                return Err(error);
+            }
+        };
+        match self.system.open_told(&there, told.as_str()) {
+            Ok(writer) => Ok((reader, writer)),
+            Err(error) => {
+                self.keep(client, told, &error);
+                Err(error)
+            }
+        }
     }
 
     fn close(&self, writer: SentFile) -> PassedBytes {

@@ -6,12 +6,13 @@ ghost use Rattle.drive_answers.specs.Ways.{names_of};
 ghost use Rattle.drive_answers.specs.declared.fault.DriveFault.TheVariants.{NoMemory, Untold};
 ghost use Rattle.exchange.specs.Contents.{contents_in};
 ghost use Rattle.exchange.specs.Drives.{IsDriveBy, IsDriveCut};
-ghost use Rattle.exchange.specs.Outcomes.{HasTold, IsNoAnswer};
+ghost use Rattle.exchange.specs.Outcomes.{HasTold, IsMissedFor, IsNoAnswer};
 ghost use Rattle.exchange.specs.Responses.{source_in, text_in};
 
 use crate::contents::{Contents, slice_of, source_with, text_of};
 use crate::found::{Found, Lack};
 use crate::notes::NoAnswer;
+use crate::unwritten::Unwritten;
 use command_words::Text;
 use crossbar::Chip;
 use drive_answers::{
@@ -26,11 +27,12 @@ use std::io::{ErrorKind, Read, Write};
 use std::thread::Threads;
 use switch_driver::Lines;
 
-/// How a drive by lines ended, and why no line could be read, where one couldn't.
+/// How a drive by lines ended, and why a setting couldn't be told, or no line be read, where that
+/// was so.
 #[derive(Drop)]
 struct LinesEnd {
     end: Result<DriveEnd, DriveFault>,
-    unread: Option<io::Error>,
+    reason: Option<io::Error>,
 }
 
 /// What is answered to these texts behind lines that are told on `out`. Behind each a line of
@@ -66,10 +68,10 @@ fn answer_lines<R: AllocGlobal + Threads + Sync, P: Ports, I: Read, O: Write>(
     let end = answer_drive(
         rt, alloc, wiring, list, source, workers, first, names, ports, &mut lines,
     );
-    let unread = lines.take_unread();
+    let reason = lines.take_reason();
     // It does nothing when the program runs: the proof reads from it what `out` holds.
     lines.into_out();
-    LinesEnd { end, unread }
+    LinesEnd { end, reason }
 }
 
 /// The answer of `exchange drive BATCH PORT [PORT_B]`, from this setting on, behind the lines that
@@ -99,19 +101,29 @@ pub(crate) fn drive<R: AllocGlobal + Threads + Sync, P: Ports, I: Read, O: Write
         (P.ways ports.new) told) result }
     ensures note { IfErr result (λ missed. IsNoAnswer missed) }
 {
-    let LinesEnd { end, unread } = answer_lines(
+    let LinesEnd { end, reason } = answer_lines(
         rt, workers, source, contents, first, names, goes_on, ports, input, out,
     );
     match end {
         Ok(end) => {
             let failure = ports.take_failure();
-            let lack = lack_of(rt.alloc(), names, failure, end.sight, unread);
+            let lack = lack_of(rt.alloc(), names, failure, end.sight, reason);
             Ok(Found {
                 lack,
                 ..Found::alone(end.answer)
             })
         }
-        Err(fault) => Err(fault.into()),
+        Err(fault) => Err(missed_by(fault, reason)),
+    }
+}
+
+/// Why nothing is printed behind settings. A setting couldn't be told for this reason.
+fn missed_by(fault: DriveFault, reason: Option<io::Error>) -> NoAnswer
+    ensures { IsNoAnswer result × IsMissedFor fault result }
+{
+    match fault {
+        DriveFault::Untold => NoAnswer::Unwritten(Unwritten::Setting(reason)),
+        DriveFault::NoMemory => NoAnswer::from(AllocError),
     }
 }
 

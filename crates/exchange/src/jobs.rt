@@ -12,20 +12,22 @@ ghost use Rattle.session_answers.specs.Talking.{IsTalkAnswer, IsTalkInVain};
 ghost use Rattle.exchange.specs.Apart.{AreSeenApart};
 ghost use Rattle.exchange.specs.Contents.{contents_in};
 ghost use Rattle.exchange.specs.Clients.{clients_by, ends_of};
-ghost use Rattle.exchange.specs.Responses.{Given, IsJobAnswer, IsAnswerTo, IsC004By, IsC004Cut, IsJobCut, IsJobInVain, IsOfTexts, IsToldCut, IsToldInVain, LeavesRest, given_by};
-ghost use Rattle.exchange.specs.Notes.{IsBeside};
-ghost use Rattle.exchange.specs.Outputs.{AreKept, AreOutputsWritten, lost_none};
+ghost use Rattle.exchange.specs.Responses.{Given, IsJobAnswer, IsAnswerTo, IsC004By, IsC004Cut, IsJobCut, IsJobInVain, IsOfTexts, IsToldCut, IsToldInVain, LeavesRest, given_by, text_in as the_text};
+ghost use Rattle.exchange.specs.Notes.{HasJobOverlap, HasOverlap, IsBeside};
+ghost use Rattle.exchange.specs.Outputs.{AreKept, AreKeptInPart, AreOutputsWritten, lost_none};
 ghost use Rattle.exchange.specs.Outcomes.{HasNote, HasTold, IsNoAnswer, IsNever, IsNothing, IsRefused, IsUnanswered, response_of};
 
 use crate::beside::Beside;
 use crate::client_streams::{ClientFiles, FileStreams};
 use crate::contents::{Contents, read_contents, slice_of, source_with, text_of};
 use crate::driving::drive;
-use crate::found::Found;
+use crate::found::{Found, Lack};
 use crate::notes::{Answered, NoAnswer, finished, reason_line, tell_note};
 use crate::outputs::{Outputs, Receipts, close_outputs, open_apart};
+use crate::overlaps::{tell_overlap, tell_overlap_beside};
 use crate::peers::Peers;
 use crate::system::{Runtime, System};
+use crate::unopened::{no_lacks, tell_lacks};
 use crate::unwritten::Unwritten;
 use client_session::{Listener, NoListener};
 use command_words::{Job, Request, SharedRack, Text};
@@ -39,7 +41,7 @@ use session_answers::{Ending, answer_host, answer_serve, answer_talk};
 use std::alloc::{AllocError, Global};
 use std::io;
 use std::io::{Read, Write};
-use std::sync::Wait;
+use std::sync::{OnceLock, Wait};
 use std::thread::Threads;
 use switch_end::{EndFault, SwitchEnd, answer_commands};
 
@@ -52,9 +54,11 @@ pub(crate) struct Ended<C> {
 /// The answer to a job, or why it has none, with what is told beside it. A session of `talk` is
 /// told its replies on `out` before, and a line on `err` beside each that is a refusal, but for
 /// lack of memory. `drive` tells its settings on `out` before, and `c004` writes its answers to
-/// enquiries there, and tells on `err` what it drops. It is looked first where names lead. Then the
-/// files for the record of sessions and for the image that they leave are opened, before any other
-/// is read, and all that are read are read before anything is answered.
+/// enquiries there, and tells on `err` what it drops. `switch` and `drive` tell on `err` where two
+/// transfers write one block, and `host` which files of clients couldn't be opened. It is looked
+/// first where names lead. Then the files for the record of sessions and for the image that they
+/// leave are opened, before any other is read, and all that are read are read before anything is
+/// answered.
 pub(crate) fn answer_to<R: Runtime, S: System, P: Ports, I: Read, O: Write, E: Write>(
     rt: &R,
     system: &S,
@@ -78,15 +82,19 @@ pub(crate) fn answer_to<R: Runtime, S: System, P: Ports, I: Read, O: Write, E: W
           ends = ends_of peers.new.endings.items;
         })
         × (done.lost ≡ lost_none → AreKept (S.begins system.now) S.received request.now.job left
-        result.receipts))
+        result.receipts)
+        × AreKeptInPart (S.begins system.now) S.received request.now.job left result.receipts)
         (IsUnanswered (IsJobInVain (S.holds system.now) (given_by (I.remaining input.old)
         (P.ways peers.old.ports) (clients_by (S.had system.now))) request.now.job)
         (P.ways peers.old.ports) (P.ways peers.new.ports)
         (ends_of peers.new.endings.items))
         (IsJobCut (S.holds system.now) (given_by (I.remaining input.old) (P.ways peers.old.ports)
-        (clients_by (S.had system.now))) request.now.job (P.ways peers.new.ports)) result.end }
+        (clients_by (S.had system.now))) request.now.job (P.ways peers.new.ports)
+        (ends_of peers.new.endings.items)) result.end }
     ensures note { HasNote result.end }
-    ensures beside { IsBeside request.now (E.contents err.old) (E.contents err.new) }
+    ensures beside { IsBeside (HasJobOverlap (S.holds system.now) (given_by (I.remaining input.old)
+        (P.ways peers.old.ports) (clients_by (S.had system.now))) request.now.job) request.now
+        (E.contents err.old) (E.contents err.new) }
     ensures apart { OnOk result.end
         (AreSeenApart (S.leads system.now) (file_uses request.now.job)) }
     ensures unkept { OnErr result.end
@@ -142,9 +150,12 @@ fn answer_opened<R: Runtime, S: System, P: Ports, I: Read, O: Write, E: Write>(
         (P.ways peers.old.ports) (P.ways peers.new.ports)
         (ends_of peers.new.endings.items))
         (IsJobCut (S.holds system.now) (given_by (I.remaining input.old) (P.ways peers.old.ports)
-        (clients_by (S.had system.now))) request.now.job (P.ways peers.new.ports)) result }
+        (clients_by (S.had system.now))) request.now.job (P.ways peers.new.ports)
+        (ends_of peers.new.endings.items)) result }
     ensures note { HasNote result }
-    ensures beside { IsBeside request.now (E.contents err.old) (E.contents err.new) }
+    ensures beside { IsBeside (HasJobOverlap (S.holds system.now) (given_by (I.remaining input.old)
+        (P.ways peers.old.ports) (clients_by (S.had system.now))) request.now.job) request.now
+        (E.contents err.old) (E.contents err.new) }
     ensures unkept { OnErr result (outputs.new ≡ outputs.old) }
     ensures opened { OnOk result (IsOk opened) }
 {
@@ -183,7 +194,8 @@ fn answer_job<R: Runtime, S: System, P: Ports, I: Read, O: Write, E: Write>(
         (IsToldCut request.now.job (contents_in contents.now) (given_by (I.remaining input.old)
         (P.ways peers.old.ports) (clients_by (S.had system.now))) (P.ways peers.new.ports)) result }
     ensures note { IfErr result (λ missed. IsNoAnswer missed) }
-    ensures beside { IsBeside request.now (E.contents err.old) (E.contents err.new) }
+    ensures beside { IsBeside (HasOverlap (the_text (contents_in contents.now).list)) request.now
+        (E.contents err.old) (E.contents err.new) }
     ensures rest { LeavesRest request.now.job (P.ways peers.old.ports) (P.ways peers.new.ports)
         (ends_of peers.new.endings.items) }
 {
@@ -201,6 +213,7 @@ fn answer_job<R: Runtime, S: System, P: Ports, I: Read, O: Write, E: Write>(
                 port: port.as_str(),
                 port_b: text_in(port_b),
             };
+            tell_overlap(rt.alloc(), request, contents, err);
             drive(
                 rt,
                 *workers,
@@ -223,15 +236,20 @@ fn answer_job<R: Runtime, S: System, P: Ports, I: Read, O: Write, E: Write>(
             workers,
         } => {
             let clients = clients.as_slice();
-            host(
+            let lacks = no_lacks(rt.alloc(), clients.len())?;
+            let lacks = lacks.as_slice();
+            let end = host(
                 rt,
                 system,
                 rack,
                 clients,
                 *workers,
                 contents,
+                lacks,
                 &mut peers.endings,
-            )
+            );
+            tell_lacks(rt.alloc(), lacks, request.is_quiet, err);
+            end
         }
         Job::Talk { rack } if request.is_quiet => {
             talk(rt, rack, contents, input, out, &mut NoListener)
@@ -242,6 +260,11 @@ fn answer_job<R: Runtime, S: System, P: Ports, I: Read, O: Write, E: Write>(
             // It does nothing when the program runs: the proof reads from it what `err` holds.
             beside.into_stream();
             end
+        }
+        Job::Switch { .. } => {
+            let found = answer_texts(rt, &request.job, contents)?;
+            tell_overlap_beside(rt.alloc(), request, contents, &found.answer, err);
+            Ok(found)
         }
         job => Ok(answer_texts(rt, job, contents)?),
     }
@@ -384,7 +407,7 @@ fn serve<R: AllocGlobal + Threads + Wait + Sync>(
 }
 
 /// The answer of `exchange host SHAPE CLIENT..`, behind the sessions of the clients, of whose ends
-/// it is told.
+/// it is told. Which of their files couldn't be opened is kept.
 fn host<R: AllocGlobal + Threads + Wait + Sync, S: ClientFiles>(
     rt: &R,
     system: &S,
@@ -392,6 +415,7 @@ fn host<R: AllocGlobal + Threads + Wait + Sync, S: ClientFiles>(
     clients: &[Text],
     workers: WorkerCount,
     contents: &Contents,
+    unopened: &[OnceLock<Lack>],
     endings: &mut Vec<Ending<PassedBytes>>,
 ) -> Result<Found, NoAnswer>
     requires { CanBeServed clients.now }
@@ -409,6 +433,7 @@ fn host<R: AllocGlobal + Threads + Wait + Sync, S: ClientFiles>(
         system,
         alloc,
         clients,
+        unopened,
     };
     let hosted = answer_host(rt, alloc, shape, image, workers, &streams)?;
     *endings = hosted.endings;

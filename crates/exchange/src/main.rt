@@ -7,14 +7,16 @@
 //! contain and over the ports of their names, or the line that says why there is none; or it ends
 //! as for an error of clap (`IsEndFor` of `specs/Ends.antt`, `IsAnswerTo` of
 //! `specs/Responses.antt`). Where it ends with status 3, a front of that stands there, or of what is
-//! told before it (`IsCutFor`). Else what sessions leave went to the files that `--record` and
-//! `--image-out` name, and nothing else did (`AreKept` of `specs/Outputs.antt`). What a live client
-//! was told went to the file of its name (`clients_by` of `specs/Clients.antt`). No port was opened
-//! but by `drive`, once, by the names of its words (`Ways` of `drive_answers`).
+//! told before it, and fronts of what sessions leave went to the files for that (`IsCutFor`). Else
+//! what sessions leave went to the files that `--record` and `--image-out` name, and nothing else
+//! did (`AreKept` of `specs/Outputs.antt`). What a live client was told went to the file of its name
+//! (`clients_by` of `specs/Clients.antt`). No port was opened but by `drive`, once, by the names of
+//! its words (`Ways` of `drive_answers`).
 //! Which bytes a file holds, where names lead, and what had gone to a file before, the
 //! [`System`](system::System) tells: of the real one contracts know none but the bytes of standard
 //! input. Beside what it prints for a job, standard error gets at most a front of one text of a
-//! refusal, and what is told beside `talk` and `c004` (`IsNoted` of `specs/Notes.antt`).
+//! refusal, and what is told beside `talk`, `c004` and `host`, and beside `switch` and `drive`
+//! where transfers overlap (`IsNoted` of `specs/Notes.antt`).
 #![tactic(auto)]
 
 mod apart;
@@ -29,6 +31,7 @@ mod limits;
 mod lost;
 mod notes;
 mod outputs;
+mod overlaps;
 mod peers;
 mod ports;
 mod responding;
@@ -36,6 +39,7 @@ mod sent_file;
 mod system;
 mod texts;
 mod unanswered;
+mod unopened;
 mod unwritten;
 
 use crate::limits::UNWRITTEN;

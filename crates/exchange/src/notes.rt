@@ -16,7 +16,6 @@ use crate::unanswered::Unanswered;
 use crate::unwritten::Unwritten;
 use byte_streams::write_bytes;
 use command_words::{Job, Text};
-use drive_answers::DriveFault;
 use plan_answers::{Answer, REFUSED};
 use refusal_notes::{Texts, file_line, second_line};
 use refusals::Refusal;
@@ -56,19 +55,6 @@ impl From<AllocError> for NoAnswer {
         NoAnswer::Refused {
             why: Unanswered::NoMemory,
             note: None,
-        }
-    }
-}
-
-impl From<DriveFault> for NoAnswer {
-    ghost use Rattle.exchange.specs.Outcomes.{IsNoAnswer, IsMissedFor};
-
-    ghost from_gives = { λ fault missed. IsNoAnswer missed × IsMissedFor fault missed };
-
-    fn from(fault: DriveFault) -> NoAnswer {
-        match fault {
-            DriveFault::Untold => NoAnswer::Unwritten(Unwritten::Setting),
-            DriveFault::NoMemory => NoAnswer::from(AllocError),
         }
     }
 }
@@ -120,7 +106,7 @@ fn says_stop(answer: &Answer) -> bool
 }
 
 /// What is told of what lacks.
-fn lack_line(alloc: Global, lack: &Lack) -> Option<String>
+pub(crate) fn lack_line(alloc: Global, lack: &Lack) -> Option<String>
     ensures { IfSome result (λ line. IsWholeLine (string_bytes line)) }
 {
     file_line(alloc, lack.name.as_str(), lack.why.as_str())

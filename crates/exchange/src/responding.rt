@@ -8,7 +8,7 @@ ghost use Rattle.exchange.specs.Responses.{given_by, named_by, unanswered};
 ghost use Rattle.exchange.specs.Notes.{IsToldInPart, IsToldUnless};
 ghost use Rattle.exchange.specs.Clients.{clients_by, ends_of};
 ghost use Rattle.exchange.specs.Outputs.{lost_none};
-ghost use Rattle.exchange.specs.Ends.{IsLeft, IsNoneLeft, IsPrinted, streams_of, IsCutFor, IsEndForArguments, IsEndWithoutArguments, IsFaultCut, IsFaultEnd};
+ghost use Rattle.exchange.specs.Ends.{IsLeft, IsNoneLeft, IsPrinted, leaving, streams_of, IsCutFor, IsEndForArguments, IsEndWithoutArguments, IsFaultCut, IsFaultEnd};
 ghost use Rattle.exchange.specs.Ends.{IsUnwrittenOf, IsUnwrittenTold};
 
 use crate::jobs::{Ended, answer_to};
@@ -55,7 +55,8 @@ pub fn respond<R: Runtime, S: System, P: Ports, I: Read, O: Write, E: Write>(
     ensures arguments { IfOk arguments (λ w.
         ((exit_status result.code ≡ UNWRITTEN)
         × IsCutFor (named_by (S.holds system.now) (S.leads system.now))
-        (P.ways peers.new.ports) (ends_of peers.new.endings.items) (texts_of w.items)
+        (leaving (S.begins system.now) S.received result.receipts (P.ways peers.old.ports)
+        (P.ways peers.new.ports) (ends_of peers.new.endings.items)) (texts_of w.items)
         (given_by (I.remaining input.old) (P.ways peers.old.ports) (clients_by (S.had system.now)))
         (O.contents out.old) (O.contents out.new))
         ⊎ IsEndForArguments (named_by (S.holds system.now) (S.leads system.now))
@@ -149,7 +150,8 @@ fn print_response<R: Runtime, S: System, P: Ports, I: Read, O: Write, E: Write>(
         (E.contents err.new))) }
     ensures cut { OnErr result.0 (IsCutFor
         (named_by (S.holds system.now) (S.leads system.now))
-        (P.ways peers.new.ports) (ends_of peers.new.endings.items) (texts_of arguments.now)
+        (leaving (S.begins system.now) S.received result.1 (P.ways peers.old.ports)
+        (P.ways peers.new.ports) (ends_of peers.new.endings.items)) (texts_of arguments.now)
         (given_by (I.remaining input.old) (P.ways peers.old.ports) (clients_by (S.had system.now)))
         (O.contents out.old) (O.contents out.new)) }
 {

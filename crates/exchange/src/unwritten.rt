@@ -13,8 +13,8 @@ pub(crate) enum Unwritten {
     /// The answer, or what a session or a switch is told before it; and what was lost before that
     /// of what sessions leave.
     Answer { error: io::Error, lost: Lost },
-    /// The line of a setting that stands.
-    Setting,
+    /// The line of a setting that stands, and why, where that is known.
+    Setting(Option<io::Error>),
     /// What sessions leave: their record, the image, or both. The answer was printed.
     Kept(Lost),
 }
@@ -39,7 +39,12 @@ impl Unwritten {
                 lost.tell(err);
                 let _ = err.writeln(format_args!("exchange: the answer can't be written: {error}"));
             }
-            Unwritten::Setting => tell_line(
+            Unwritten::Setting(Some(error)) => {
+                let _ = err.writeln(format_args!(
+                    "exchange: a setting that stands can't be told: {error}"
+                ));
+            }
+            Unwritten::Setting(None) => tell_line(
                 b"exchange: a setting that stands can't be told\n",
                 err,
             ),

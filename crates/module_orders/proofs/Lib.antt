@@ -4,5 +4,10 @@ pub mod Telling
 pub mod Lines
 pub mod Members
 pub mod OneTold
+pub mod Told
 pub mod Meeting
+pub mod Asides
 pub mod Obeyed
+pub mod Uncopied
+pub mod Steps
+pub mod Missed

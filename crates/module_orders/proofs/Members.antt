@@ -1,9 +1,9 @@
 -- What stands in lists that are made of others.
-use Rattle.std.proofs.Common.{ℕ, Bool, true, false, cond, ◌≡◌, ◌<◌, List, [], ◌∷◌, map, refl, sym, ap, ◌∙◌, subst, arith, inl, inr, ◌||◌}
+use Rattle.std.proofs.Common.{ℕ, zero, suc, Bool, true, false, cond, ◌≡◌, ◌≢◌, ◌≤◌, ◌<◌, ◌+◌, List, [], ◌∷◌, ◌++◌, length, length-append, map, refl, sym, ap, ◌∙◌, subst, arith, inl, inr, ◌||◌}
 use Rattle.std.specs.Prelude.{Contains, filter}
 use Rattle.std.specs.List.{flat_map, list_any, range_with_len}
-use Rattle.std.proofs.lemmas.Bool.{false≢true}
-use Rattle.std.proofs.lemmas.List.Elements.{Contains-append_cases, Contains-append_left, Contains-append_right}
+use Rattle.std.proofs.lemmas.Bool.{cases_eq, false≢true}
+use Rattle.std.proofs.lemmas.List.Elements.{Contains-append_cases, Contains-append_left, Contains-append_right, filter-append}
 use Rattle.std.proofs.lemmas.List.FromFn.{get_or-range_with_len, length-range_with_len}
 use Rattle.batch.proofs.Lists.{at_cons}
 
@@ -80,10 +80,57 @@ any_from p (y ∷ ys) x c up = elim (at_cons y x ys c) [
     or_up true = refl
     or_up false = refl
 
+-- the element that passes
+pub in_any : {X : Type 0} (p : X → Bool) (xs : List X) → list_any p xs ≡ true → (x : X) × Contains xs x × (p x ≡ true)
+in_any p [] up = absurd (false≢true up)
+in_any {X} p (x ∷ xs) up =
+    let rest = in_any p xs in
+    elim (p x) as (λ b. p x ≡ b → (b || list_any p xs) ≡ true → (y : X) × Contains (x ∷ xs) y × (p y ≡ true)) [
+      | true ↦ λ e _. (x, here x x xs refl, e)
+      | false ↦ λ _ some. let r = rest some in (r.0, there x r.0 xs r.1, r.2)
+    ] refl up
+
+-- a test that doesn't pass
+pub down : (b : Bool) → (b ≡ true → ⊥) → b ≡ false
+down true n = absurd (n refl)
+down false n = refl
+
 -- none passes
 pub none_from : {X : Type 0} (p : X → Bool) (xs : List X) (x : X) → list_any p xs ≡ false → Contains xs x → p x ≡ false
 none_from p xs x none c = down (p x) (λ up. false≢true (sym none ∙ any_from p xs x c up))
-  where
-    down : (b : Bool) → (b ≡ true → ⊥) → b ≡ false
-    down true n = absurd (n refl)
-    down false n = refl
+
+-- ---- how many stand there
+
+-- none passes, so none is left
+pub filter_none : {X : Type 0} (p : X → Bool) (xs : List X) → ((x : X) → Contains xs x → p x ≡ false) → filter p xs ≡ []
+filter_none p [] none = refl
+filter_none p (x ∷ xs) none =
+    ap (λ (b : Bool). cond b (x ∷ filter p xs) (filter p xs)) (none x (here x x xs refl)) ∙ filter_none p xs (λ y c. none y (there x y xs c))
+
+pub filter_pieces : {X Y : Type 0} (p : Y → Bool) (f : X → List Y) (xs : List X) → filter p (flat_map f xs) ≡ flat_map (λ x. filter p (f x)) xs
+filter_pieces p f [] = refl
+filter_pieces p f (x ∷ xs) = filter-append p (f x) (flat_map f xs) ∙ ap (λ ys. filter p (f x) ++ ys) (filter_pieces p f xs)
+
+pub fewer_pieces : {X Y : Type 0} (q : X → Bool) (f : X → List Y) (xs : List X) → length (flat_map f (filter q xs)) ≤ length (flat_map f xs)
+fewer_pieces q f [] = omega arith
+fewer_pieces q f (x ∷ xs) =
+    let rest = fewer_pieces q f xs in
+    elim (q x) as (λ b. length (flat_map f (cond b (x ∷ filter q xs) (filter q xs))) ≤ length (f x ++ flat_map f xs)) [
+      | true ↦ omega (arith, length-append (f x) (flat_map f (filter q xs)), length-append (f x) (flat_map f xs), rest)
+      | false ↦ omega (arith, length-append (f x) (flat_map f xs), rest)
+    ]
+
+no_piece : {Y : Type 0} (f : ℕ → List Y) (a n i : ℕ) → i < a → ((j : ℕ) → j ≢ i → f j ≡ []) → length (flat_map f (range_with_len a n)) ≡ 0
+no_piece f a zero i l none = refl
+no_piece f a (suc n) i l none =
+    omega (arith, length-append (f a) (flat_map f (range_with_len (a + 1) n)), ap length (none a (λ e. omega arith)), no_piece f (a + 1) n i (omega arith) none)
+
+-- where all pieces but one are empty, there is as much as in that one at most
+pub one_piece : {Y : Type 0} (f : ℕ → List Y) (a n i : ℕ) → ((j : ℕ) → j ≢ i → f j ≡ []) → (i < a + n → length (f i) ≤ 1) → length (flat_map f (range_with_len a n)) ≤ 1
+one_piece f a zero i none one = omega arith
+one_piece f a (suc n) i none one = elim (cases_eq a i) [
+  | inl e ↦
+      omega (arith, length-append (f a) (flat_map f (range_with_len (a + 1) n)), ap (λ (j : ℕ). length (f j)) e, one (omega arith), no_piece f (a + 1) n i (omega arith) none)
+  | inr other ↦
+      omega (arith, length-append (f a) (flat_map f (range_with_len (a + 1) n)), ap length (none a other), one_piece f (a + 1) n i none (λ l. one (omega arith)))
+]

@@ -1,7 +1,7 @@
 -- Modules that obey move the words of transfers, and so place all blocks.
-use Rattle.std.proofs.Common.{ℕ, suc, Bool, true, false, cond, ◌==◌, ◌&&◌, ◌||◌, ◌≡◌, ◌≢◌, ◌<◌, ◌+◌, List, [], ◌∷◌, ◌++◌, length, map, take, drop, get_or, slice_index, refl, sym, ap, ap₂, ◌∙◌, subst, arith, inl, inr, eq-eqb, add-one, append_assoc, length-append}
+use Rattle.std.proofs.Common.{ℕ, suc, Bool, true, false, cond, ◌==◌, ◌||◌, ◌≡◌, ◌≢◌, ◌<◌, ◌+◌, List, [], ◌∷◌, ◌++◌, length, map, take, drop, get_or, slice_index, refl, sym, ap, ap₂, ◌∙◌, subst, arith, inl, inr, add-one, append_assoc, length-append}
 use Rattle.std.specs.Prelude.{All, Contains}
-use Rattle.std.specs.List.{concat, list_any, range_with_len}
+use Rattle.std.specs.List.{concat}
 use Rattle.std.proofs.lemmas.Bool.{cases_lt, false≢true}
 use Rattle.std.proofs.lemmas.List.{drop_more, get_or-map, get_or_append_left, length-drop, length-map, take-append-drop, map-append}
 use Rattle.std.proofs.lemmas.List.Elements.{All-contains, All-head, Contains-get_or}
@@ -11,7 +11,7 @@ use Rattle.batch.proofs.Lists.{concat_more}
 use Rattle.batch.specs.Extent.{Extent}
 use Rattle.batch.specs.Overlap.{no_transfer, transfer_at}
 use Rattle.batch.specs.Places.{HasPlace, destination_of, source_of}
-use Rattle.batch.specs.declared.limits.TheConstants.{MAX_BLOCKS, MAX_MODULES}
+use Rattle.batch.specs.declared.limits.TheConstants.{MAX_MODULES}
 use Rattle.batch.specs.declared.transfer.Kind.{Kind}
 use Rattle.batch.specs.declared.transfer.Kind.TheVariants.{Push, Pull}
 use Rattle.batch.specs.declared.transfer.Place.{Place}
@@ -32,19 +32,20 @@ use Rattle.module_memory.specs.Settings.{IsRun, after_steps}
 use Rattle.module_memory.specs.Store.{Store, block_of, set_word}
 use Rattle.switch_settings.specs.Settings.{joined_pair, numbers_in, setting_pairs}
 use Rattle.module_orders.specs.Laws.{CanObey, ObeyedIsPlaced, RunIsObeyed, all_told}
-use Rattle.module_orders.specs.Obeying.{AreObeyedFrom, AreObeyedIn, HasOrder, PassInTurn, Passes, PassesOver, aside_of, block_there, is_aside, no_pair, words_sent}
-use Rattle.module_orders.specs.Orders.{ModuleTold, RackTold, changed_by, changes, copies_in, is_changed, is_copied, is_copy, module_told, order_at, orders_before, sending, sends_copy}
-use Rattle.module_orders.specs.declared.order.Act.TheVariants.{SendCopy, Receive}
+use Rattle.module_orders.specs.Obeying.{AreObeyedFrom, AreObeyedIn, HasOrder, PassInTurn, Passes, PassesOver, aside_of, block_there, no_pair, words_sent}
+use Rattle.module_orders.specs.Orders.{RackTold, changed_by, changes, is_changed, order_at, sending}
+use Rattle.module_orders.specs.declared.order.Act.TheVariants.{Receive}
 use Rattle.module_orders.specs.declared.order.Order.{Order}
+use Rattle.module_orders.proofs.Asides.{is_aside_from, sender, sender_is}
 use Rattle.module_orders.proofs.Changing.{changes-own}
-use Rattle.module_orders.proofs.Meeting.{given, gives, is_among, is_given, link_at, one_number, origin}
-use Rattle.module_orders.proofs.Members.{any_from, none_from, to_filter, to_range}
+use Rattle.module_orders.proofs.Meeting.{given, gives, link_at, one_number, origin}
+use Rattle.module_orders.proofs.Members.{none_from}
 
 -- ---- what a word is that passes
 
 -- word j of what is sent of a transfer's source, where it is late or not, becomes word j of its
 -- destination
-abbrev sends_word : (Place → List ℕ) → Bool → Transfer → ℕ → Store → Store
+abbrev pub sends_word : (Place → List ℕ) → Bool → Transfer → ℕ → Store → Store
 sends_word aside late x j old =
     set_word old (destination_of x) j (slice_index (words_sent aside old (sending late) (source_of x)) j)
 
@@ -79,16 +80,16 @@ module_of_place Push i o r f shape Three h = h.1.in_modules
 module_of_place Pull i o r f shape Zero h = h.1.in_modules
 module_of_place Pull i o r f shape Three h = h.0.in_modules
 
-low : (batch : List Transfer) (settings : List (List ℕ)) (opening : Store) (end : End) (t : ℕ) → CanObey batch settings opening → t < length batch → module_at end (transfer_at batch t) < MAX_MODULES
+pub low : (batch : List Transfer) (settings : List (List ℕ)) (opening : Store) (end : End) (t : ℕ) → CanObey batch settings opening → t < length batch → module_at end (transfer_at batch t) < MAX_MODULES
 low batch settings opening end t can l =
     let x = transfer_at batch t in
     omega (arith, module_of_place x.kind x.initiator x.own_block x.responder x.far_block opening.shape end (can.places t l), can.whole.within.few_modules)
 
 -- transfer t of a setting
-abbrev Stands : List Transfer → List (List ℕ) → ℕ → ℕ → Type 0
+abbrev pub Stands : List Transfer → List (List ℕ) → ℕ → ℕ → Type 0
 Stands batch settings k t = Contains (numbers_in settings k) t
 
-known_number : (batch : List Transfer) (settings : List (List ℕ)) (k t : ℕ) → IsScheduleOf batch settings → k < length settings → Stands batch settings k t → t < length batch
+pub known_number : (batch : List Transfer) (settings : List (List ℕ)) (k t : ℕ) → IsScheduleOf batch settings → k < length settings → Stands batch settings k t → t < length batch
 known_number batch settings k t schedule l c = All-contains (λ n. n < length batch) (numbers_in settings k) t (schedule.no_other k [] l) c
 
 -- the order of a link of a transfer is that transfer's
@@ -99,7 +100,7 @@ its_order batch settings k t end o schedule l c h =
     one.2 ∙ ap (given batch settings k end) same
 
 -- whether the source of a transfer is late in a setting
-abbrev late_in : List Transfer → List (List ℕ) → ℕ → ℕ → Bool
+abbrev pub late_in : List Transfer → List (List ℕ) → ℕ → ℕ → Bool
 late_in batch settings k t = is_changed batch settings k (source_of (transfer_at batch t))
 
 -- what passes over the pair of a transfer
@@ -121,7 +122,7 @@ passes_is batch settings k t j aside old new schedule l c p =
     ]
 
 -- and that can pass
-can_pass : (told : RackTold) (aside : Place → List ℕ) (late : Bool) (k j : ℕ) (old new : Store) (kind : Kind) (i o r f : ℕ)
+pub can_pass : (told : RackTold) (aside : Place → List ℕ) (late : Bool) (k j : ℕ) (old new : Store) (kind : Kind) (i o r f : ℕ)
     → let x : Transfer = record { kind = kind; initiator = i; own_block = o; responder = r; far_block = f } in
     HasOrder told k (link_at Zero x) (order_at late k Zero x) → HasOrder told k (link_at Three x) (order_at late k Three x) → new ≡ sends_word aside late x j old → PassesOver told aside k j (joined_pair x) old new
 can_pass told aside late k j old new Push i o r f has0 has3 e =
@@ -141,43 +142,17 @@ is_passed batch settings opening k t j aside old new can l c e =
 
 -- ---- what has been copied aside
 
--- the end that sends a transfer's source
-sender : Kind → End
-sender Push = Zero
-sender Pull = Three
-
-sender_is : (kind : Kind) (i o r f : ℕ) (late : Bool) (k : ℕ) → let x : Transfer = record { kind = kind; initiator = i; own_block = o; responder = r; far_block = f } in
-    let order = order_at late k (sender kind) x in (module_at (sender kind) x ≡ (source_of x).«module») × (order.block ≡ (source_of x).block) × (order.act ≡ sending late)
-unfolding sender
-sender_is Push i o r f late k = (refl, refl, refl)
-sender_is Pull i o r f late k = (refl, refl, refl)
-
-copy_sent : (o : Order) (b : ℕ) → o.block ≡ b → o.act ≡ SendCopy → sends_copy b o ≡ true
-copy_sent o b e act = ap₂ (λ (x y : Bool). x && y) (ap is_copy act) (eq-eqb o.block b e)
-
-in_copies : (orders : List Order) (b : ℕ) → b < MAX_BLOCKS → is_copied orders b ≡ true → Contains (copies_in orders) b
-unfolding copies_in
-in_copies orders b l up = to_filter (is_copied orders) (range_with_len 0 MAX_BLOCKS) b (to_range MAX_BLOCKS b l) up
-
-aside_there : (batch : List Transfer) (settings : List (List ℕ)) (opening : Store) (k t : ℕ) → CanObey batch settings opening → k < length settings → Stands batch settings k t → late_in batch settings k t ≡ true
+pub aside_there : (batch : List Transfer) (settings : List (List ℕ)) (opening : Store) (k t : ℕ) → CanObey batch settings opening → k < length settings → Stands batch settings k t → late_in batch settings k t ≡ true
     → let p = source_of (transfer_at batch t) in aside_of (all_told batch settings) opening p ≡ block_of opening p
 aside_there batch settings opening k t can l c late =
     let x = transfer_at batch t in
     let p = source_of x in
     let end = sender x.kind in
-    let m = module_at end x in
-    let o = given batch settings k end t in
-    let orders = orders_before batch settings (length settings) m in
     let is = sender_is x.kind x.initiator x.own_block x.responder x.far_block (late_in batch settings k t) k in
     let known = known_number batch settings k t can.schedule l c in
-    let has = is_given batch settings k end t l c in
-    let block_low : p.block < MAX_BLOCKS = omega (arith, (can.places t known).0.in_blocks, can.whole.within.few_blocks) in
-    let copied : is_copied orders p.block ≡ true = any_from (sends_copy p.block) orders o has (copy_sent o p.block is.1 (is.2 ∙ ap sending late)) in
-    let inner : list_any (λ b. b == p.block) (copies_in orders) ≡ true = any_from (λ b. b == p.block) (copies_in orders) p.block (in_copies orders p.block block_low copied) (eq-eqb p.block p.block refl) in
-    let one : ModuleTold → Bool = λ told. told.«module» == p.«module» && list_any (λ b. b == p.block) (copies_in told.orders) in
-    let told : is_aside (all_told batch settings) p ≡ true =
-    any_from one (all_told batch settings).modules (module_told m orders) (is_among batch settings m o (low batch settings opening end t can known) has) (ap₂ (λ (a b : Bool). a && b) (eq-eqb m p.«module» is.0) inner) in
-    ap (λ (b : Bool). cond b (block_of opening p) []) told
+    let has = gives batch settings k end t l c (low batch settings opening end t can known) in
+    ap (λ (b : Bool). cond b (block_of opening p) [])
+    (is_aside_from (all_told batch settings) k (link_at end x) (given batch settings k end t) p has is.0 is.1 (is.2 ∙ ap sending late) (omega (arith, (can.places t known).0.in_blocks, can.whole.within.few_blocks)))
 
 -- ---- blocks that no transfer has changed
 
@@ -195,18 +170,18 @@ unchanged_now opening s now ts m p h hp agrees none = elim (find_destination ts 
   | inr unwritten ↦ h.others p hp unwritten ∙ agrees
 ]
 
-or_none : (a b : Bool) → (a || b) ≡ false → (a ≡ false) × (b ≡ false)
+pub or_none : (a b : Bool) → (a || b) ≡ false → (a ≡ false) × (b ≡ false)
 or_none true b e = absurd (false≢true (sym e))
 or_none false b e = (refl, e)
 
-none_changes : (ts : List Transfer) (p : Place) → changed_by ts p ≡ false → (i : ℕ) → i < length ts → changes (transfer_at ts i) p ≡ false
+pub none_changes : (ts : List Transfer) (p : Place) → changed_by ts p ≡ false → (i : ℕ) → i < length ts → changes (transfer_at ts i) p ≡ false
 none_changes ts p none i l = none_from (λ t. changes t p) ts (transfer_at ts i) none (Contains-get_or ts i no_transfer l)
 
 -- the transfers before a setting, and those of it
-abbrev before : List Transfer → List (List ℕ) → ℕ → List Transfer
+abbrev pub before : List Transfer → List (List ℕ) → ℕ → List Transfer
 before batch settings k = setting_of batch (concat (take k settings))
 
-changed_up : (batch : List Transfer) (settings : List (List ℕ)) (k : ℕ) (p : Place) → k < length settings → is_changed batch settings k p ≡ (changed_by (before batch settings k) p || changed_by (setting_of batch (numbers_in settings k)) p)
+pub changed_up : (batch : List Transfer) (settings : List (List ℕ)) (k : ℕ) (p : Place) → k < length settings → is_changed batch settings k p ≡ (changed_by (before batch settings k) p || changed_by (setting_of batch (numbers_in settings k)) p)
 changed_up batch settings k p l =
     ap (λ (ns : List ℕ). changed_by (setting_of batch ns) p) (concat_more settings k l)
     ∙ ap (λ (ts : List Transfer). changed_by ts p) (map-append (transfer_at batch) (concat (take k settings)) (numbers_in settings k))
@@ -295,7 +270,7 @@ next_known opening s batch numbers behind c i steps g =
     omega (arith, All-head (λ n. n < length ts) i steps (all_right (λ n. n < length ts) behind (i ∷ steps) g.list.known), length-map numbers (transfer_at batch))
 
 -- the pair of a transfer of a setting
-pair_at : (batch : List Transfer) (numbers : List ℕ) (i : ℕ) → i < length numbers → get_or (setting_pairs batch numbers) i no_pair ≡ joined_pair (transfer_at batch (get_or numbers i 0))
+pub pair_at : (batch : List Transfer) (numbers : List ℕ) (i : ℕ) → i < length numbers → get_or (setting_pairs batch numbers) i no_pair ≡ joined_pair (transfer_at batch (get_or numbers i 0))
 pair_at batch numbers i l =
     get_or-map joined_pair (setting_of batch numbers) i no_transfer no_pair (omega (arith, length-map numbers (transfer_at batch))) ∙ ap joined_pair (transfer_at-setting_of batch numbers i l)
 
@@ -338,7 +313,7 @@ run_is_turn batch settings opening k s t behind c (i ∷ steps) b g e =
     )
 
 -- before a word has passed
-all_zero : (ts : List Transfer) → ◌≡◌ {A = List ℕ} (map (λ (p : Pair). 0) (map joined_pair ts)) (map (λ (t : Transfer). 0) ts)
+pub all_zero : (ts : List Transfer) → ◌≡◌ {A = List ℕ} (map (λ (p : Pair). 0) (map joined_pair ts)) (map (λ (t : Transfer). 0) ts)
 all_zero [] = refl
 all_zero (t ∷ ts) = ap (λ (ns : List ℕ). 0 ∷ ns) (all_zero ts)
 
@@ -398,7 +373,7 @@ pub record IsAhead (batch : List Transfer) (settings : List (List ℕ)) (opening
 ahead_within : (settings more : List (List ℕ)) (k : ℕ) (numbers : List ℕ) → numbers ∷ more ≡ drop k settings → k < length settings
 ahead_within settings more k numbers e = omega (arith, ap length e, length-drop k settings)
 
-here_is : (settings more : List (List ℕ)) (k : ℕ) (numbers : List ℕ) → numbers ∷ more ≡ drop k settings → (numbers ≡ numbers_in settings k) × (more ≡ drop (k + 1) settings)
+pub here_is : (settings more : List (List ℕ)) (k : ℕ) (numbers : List ℕ) → numbers ∷ more ≡ drop k settings → (numbers ≡ numbers_in settings k) × (more ≡ drop (k + 1) settings)
 here_is settings more k numbers e =
     let split = e ∙ drop_more settings k [] (ahead_within settings more k numbers e) in
     (ap (λ (ls : List (List ℕ)). get_or ls 0 []) split, ap (λ (ls : List (List ℕ)). drop 1 ls) split)

@@ -127,7 +127,7 @@ by_flags batch settings k end flags numbers m is known same h =
     ∙ ap (λ (ns : List ℕ). orders_over (is_changed batch settings k) k end (setting_of batch ns) m) same
 
 -- one setting more
-before_more : (batch : List Transfer) (settings : List (List ℕ)) (k m : ℕ) → orders_before batch settings (k + 1) m ≡ orders_before batch settings k m ++ orders_in batch settings m k
+pub before_more : (batch : List Transfer) (settings : List (List ℕ)) (k m : ℕ) → orders_before batch settings (k + 1) m ≡ orders_before batch settings k m ++ orders_in batch settings m k
 before_more batch settings k m = ap (flat_map (orders_in batch settings m)) (range_more k) ∙ sym (flat_map_more (orders_in batch settings m) [] (range_with_len 0 k) k)
 
 -- modules with these orders are told those of a setting at one end more

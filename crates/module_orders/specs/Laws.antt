@@ -1,7 +1,10 @@
 -- What the laws state. Proofs use them; no contract of a call cites them.
-use Rattle.std.specs.Prelude.{◌≡◌, ℕ, ◌<◌, List, length, Contains, None}
+use Rattle.std.specs.Prelude.{◌≡◌, ℕ, true, ◌<◌, ◌≤◌, List, length, Contains, Option, None}
 use Rattle.batch.specs.Batches.{IsBatch}
+use Rattle.batch.specs.Extent.{Extent, IsShape}
 use Rattle.batch.specs.Overlap.{IsApart}
+use Rattle.batch.specs.Text.{IsNumber}
+use Rattle.batch.specs.declared.transfer.Place.{Place}
 use Rattle.batch.specs.declared.transfer.Transfer.{Transfer}
 use Rattle.crossbar.specs.declared.pair.Pair.{Pair}
 use Rattle.link_graph.specs.Schedules.{IsScheduleOf}
@@ -10,9 +13,9 @@ use Rattle.module_memory.specs.Core.{FitsIn, IsPlaced}
 use Rattle.module_memory.specs.Settings.{IsRun}
 use Rattle.module_memory.specs.Store.{IsWhole, Store}
 use Rattle.switch_settings.specs.Settings.{numbers_in, setting_pairs}
-use Rattle.module_orders.specs.Obeying.{AreJoined, AreObeyed, AreOpposite, HasOrder, first_end, other_end}
+use Rattle.module_orders.specs.Obeying.{AreJoined, AreObeyed, AreOpposite, HasOrder, first_end, is_aside, orders_for, other_end, without_copy}
 use Rattle.module_orders.specs.Orders.{RackTold, orders_of, told_to}
-use Rattle.module_orders.specs.OrdersText.{Tells}
+use Rattle.module_orders.specs.OrdersText.{Tells, orders_text}
 use Rattle.module_orders.specs.declared.order.Order.{Order}
 
 -- what all modules are told that have orders
@@ -43,12 +46,11 @@ OrdersMeet =
     → IsBatch batch → IsScheduleOf batch settings
     → HasOrder (all_told batch settings) k link order → Meets batch settings k link order
 
--- a link has one order at most in a setting
+-- a link has one order at most in a setting, and its module is told it once
 abbrev pub LinksHaveOne : Type 0
 LinksHaveOne =
-    (batch : List Transfer) (settings : List (List ℕ)) (k : ℕ) (link : Link) (a b : Order)
-    → IsScheduleOf batch settings → HasOrder (all_told batch settings) k link a
-    → HasOrder (all_told batch settings) k link b → a ≡ b
+    (batch : List Transfer) (settings : List (List ℕ)) (k : ℕ) (link : Link)
+    → IsScheduleOf batch settings → length (orders_for (all_told batch settings) k link) ≤ 1
 
 -- both links of a pair that a setting joins have an order in it
 abbrev pub JoinedHaveOrders : Type 0
@@ -80,6 +82,31 @@ RunIsObeyed =
     (batch : List Transfer) (settings : List (List ℕ)) (opening new : Store)
     → CanObey batch settings opening → IsRun opening opening batch settings new
     → AreObeyed (all_told batch settings) batch settings opening new
+
+-- There are words of a rack of the shape by which a copy is missed: without it the modules can obey
+-- all else, and leave another store.
+pub record IsMissed (batch : List Transfer) (settings : List (List ℕ)) (shape : Extent) (p : Place)
+    : Type 0 where
+  pub opening : Store
+  pub of_shape : opening.shape ≡ shape
+  pub can : CanObey batch settings opening
+  pub new : Store
+  pub obeyed : AreObeyed (without_copy p (all_told batch settings)) batch settings opening new
+  pub not_placed : IsPlaced opening batch new → ⊥
+
+-- no copy is needless: on a rack of any shape that has the blocks it can be missed
+abbrev pub EachCopyIsNeeded : Type 0
+EachCopyIsNeeded =
+    (batch : List Transfer) (settings : List (List ℕ)) (shape : Extent) (p : Place)
+    → IsApart batch → IsScheduleOf batch settings → IsShape shape → FitsIn shape batch
+    → is_aside (all_told batch settings) p ≡ true → IsMissed batch settings shape p
+
+-- the text of orders tells them, of all modules or of one
+abbrev pub IsTold : Type 0
+IsTold =
+    (batch : List Transfer) (settings : List (List ℕ)) (only : Option ℕ) → IsBatch batch
+    → IsScheduleOf batch settings → IsNumber (length settings)
+    → let told = told_to only (orders_of batch settings) in Tells (orders_text told) told
 
 -- a text tells one thing at most
 abbrev pub OneTold : Type 0

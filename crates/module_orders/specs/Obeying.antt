@@ -1,28 +1,36 @@
 -- The modules of a rack as they obey their orders: their blocks, what they copied aside, and the
 -- words that pass over the links that a setting joins, one word at a time. This project's choice.
-use Rattle.std.specs.Prelude.{◌≡◌, ◌≢◌, ℕ, suc, ◌<◌, ◌+◌, ◌==◌, ◌⊎◌, ◌&&◌, Bool, List, [], ◌∷◌, length, map, All, Contains, slice_index, slice_index_or, slice_set, if◌then◌else◌}
-use Rattle.std.specs.List.{list_any}
+use Rattle.std.specs.Prelude.{◌≡◌, ◌≢◌, ℕ, suc, ◌<◌, ◌+◌, ◌==◌, ◌⊎◌, ◌&&◌, Bool, List, [], ◌∷◌, length, map, filter, All, Contains, slice_index, slice_index_or, slice_set, if◌then◌else◌}
+use Rattle.std.specs.List.{flat_map, list_any}
 use Rattle.batch.specs.declared.transfer.Place.{Place}
 use Rattle.batch.specs.declared.transfer.Transfer.{Transfer}
 use Rattle.crossbar.specs.declared.pair.Pair.{Pair}
+use Rattle.link_graph.specs.Equal.{same_end}
 use Rattle.link_graph.specs.declared.link.End.TheVariants.{Zero, Three}
 use Rattle.link_graph.specs.declared.link.Link.{Link}
 use Rattle.module_memory.specs.Core.{times}
 use Rattle.module_memory.specs.Store.{Store, block_of, set_word}
 use Rattle.switch_settings.specs.Settings.{setting_pairs}
-use Rattle.module_orders.specs.Orders.{ModuleTold, RackTold, copies_in}
+use Rattle.module_orders.specs.Orders.{ModuleTold, RackTold, copies_in, module_told, rack_told, sends_copy}
 use Rattle.module_orders.specs.declared.order.Act.{Act}
 use Rattle.module_orders.specs.declared.order.Act.TheVariants.{Send, SendCopy, Receive}
 use Rattle.module_orders.specs.declared.order.Order.{Order}
 
--- the module of a link has the order, for this link and this setting
-pub record HasOrder (told : RackTold) (k : ℕ) (link : Link) (order : Order) : Type 0 where
-  pub of_module : ModuleTold
-  pub is_told : Contains told.modules of_module
-  pub number : of_module.«module» ≡ link.«module»
-  pub has : Contains of_module.orders order
-  pub when : order.setting ≡ k
-  pub over : order.end ≡ link.end
+-- the order is for this setting, and for this end of its module
+abbrev pub is_for : ℕ → Link → Order → Bool
+is_for k link order = order.setting == k && same_end order.end link.end
+
+-- what a module of this number is told
+abbrev pub orders_to : ℕ → ModuleTold → List Order
+orders_to m told = if told.«module» == m then told.orders else []
+
+-- the orders of a link in a setting, each as often as its module is told it
+unfoldable pub orders_for : RackTold → ℕ → Link → List Order
+orders_for told k link = filter (is_for k link) (flat_map (orders_to link.«module») told.modules)
+
+-- the link has the order in the setting
+abbrev pub HasOrder : RackTold → ℕ → Link → Order → Type 0
+HasOrder told k link order = Contains (orders_for told k link) order
 
 -- ---- what is joined
 
@@ -129,3 +137,26 @@ AreObeyedFrom told aside k (pairs ∷ settings) old new =
 abbrev pub AreObeyed : RackTold → List Transfer → List (List ℕ) → Store → Store → Type 0
 AreObeyed told batch settings opening new =
     AreObeyedFrom told (aside_of told opening) 0 (map (setting_pairs batch) settings) opening new
+
+-- ---- without a copy
+
+-- the order to send the block itself
+abbrev pub sent_itself : Order → Order
+sent_itself order =
+    record { setting = order.setting; end = order.end; act = Send; block = order.block }
+
+-- the order of a module that doesn't copy this block: where it would send the copy, it sends the
+-- block itself
+abbrev pub uncopied : ℕ → Order → Order
+uncopied b order = if sends_copy b order then sent_itself order else order
+
+-- what a module is told, where block p isn't copied
+abbrev pub module_without : Place → ModuleTold → ModuleTold
+module_without p told =
+    if told.«module» == p.«module»
+    then module_told told.«module» (map (uncopied p.block) told.orders)
+    else told
+
+-- what the modules are told, where block p isn't copied
+abbrev pub without_copy : Place → RackTold → RackTold
+without_copy p told = rack_told told.settings (map (module_without p) told.modules)

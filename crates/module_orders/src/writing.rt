@@ -39,7 +39,8 @@ fn count_of(copied: &[bool; MAX_BLOCKS]) -> usize
 
 /// Puts the lines of the blocks whose flags are up at the end of the text.
 fn push_copies(text: &mut String, copied: &[bool; MAX_BLOCKS]) -> Result<(), AllocError>
-    ensures { OnOk result (Adds text.old text.new (text_of (map copy_line (numbers_up copied.now)))) }
+    ensures { OnOk result
+        (Adds text.old text.new (text_of (map copy_line (numbers_up copied.now)))) }
 {
     for block in 0..MAX_BLOCKS {
         if copied[block] {

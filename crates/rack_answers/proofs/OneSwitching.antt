@@ -1,5 +1,5 @@
 -- A batch's text and a schedule's have one answer of `switch` at most.
-use Rattle.std.proofs.Common.{◌≡◌, ℕ, List, Option, None, Result, Ok, Err, IfOk, refl, sym, ◌∙◌, subst}
+use Rattle.std.proofs.Common.{◌≡◌, ℕ, List, Option, None, Some, Result, Ok, Err, IfOk, refl, sym, ◌∙◌, subst}
 use Rattle.std.specs.Borrow.{Bor}
 use Rattle.batch.specs.declared.transfer.Transfer.{Transfer}
 use Rattle.batch.specs.Extent.{widest}
@@ -15,16 +15,22 @@ use Rattle.plan_answers.proofs.OneDrawing.{read_right, one_invalid}
 use Rattle.plan_answers.proofs.OneReading.{same_texts}
 use Rattle.plan_answers.proofs.Printing.{printed_same, refused_same}
 use Rattle.plan_answers.proofs.Widest.{widest_fits}
-use Rattle.rack_answers.specs.Switching.{settings_bytes_text, IsOn, IsSwitched, switched, wrong}
+use Rattle.rack_answers.specs.Switching.{settings_bytes_text, IsOn, IsSwitched, lacking, switched, wrong}
 
 same_text : (batch schedule : List ℕ) (ts us : List Transfer) (xs ys : List (List ℕ)) → IsScheduleRead widest batch schedule ts xs → IsScheduleRead widest batch schedule us ys → settings_bytes_text None ts xs ≡ settings_bytes_text None us ys
 same_text batch schedule ts us xs ys a b = same_texts (λ t x m. settings_bytes_text None t x ≡ settings_bytes_text None us ys) widest widest_fits batch schedule ts us xs ys a.certificate b.certificate a.texts b.texts refl
 
 one_switching : (schedule batch : List ℕ) (p q : Printed) → IsSwitched (Text schedule) None batch p → IsSwitched (Text schedule) None batch q → q ≡ p
-one_switching schedule batch p q (switched ts xs a tells) (switched us ys b told) = printed_same q p (told.0 ∙ same_text batch schedule us ts ys xs b a ∙ sym tells.0) (told.1 ∙ sym tells.1)
-one_switching schedule batch p q (switched ts xs a tells) (wrong g b is) = absurd (read_right widest widest_fits batch schedule ts xs g a b)
-one_switching schedule batch p q (wrong f a is) (switched us ys b told) = absurd (read_right widest widest_fits batch schedule us ys f b a)
-one_switching schedule batch p q (wrong f a is) (wrong g b was) =
+one_switching schedule batch p q (switched (Some w) ts xs a ways fills tells) is = absurd fills
+one_switching schedule batch p q (lacking f ts denotes lack is) other = absurd lack
+one_switching schedule batch p q (switched None ts xs a ways fills tells) (switched (Some w) us ys b has filled told) = absurd filled
+one_switching schedule batch p q (switched None ts xs a ways fills tells) (lacking g us denotes lack is) = absurd lack
+one_switching schedule batch p q (wrong f a ways is) (switched (Some w) us ys b has filled told) = absurd filled
+one_switching schedule batch p q (wrong f a ways is) (lacking g us denotes lack other) = absurd lack
+one_switching schedule batch p q (switched None ts xs a ways fills tells) (switched None us ys b has filled told) = printed_same q p (told.0 ∙ same_text batch schedule us ts ys xs b a ∙ sym tells.0) (told.1 ∙ sym tells.1)
+one_switching schedule batch p q (switched None ts xs a ways fills tells) (wrong g b has is) = absurd (read_right widest widest_fits batch schedule ts xs g a b)
+one_switching schedule batch p q (wrong f a ways is) (switched None us ys b has filled told) = absurd (read_right widest widest_fits batch schedule us ys f b a)
+one_switching schedule batch p q (wrong f a ways is) (wrong g b has was) =
     refused_same (refusal_words g) q p was (subst (λ (r : Refusal). IsRefused (refusal_words r) p) (one_invalid widest widest_fits batch schedule f g a b) is)
 
 -- so an answer to them is the only one

@@ -3,18 +3,20 @@
 use Rattle.std.specs.Prelude.{◌≡◌, ℕ, ◌++◌, Bool, List, [], Option, Some, None, if◌then◌else◌, codes, length}
 use Rattle.std.specs.Fmt.{decimal}
 use Rattle.std.specs.List.{flat_map, range_with_len}
+use Rattle.batch.specs.Text.{Denotes}
 use Rattle.batch.specs.declared.transfer.Transfer.{Transfer}
 use Rattle.c004_commands.specs.Commands.{text}
 use Rattle.c004_commands.specs.declared.command.Command.{Command}
-use Rattle.board_wiring.specs.Boards.{extent_of}
+use Rattle.board_wiring.specs.Boards.{IsFilled, extent_of, modules_of}
 use Rattle.board_wiring.specs.Faults.{IsFirstBad}
+use Rattle.board_wiring.specs.Lacks.{HasWaysOn, IsLackOn}
 use Rattle.board_wiring.specs.Sources.{of_wiring}
 use Rattle.board_wiring.specs.Text.{Denotes as IsWiringText}
+use Rattle.board_wiring.specs.declared.board.Board.{Board}
 use Rattle.board_wiring.specs.declared.fault.WiringFault.{WiringFault}
-use Rattle.crossbar.specs.Wired.{links_of}
 use Rattle.crossbar.specs.declared.board.BoardWiring.{BoardWiring}
 use Rattle.crossbar.specs.declared.chip.Wiring.{Wiring}
-use Rattle.crossbar.specs.declared.chip.Wiring.TheVariants.{Both, Forth, Back, Board}
+use Rattle.crossbar.specs.declared.chip.Wiring.TheVariants.{Both, Forth, Back, Board as OnBoard}
 use Rattle.refusals.specs.declared.refusal.Refusal.{Refusal}
 use Rattle.refusals.specs.Refusals.{refusal_words}
 use Rattle.switch_settings.specs.Racks.{is_wide}
@@ -52,7 +54,7 @@ lines_for wide setting sent =
 -- the same where the rack may be a board of its own wiring, with one switch
 abbrev pub lines_on : Option BoardWiring → Bool → ℕ → (Wiring → List Command) → List ℕ
 lines_on None wide setting sent = lines_for wide setting sent
-lines_on (Some board) wide setting sent = switch_line setting [] (sent (Board board))
+lines_on (Some board) wide setting sent = switch_line setting [] (sent (OnBoard board))
 
 -- ---- any schedule
 
@@ -71,27 +73,36 @@ abbrev pub TellsSwitch : Option BoardWiring → List Transfer → List (List ℕ
 TellsSwitch board batch settings printed =
     (printed.text ≡ settings_bytes_text board batch settings) × (printed.status ≡ DONE)
 
--- those of a schedule from this source, or the refusal of what is first wrong, each under its status
-pub data IsSwitched (source : Source (List ℕ)) (board : Option BoardWiring) (batch : List ℕ)
+-- Those of a schedule from this source, or a refusal, each under its status. Of a board all links
+-- that the batch needs are there, and the lines are those of its wiring, whatever free links stand
+-- in it for what is left out. What isn't there is refused behind faults of the batch's text, and
+-- before those of a schedule.
+pub data IsSwitched (source : Source (List ℕ)) (board : Option Board) (batch : List ℕ)
     (printed : Printed) : Type 0 where
-  switched : (transfers : List Transfer) (settings : List (List ℕ))
+  switched : (wiring : Option BoardWiring) (transfers : List Transfer) (settings : List (List ℕ))
       → IsScheduleFrom source (extent_of board) batch transfers settings
-      → TellsSwitch board transfers settings printed → IsSwitched source board batch printed
+      → HasWaysOn board transfers → IsFilled board wiring
+      → TellsSwitch wiring transfers settings printed → IsSwitched source board batch printed
+  lacking : (refusal : Refusal) (transfers : List Transfer)
+      → Denotes (extent_of board) batch transfers → IsLackOn board transfers refusal
+      → IsRefused (refusal_words refusal) printed → IsSwitched source board batch printed
   wrong : (refusal : Refusal) → IsWrongFrom source (extent_of board) batch refusal
+      → ((transfers : List Transfer) → Denotes (extent_of board) batch transfers
+      → HasWaysOn board transfers)
       → IsRefused (refusal_words refusal) printed → IsSwitched source board batch printed
 
 -- ---- the text of a wiring
 
 -- it is looked at first: what is so of the wiring that it denotes, or the refusal of its first line
 -- at fault
-pub data IsOnBoard (Is : BoardWiring → Printed → Type 0) (wiring : List ℕ) (printed : Printed)
+pub data IsOnBoard (Is : Board → Printed → Type 0) (wiring : List ℕ) (printed : Printed)
     : Type 0 where
-  wired : (board : BoardWiring) → IsWiringText wiring (links_of board) → Is board printed
+  wired : (board : Board) → IsWiringText wiring (modules_of board) → Is board printed
       → IsOnBoard Is wiring printed
   miswired : (fault : WiringFault) → IsFirstBad wiring fault
       → IsRefused (refusal_words (of_wiring fault)) printed → IsOnBoard Is wiring printed
 
 -- what is so of the usual wiring, where there is no text of another
-abbrev pub IsOn : (Option BoardWiring → Printed → Type 0) → Option (List ℕ) → Printed → Type 0
+abbrev pub IsOn : (Option Board → Printed → Type 0) → Option (List ℕ) → Printed → Type 0
 IsOn Is None printed = Is None printed
 IsOn Is (Some wiring) printed = IsOnBoard (λ board. Is (Some board)) wiring printed

@@ -1,7 +1,7 @@
 //! The command `switch`.
 
 ghost use Rattle.std.specs.Prelude.{◌≡◌, IfOk, IfSome, OnOk, None};
-ghost use Rattle.board_wiring.specs.Boards.{WiresSome};
+ghost use Rattle.board_wiring.specs.Boards.{HasSome};
 ghost use Rattle.crossbar.specs.Pairs.{ArePairs, room_of};
 ghost use Rattle.link_graph.specs.Schedules.{IsScheduleOf};
 ghost use Rattle.plan_answers.specs.Answers.{IsOnly};
@@ -14,7 +14,7 @@ ghost use Rattle.rack_answers.specs.Switching.{bytes_text, setting_head as head_
 
 use crate::spaced::push_spaced;
 use batch::{Batch, Shape};
-use board_wiring::{read_board, shape_of};
+use board_wiring::{Board, read_board, read_lack, shape_of, wiring_of};
 use crossbar::{BoardWiring, Pair, Wiring};
 use exchange_limits::WorkerCount;
 use line_words::{Line, hex2_of};
@@ -121,16 +121,22 @@ fn switch_answer(
 fn switch_on<R: Threads + Sync>(
     rt: &R,
     alloc: Global,
-    board: &Option<BoardWiring>,
+    board: &Option<Board>,
     batch: &[u8],
     source: Source<&[u8]>,
     workers: WorkerCount,
 ) -> Result<Answer, AllocError>
-    requires some { WiresSome board.now }
+    requires some { HasSome board.now }
     ensures { IfOk result (IsSwitched (said_by source.entry) board.now batch.now) }
 {
+    if let Some(lack) = read_lack(alloc, board, batch)? {
+        return Answer::refused(alloc, lack);
+    }
     match Scheduled::read(rt, alloc, shape_of(board), batch, source, workers) {
-        Ok(scheduled) => switch_answer(alloc, board, scheduled.batch(), scheduled.schedule()),
+        Ok(scheduled) => {
+            let (batch, schedule) = (scheduled.batch(), scheduled.schedule());
+            switch_answer(alloc, &wiring_of(board), batch, schedule)
+        }
         Err(refusal) => Answer::refused(alloc, refusal),
     }
 }
@@ -148,7 +154,8 @@ fn switch_on<R: Threads + Sync>(
 ///
 /// Where there is a text of a board's wiring, the links are those of this wiring, and all goes to
 /// the board's one switch. That text is looked at first, and the batch is read against a shape with
-/// the modules that it wires.
+/// modules up to the board's last. Behind the batch it is looked for its first transfer that names
+/// a module that the board hasn't, or needs a link that it hasn't.
 pub fn answer_switch<R: Threads + Sync>(
     rt: &R,
     alloc: Global,
@@ -173,15 +180,21 @@ pub fn answer_switch<R: Threads + Sync>(
 /// The same without threads.
 fn switch_alone_on(
     alloc: Global,
-    board: &Option<BoardWiring>,
+    board: &Option<Board>,
     batch: &[u8],
     source: Source<&[u8]>,
 ) -> Result<Answer, AllocError>
-    requires { WiresSome board.now }
+    requires { HasSome board.now }
     ensures { IfOk result (IsSwitched (said_by source.entry) board.now batch.now) }
 {
+    if let Some(lack) = read_lack(alloc, board, batch)? {
+        return Answer::refused(alloc, lack);
+    }
     match Scheduled::read_alone(alloc, shape_of(board), batch, source) {
-        Ok(scheduled) => switch_answer(alloc, board, scheduled.batch(), scheduled.schedule()),
+        Ok(scheduled) => {
+            let (batch, schedule) = (scheduled.batch(), scheduled.schedule());
+            switch_answer(alloc, &wiring_of(board), batch, schedule)
+        }
         Err(refusal) => Answer::refused(alloc, refusal),
     }
 }

@@ -1,5 +1,5 @@
 -- What is told of a refusal.
-use Rattle.std.specs.Prelude.{◌≡◌, ◌≢◌, ℕ, ◌+◌, ◌-◌, ◌^◌, ◌⊎◌, ◌++◌, min, List, [], Option, None, MatchOption, codes}
+use Rattle.std.specs.Prelude.{◌≡◌, ℕ, ◌+◌, ◌-◌, ◌^◌, ◌⊎◌, ◌++◌, min, List, Option, None, MatchOption, codes}
 use Rattle.batch.specs.Extent.{Extent, widest}
 use Rattle.batch.specs.ShapeText.{DenotesShape, IsBadShape}
 use Rattle.refusals.specs.declared.refusal.Refusal.{Refusal}
@@ -26,21 +26,13 @@ IsTransferTold limit texts t note =
     (shape : Extent) × IsShapeOf texts.shape.now shape
     × IsNoteAbove texts.listing (limit shape) texts.list.text.now (min (t + 2) (2 ^ 64 - 1)) note
 
--- how many modules there are: as many as the wiring says, where there is one, and else those of the
--- rack's shape
-abbrev pub HaveModules : Texts → ℕ → Type 0
-HaveModules texts most =
-    ((texts.wiring.text.now ≡ [])
-    × ((shape : Extent) × IsShapeOf texts.shape.now shape × (most ≡ shape.modules)))
-    ⊎ ((texts.wiring.text.now ≢ []) × Announces texts.wiring.text.now most)
-
 -- in the line of the record before which its right bytes stand, this is wanted
 abbrev pub IsRecordTold : Texts → Wanted → LineNote → Type 0
 IsRecordTold texts wanted =
     IsNoteWanting wanted texts.recorded.text.now
     (line_behind texts.recorded.text.now texts.offset)
 
--- of these refusals a line is told, and of no other
+-- of these refusals a line is told, and of no other; a module that a board lacks is told otherwise
 abbrev pub IsLineTold : Refusal → Texts → Option LineNote → Type 0
 IsLineTold (refused.BatchLine n) texts told =
     MatchOption told ⊥ (IsNoteOf texts.listing texts.list.text.now n)
@@ -56,8 +48,7 @@ IsLineTold refused.Count texts told =
 IsLineTold refused.TooMany texts told =
     MatchOption told ⊥ (IsNoteAbove texts.listing Announced texts.list.text.now 1)
 IsLineTold (refused.NoModule t) texts told =
-    MatchOption told ⊥ (λ note. (most : ℕ) × HaveModules texts most
-    × IsNoteAbove texts.listing (Modules most) texts.list.text.now (min (t + 2) (2 ^ 64 - 1)) note)
+    MatchOption told ⊥ (IsTransferTold (λ shape. Modules shape.modules) texts t)
 IsLineTold (refused.NoBlock t) texts told =
     MatchOption told ⊥ (IsTransferTold (λ shape. Blocks shape.blocks) texts t)
 IsLineTold refused.RecordHead texts told = MatchOption told ⊥ (IsRecordTold texts RecordHead)

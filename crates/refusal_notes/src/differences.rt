@@ -101,7 +101,7 @@ fn stop_of<'a>(line: &'a [u8], form: &str) -> Result<(), (u8, &'a [u8])> {
 }
 
 /// Where a line stops being of that of some forms of which it is the longest; nothing where it is
-/// of one. They stand in quotation marks, as [`Wanted::form`] gives them.
+/// of one. They stand in quotation marks, as [`Wanted::forms`] gives them.
 fn last_stop<'a>(line: &'a [u8], forms: &str) -> Option<(u8, &'a [u8])> {
     let mut last: Option<(u8, &'a [u8])> = None;
     for (k, form) in forms.split('"').enumerate() {
@@ -123,7 +123,7 @@ impl<'a> Difference<'a> {
         ensures { IfSome result (IsDifferenceOf text.entry.now number) }
     {
         let line = line_at(text, number);
-        match (last_stop(line, wanted.form()?), wanted) {
+        match (last_stop(line, wanted.forms()?), wanted) {
             (Some(_), Wanted::Head(Listing::Transfers)) if line.starts_with(b"moves ") => {
                 Some(Difference::Moves)
             }

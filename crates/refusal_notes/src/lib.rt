@@ -13,6 +13,7 @@
 //! `specs/Differences.antt`). A link that is taken is in both lines (`IsTaken`).
 #![tactic(auto)]
 
+mod boards;
 mod differences;
 mod limit;
 mod lines;

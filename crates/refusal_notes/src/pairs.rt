@@ -2,7 +2,7 @@
 
 ghost use Rattle.std.specs.Prelude.{◌≡◌, ◌≤◌, ◌<◌, ◌+◌, IfSome, IsTrue};
 ghost use Rattle.refusal_notes.specs.Lines.{HasNumber, line_at as the_line};
-ghost use Rattle.refusal_notes.specs.Pairs.{Clashes, HasPort, IsTaken, Writes, transfer_line_at, written_place};
+ghost use Rattle.refusal_notes.specs.Pairs.{Clashes, HasPort, HasPort3, IsTaken, Writes, transfer_line_at, written_place};
 
 use crate::lines::{line_at, number_at};
 use crate::listed::{Listing, is_listed};
@@ -60,7 +60,7 @@ fn line_with(wiring: &[u8], below: usize, port: usize) -> Option<usize>
 {
     for above in 2..below {
         let line = line_at(wiring, above);
-        if has_number(line, 5, port) || has_number(line, 9, port) {
+        if has_number(line, 5, port) || has_port3(line, port) {
             return Some(above);
         }
     }
@@ -73,18 +73,34 @@ pub(crate) fn taken(wiring: &[u8], number: usize) -> Option<(usize, usize)>
     ensures { IfSome result (λ x. IsTaken wiring.now number x.0 x.1) }
 {
     let line = line_at(wiring, number);
-    let (one, other) = (number_at(line, 5)?, number_at(line, 9)?);
-    if let Some(above) = line_with(wiring, number, one) {
-        return Some((one, above));
+    if let Some(port) = number_at(line, 5) {
+        if let Some(above) = line_with(wiring, number, port) {
+            return Some((port, above));
+        }
+        if has_port3(line, port) {
+            return Some((port, number));
+        }
     }
-    if let Some(above) = line_with(wiring, number, other) {
-        return Some((other, above));
+    let port = port3(line)?;
+    let above = line_with(wiring, number, port)?;
+    Some((port, above))
+}
+
+/// The link of the switch that link 3 of a module is on, as its line says.
+fn port3(line: &[u8]) -> Option<usize>
+    ensures { IfSome result (HasPort3 line.now) }
+{
+    match number_at(line, 9) {
+        Some(port) => Some(port),
+        None => number_at(line, 8),
     }
-    if one == other {
-        Some((one, number))
-    } else {
-        None
-    }
+}
+
+/// Whether link 3 of a module is on this link of the switch, as its line says.
+fn has_port3(line: &[u8], port: usize) -> bool
+    ensures { IsTrue result → HasPort3 line.now port }
+{
+    has_number(line, 8, port) || has_number(line, 9, port)
 }
 
 /// The word of a transfer's line that names the module which it writes.

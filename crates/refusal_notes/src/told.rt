@@ -1,7 +1,8 @@
 //! What a command was asked, and what is told of its refusal.
 
-ghost use Rattle.refusal_notes.specs.Told.{HaveModules, IsLineTold, IsShapeOf};
+ghost use Rattle.refusal_notes.specs.Told.{IsLineTold, IsShapeOf};
 
+use crate::boards::write_missing;
 use crate::limit::Limit;
 use crate::lines::{announced, line_at};
 use crate::listed::Listing;
@@ -83,17 +84,6 @@ impl<'a> Texts<'a> {
             Err(_) => Shape::WIDEST,
         }
     }
-
-    /// How many modules there are: as many as a wiring says, where there is one, and else those of
-    /// the rack.
-    pub(crate) fn modules(&self) -> usize
-        ensures { HaveModules self.now result }
-    {
-        if self.wiring.text.is_empty() {
-            return self.rack().modules();
-        }
-        announced(self.wiring.text)
-    }
 }
 
 /// What is told of a refusal.
@@ -125,7 +115,7 @@ impl<'a> Note<'a> {
             Refusal::Count => Some(LineNote::of(list, announced(list) + 2, listing)),
             Refusal::TooMany => Some(LineNote::above(list, 1, listing, Limit::Announced)),
             Refusal::NoModule(t) => {
-                let limit = Limit::Modules(self.texts.modules());
+                let limit = Limit::Modules(self.texts.rack().modules());
                 Some(LineNote::above(list, t.saturating_add(2), listing, limit))
             }
             Refusal::NoBlock(t) => {
@@ -160,6 +150,10 @@ impl<'a> Display for Named<'a> {
 impl<'a> Display for Note<'a> {
     fn fmt<W: Write>(&self, f: &mut Formatter<W>) -> fmt::Result {
         match self.refusal {
+            Refusal::NoLink(t) => write_missing(f, *self, t),
+            Refusal::NoModule(t) if !self.texts.wiring.text.is_empty() => {
+                write_missing(f, *self, t)
+            }
             Refusal::BatchLine(_)
             | Refusal::MovesLine(_)
             | Refusal::ScheduleLine(_)

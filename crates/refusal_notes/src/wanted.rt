@@ -18,6 +18,10 @@ const _: () = prove!(MAX_MODULES == 32 && PORTS == 32 && JOINED_MODULES == 16);
 const CALLS: &str =
     "\"batch N\" and the batch's lines, \"fetch ID\", \"settle ID\", \"run ID\", \"show ID\", \"drop ID\", \"peek M A\" or \"poke M A D\"";
 
+/// The forms of a module's line, with each link or without.
+const MODULE_FORMS: &str =
+    "\"module M link 0 at A link 3 at B\" \"module M link 0 at A link 3 none\" \"module M link 0 none link 3 at B\" \"module M link 0 none link 3 none\"";
+
 /// What is wanted in a line.
 #[derive(Clone, Copy)]
 pub(crate) enum Wanted<'a> {
@@ -71,7 +75,7 @@ impl<'a> Wanted<'a> {
             Wanted::Entry(Listing::Transfers) => "\"push I b R c\" or \"pull I b R c\"",
             Wanted::Entry(Listing::Moves) => "\"move M b N c\"",
             Wanted::Entry(Listing::Modules) => {
-                "\"module M link 0 at A link 3 at B\", where M counts up from 0, and A and B are 0 to 31 and stand nowhere else"
+                "\"module M link 0 at A link 3 at B\", where M rises from line to line up to 15, A and B are 0 to 31 and stand nowhere else, and \"none\" may stand for \"at A\" or \"at B\""
             }
             Wanted::Entry(Listing::Settings) => {
                 "\"setting T U ..\", where T, U .. are transfers, or \"setting\" alone"
@@ -86,6 +90,14 @@ impl<'a> Wanted<'a> {
             }
             Wanted::End | Wanted::Call(_) | Wanted::Reply(..) | Wanted::RecordEnd => return None,
         })
+    }
+
+    /// The forms that a line may have, each in quotation marks; none where it is told otherwise.
+    pub(crate) fn forms(self) -> Option<&'static str> {
+        match self {
+            Wanted::Entry(Listing::Modules) => Some(MODULE_FORMS),
+            _ => self.form(),
+        }
     }
 
     /// What is wanted in this line behind the last setting, counted from 0.

@@ -116,10 +116,6 @@ fn write_above<W: Write>(
         _ => (" of ", " in a rack of "),
     };
     match limit {
-        Limit::Modules(most) if !texts.wiring.text.is_empty() => {
-            let (modules, wiring) = (Numbered(most, "module"), texts.wiring);
-            write!(f, "module {n}; {wiring} has {modules}")
-        }
         Limit::Modules(most) => {
             let modules = Numbered(most, "module");
             write!(f, "module {n}; a rack{of}{shape} has {modules}")

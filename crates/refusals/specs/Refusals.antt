@@ -36,6 +36,7 @@ refusal_words (refusal.BatchLine n) = codes "batch line " ++ decimal n
 refusal_words (refusal.MovesLine n) = codes "moves line " ++ decimal n
 refusal_words refusal.TooMany = codes "too many"
 refusal_words (refusal.NoModule t) = codes "no module " ++ decimal t
+refusal_words (refusal.NoLink t) = codes "no link " ++ decimal t
 refusal_words (refusal.NoBlock t) = codes "no block " ++ decimal t
 refusal_words refusal.Count = codes "count"
 refusal_words refusal.Settings = codes "settings"

@@ -25,6 +25,9 @@ pub enum Refusal {
     TooMany,
     /// `no module T`: this transfer names a module that the rack hasn't.
     NoModule(usize),
+    /// `no link T`: this transfer needs a link of a module that the board has, and that isn't on the
+    /// switch.
+    NoLink(usize),
     /// `no block T`: this transfer names a block that the rack hasn't.
     NoBlock(usize),
     /// `count`: there are fewer lines than announced, or something follows them.
@@ -227,6 +230,7 @@ impl Refusal {
             Refusal::MovesLine(n) => put_numbered(line, b"moves line ", n),
             Refusal::TooMany => line.put(b"too many"),
             Refusal::NoModule(t) => put_numbered(line, b"no module ", t),
+            Refusal::NoLink(t) => put_numbered(line, b"no link ", t),
             Refusal::NoBlock(t) => put_numbered(line, b"no block ", t),
             Refusal::Count => line.put(b"count"),
             Refusal::Settings => line.put(b"settings"),

@@ -4,9 +4,8 @@ use Rattle.std.proofs.lemmas.Bool.{cases_eq, cases_lt}
 use Rattle.std.proofs.lemmas.List.{length-set, length-replicate, get_or_past}
 use Rattle.std.proofs.lemmas.Option.{none-some, same_Some}
 use Rattle.batch.specs.declared.limits.TheConstants.{MAX_MODULES}
-use Rattle.steady_schedule.specs.Matchings.{partner, AreMatched, ArePart}
+use Rattle.steady_schedule.specs.Matchings.{partner, AreMatched}
 use Rattle.steady_schedule.proofs.Joined.{none_there}
-use Rattle.steady_schedule.proofs.Sums.{partner_cases}
 
 -- a module that has a partner is one that there may be
 pub has_low : (of : List (Option ℕ)) (x y : ℕ) → length of ≡ MAX_MODULES → partner of x ≡ Some y → x < MAX_MODULES
@@ -74,12 +73,3 @@ parted_matched of back x y m joined = record {
   back_sized = length-set back y None ∙ m.back_sized;
   each_other = λ u v. (part_way of back x y m joined u v, part_way back of y x (turned of back m) ((m.each_other x y).0 joined) v u);
 }
-
--- where the pairs of a part are of the first x links alone, the partner of link x is free in it
-pub none_back : (whole whole_back of back : List (Option ℕ)) → AreMatched whole whole_back → AreMatched of back → (x y : ℕ) → partner whole x ≡ Some y → ArePart whole x of → partner back y ≡ None
-none_back whole whole_back of back w m x y joined part = partner_cases (partner back y) (partner back y ≡ None)
-    (λ none. none)
-    (λ z is.
-    let own = part z y ((m.each_other z y).1 is) in
-    let same = same_Some z x (sym ((w.each_other z y).0 own.1) ∙ (w.each_other x y).0 joined) in
-    absurd (omega (arith, own.0, same)))

@@ -10,7 +10,7 @@ use Rattle.link_graph.specs.declared.link.End.{End}
 use Rattle.steady_schedule.specs.Masks.{has_bit, has_pair}
 use Rattle.steady_schedule.specs.Matchings.{AreMatched}
 use Rattle.steady_schedule.specs.Reaches.{AreHeld, HaveHeld, HaveEach}
-use Rattle.steady_schedule.specs.Searches.{AreNear, JoinsNear}
+use Rattle.steady_schedule.specs.Searches.{JoinsNear}
 use Rattle.steady_schedule.specs.Waiting.{count_at, count_between}
 use Rattle.steady_schedule.proofs.Searching.{both_bits}
 
@@ -92,9 +92,6 @@ within_more masks near n rest n_in old u v has = elim (cases_eq u n) [
 ]
 
 -- ---- pairs that are joined
-
-pub each_near : (counts : List ℕ) (k : ℕ) (zn tn : List ℕ) (zero : List (Option ℕ)) → AreHeld counts k zn tn → AreNear zn zero → HaveEach counts k zero
-each_near counts k zn tn zero h near x y joined = h.zero x y (near x y joined)
 
 -- pairs that a search joined, from the one end or the other
 pub each_joined : (counts : List ℕ) (k : ℕ) (zn tn : List ℕ) (zero now : List (Option ℕ)) → AreHeld counts k zn tn → JoinsNear zn zero now → HaveEach counts k zero → HaveEach counts k now

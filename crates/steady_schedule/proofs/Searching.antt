@@ -43,8 +43,6 @@ some_is o v e = rw e refl
 pub along : (o p : Option ℕ) → o ≡ p → IsSome p → IsSome o
 along o p e some = rw e some
 
--- ---- new partners
-
 -- ---- a link is freed
 
 module _ (near : List ℕ) (needed unseen y : ℕ) (of back : List (Option ℕ)) (m : AreMatched of back) where

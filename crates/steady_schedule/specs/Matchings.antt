@@ -10,11 +10,6 @@ partner partners m = slice_index_or partners m None
 abbrev pub AreBelow : List (Option ℕ) → ℕ → Type 0
 AreBelow partners n = (x y : ℕ) → partner partners x ≡ Some y → x < n
 
--- the pairs of these are pairs of those, and of the first n
-abbrev pub ArePart : List (Option ℕ) → ℕ → List (Option ℕ) → Type 0
-ArePart whole n partners =
-    (x y : ℕ) → partner partners x ≡ Some y → (x < n) × (partner whole x ≡ Some y)
-
 -- partners are each other's
 pub record AreMatched (of back : List (Option ℕ)) : Type 0 where
   pub sized : length of ≡ MAX_MODULES

@@ -19,7 +19,8 @@ abbrev pub AllSeen : List ℕ → ℕ → ℕ → Type 0
 AllSeen near unseen x = (y : ℕ) → has_pair near x y ≡ true → has_bit unseen y ≡ false
 
 -- The link y has a needed partner, and all links near that partner are seen.
-pub record IsStuck (near : List ℕ) (needed unseen : ℕ) (back : List (Option ℕ)) (y : ℕ) : Type 0 where
+pub record IsStuck (near : List ℕ) (needed unseen : ℕ) (back : List (Option ℕ)) (y : ℕ)
+    : Type 0 where
   pub x : ℕ
   pub joined : partner back y ≡ Some x
   pub is_needed : has_bit needed x ≡ true

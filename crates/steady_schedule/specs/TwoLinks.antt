@@ -1,5 +1,5 @@
--- Two links that show how often a schedule has to change the switch. Over a schedule a link has some
--- numbers: how many transfers it has with each partner, and in how many settings it is idle.
+-- Two links that show how often a schedule has to change the switch. Over a schedule a link has
+-- some numbers: how many transfers it has with each partner, and in how many settings it is idle.
 use Rattle.std.specs.Prelude.{◌≡◌, ◌⊎◌, ℕ, ◌<◌, ◌≤◌, ◌+◌, ◌-◌, ◌*◌, ◌/◌, List, ◌==◌, cond, count_by, min, nat_lt, slice_index}
 use Rattle.batch.specs.declared.limits.TheConstants.{MAX_MODULES, MAX_TRANSFERS}
 use Rattle.batch.specs.declared.transfer.Transfer.{Transfer}
@@ -34,8 +34,8 @@ common batch settings one other =
     sum_below settings (λ n. min (link_numbers_of batch settings one (n + 1))
     (link_numbers_of batch settings other (n + 1)))
 
--- So many changes the two links show, at least (2 (p + q) - e) / 3, where they have p and q numbers,
--- and e of these in common. One link taken twice shows as many as it has numbers.
+-- So many changes the two links show, at least (2 (p + q) - e) / 3, where they have p and q
+-- numbers, and e of these in common. One link taken twice shows as many as it has numbers.
 unfoldable pub changes_shown : List Transfer → ℕ → Link → Link → ℕ
 changes_shown batch settings one other =
     (2 * (link_numbers batch settings one + link_numbers batch settings other) + 2

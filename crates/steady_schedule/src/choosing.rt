@@ -1,17 +1,17 @@
 //! The choice of a step's matching: one that can be held as long as any.
 
-ghost use Rattle.std.specs.Prelude.{◌≡◌, ◌⊎◌, ℕ, ◌+◌, ◌-◌, ◌<◌, ◌≤◌, Some, None, true, false, IfSome, IsSome};
+ghost use Rattle.std.specs.Prelude.{◌≡◌, ◌≢◌, ◌⊎◌, ℕ, ◌+◌, ◌-◌, ◌<◌, ◌≤◌, Some, None, true, false, IfSome, IsSome};
 ghost use Rattle.batch.specs.declared.limits.TheConstants.{MAX_MODULES, MAX_TRANSFERS};
 ghost use Rattle.steady_schedule.specs.Covers.{KeepsPartners};
 ghost use Rattle.steady_schedule.specs.Masks.{has_bit, has_pair};
-ghost use Rattle.steady_schedule.specs.Matchings.{partner, AreMatched, ArePart};
+ghost use Rattle.steady_schedule.specs.Matchings.{partner, AreMatched};
 ghost use Rattle.steady_schedule.specs.Reaches.{AreHeld, HaveHeld, HaveEach, IsOverMask, JoinsNeeded, IsBarred, IsInWay, HaveWay, AreAtMost};
 ghost use Rattle.steady_schedule.specs.Searches.{AreNear, JoinsNear};
 ghost use Rattle.steady_schedule.specs.Steps.{NoneLonger};
 ghost use Rattle.steady_schedule.specs.Waiting.{HaveMost, NoneWait};
 
 use crate::masks::{Masks, has, lowest, without_module};
-use crate::matching::{Matching, Partners, augment, free, join};
+use crate::matching::{Matching, Partners, augment, free, part};
 use crate::reach::{Held, Reach};
 use crate::remaining::Remaining;
 use batch::MAX_MODULES;
@@ -34,30 +34,33 @@ pub(crate) struct Choice {
     shorter: usize,
 }
 
-/// Joins a link 0 as it stands, where that can be held so long.
-fn keep_one(before: &Matching, reach: &Reach, matching: &mut Matching, zero: usize)
-    requires low { zero < MAX_MODULES }
-    requires part { ArePart before.now.zero zero matching.old.zero }
-    ensures part { ArePart before.now.zero (zero + 1) matching.new.zero }
-    ensures near { AreNear reach.now.zero.near matching.old.zero
-        → AreNear reach.now.zero.near matching.new.zero }
+/// Parts a link 0, where its pair can't be held so long.
+fn part_short(reach: &Reach, matching: &mut Matching, zero: usize)
+    requires { zero < MAX_MODULES }
+    ensures near { (y : ℕ) → partner matching.new.zero zero ≡ Some y
+        → has_pair reach.now.zero.near zero y ≡ true }
+    ensures others { (x : ℕ) → x ≢ zero
+        → partner matching.new.zero x ≡ partner matching.old.zero x }
 {
-    let Some(three) = before.zero[zero] else {
+    let Some(three) = matching.zero[zero] else {
         return;
     };
-    if has(reach.zero.near[zero], three) {
-        join(&mut matching.zero, &mut matching.three, zero, three);
+    let three = three as usize;
+    if !has(reach.zero.near[zero], three) {
+        part(&mut matching.zero, &mut matching.three, zero, three);
     }
 }
 
 /// What stands, as far as it can be held so long.
-fn standing(before: &Matching, reach: &Reach, modules: usize) -> Matching
-    requires { modules ≤ MAX_MODULES }
+fn standing(before: &Matching, reach: &Reach) -> Matching
     ensures { AreNear reach.now.zero.near result.zero }
 {
-    let mut matching = Matching::none();
-    for zero in 0..modules {
-        keep_one(before, reach, &mut matching, zero);
+    let mut matching = Matching {
+        zero: before.zero,
+        three: before.three,
+    };
+    for zero in 0..MAX_MODULES {
+        part_short(reach, &mut matching, zero);
     }
     matching
 }
@@ -76,16 +79,18 @@ fn open_pairs(reach: &Reach, zero: &Partners, free: u32, modules: usize) -> Mask
     pairs
 }
 
-/// Finds a partner for a link 0, where it has none, by one of these pairs.
-fn join_open(pairs: &Masks, free: u32, matching: &mut Matching, zero: usize)
+/// Finds a partner for a link 0, where it has none, by one of these pairs. Where that is in vain, it
+/// takes the links 3 that it saw out of those that are open: each search from there is in vain too.
+/// No contract says so.
+fn join_open(pairs: &Masks, open: &mut u32, matching: &mut Matching, zero: usize)
     requires { zero < MAX_MODULES }
     ensures { JoinsNear pairs.now matching.old.zero matching.new.zero }
 {
-    if matching.zero[zero].is_some() || pairs[zero] == 0 {
+    if matching.zero[zero].is_some() || pairs[zero] & *open == 0 {
         return;
     }
-    let mut unseen = free;
-    augment(
+    let mut unseen = *open;
+    if !augment(
         zero,
         pairs,
         pairs,
@@ -93,7 +98,9 @@ fn join_open(pairs: &Masks, free: u32, matching: &mut Matching, zero: usize)
         &mut matching.zero,
         &mut matching.three,
         &mut unseen,
-    );
+    ) {
+        *open = unseen;
+    }
 }
 
 /// Joins links that are free by pairs that can be held just so long, and are used up then: as many
@@ -103,8 +110,9 @@ fn join_just(reach: &Reach, matching: &mut Matching, free: u32, modules: usize)
     ensures { JoinsNear reach.now.zero.near matching.old.zero matching.new.zero }
 {
     let pairs = open_pairs(reach, &matching.zero, free, modules);
+    let mut open = free;
     for zero in 0..modules {
-        join_open(&pairs, free, matching, zero);
+        join_open(&pairs, &mut open, matching, zero);
     }
 }
 
@@ -198,7 +206,7 @@ fn most_with(remaining: &Remaining, end: End, link: usize, others: u32) -> usize
 }
 
 /// Whether a link is joined to one that was seen.
-fn is_seen(partner: Option<usize>, unseen: u32) -> bool
+fn is_seen(partner: Option<u8>, unseen: u32) -> bool
     requires { IfSome partner (λ other. other < MAX_MODULES) }
     ensures seen { result ≡ true
         → (y : ℕ) × (partner ≡ Some y) × (has_bit unseen y ≡ false) }
@@ -206,7 +214,7 @@ fn is_seen(partner: Option<usize>, unseen: u32) -> bool
         → (y : ℕ) → partner ≡ Some y → has_bit unseen y ≡ true }
 {
     match partner {
-        Some(other) => !has(unseen, other),
+        Some(other) => !has(unseen, other as usize),
         None => false,
     }
 }
@@ -321,7 +329,7 @@ impl Choice {
         ensures shorter { result.shorter < settings }
     {
         let reach = Reach::of(remaining, most, modules, settings);
-        let mut matching = standing(before, &reach, modules);
+        let mut matching = standing(before, &reach);
         let free_zero = free(&matching.zero, modules);
         let free_three = free(&matching.three, modules);
         let stand = (u32::MAX ^ free_zero, u32::MAX ^ free_three);

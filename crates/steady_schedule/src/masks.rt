@@ -17,8 +17,8 @@ pub(crate) fn lowest(mask: u32) -> usize
     mask.trailing_zeros() as usize
 }
 
-/// The least module of a mask that has any, among those that are preferred where it has some of them;
-/// no contract says so.
+/// The least module of a mask that has any, among those that are preferred where it has some of
+/// them; no contract says so.
 pub(crate) fn lowest_of(mask: u32, preferred: u32) -> usize
     requires { 0 < mask }
     ensures within { result < MAX_MODULES }

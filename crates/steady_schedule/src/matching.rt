@@ -10,8 +10,9 @@ ghost use Rattle.steady_schedule.specs.Searches.{AllSeen, IsStuck, IsInVain, IsF
 use crate::masks::{Masks, has, lowest_of, with_module, without_module};
 use batch::MAX_MODULES;
 
-/// For each module the one that its link is joined to, where it is joined.
-pub(crate) type Partners = [Option<usize>; MAX_MODULES];
+/// For each module the one that its link is joined to, where it is joined. Bytes, since each choice
+/// has tables of its own.
+pub(crate) type Partners = [Option<u8>; MAX_MODULES];
 
 /// The links that are joined.
 #[derive(Drop)]
@@ -58,8 +59,8 @@ pub(crate) fn join(of: &mut Partners, back: &mut Partners, x: usize, y: usize)
     ensures of { of.new ≡ set of.old x (Some y) }
     ensures back { back.new ≡ set back.old y (Some x) }
 {
-    of[x] = Some(y);
-    back[y] = Some(x);
+    of[x] = Some(y as u8);
+    back[y] = Some(x as u8);
 }
 
 /// Parts two links that are joined.
@@ -100,6 +101,7 @@ fn make_room(
     let Some(x) = back[y] else {
         return true;
     };
+    let x = x as usize;
     part(of, back, x, y);
     if !has(needed, x) {
         return true;

@@ -23,8 +23,8 @@ use std::alloc::{AllocError, Global};
 /// Where the slots of each pair of links begin. There is one for each of its transfers.
 #[derive(Drop)]
 struct Places<'a> {
-    totals: &'a [usize; PAIRS],
-    starts: &'a [usize; PAIRS],
+    totals: &'a [u32; PAIRS],
+    starts: &'a [u32; PAIRS],
     /// How many slots there are.
     room: usize,
     ghost placed: { AreFirstSlots totals.now starts.now room },
@@ -32,7 +32,7 @@ struct Places<'a> {
 
 impl<'a> Places<'a> {
     /// Places for so many transfers of each pair, which are kept in `starts`.
-    fn of(totals: &'a [usize; PAIRS], starts: &'a mut [usize; PAIRS]) -> Places<'a>
+    fn of(totals: &'a [u32; PAIRS], starts: &'a mut [u32; PAIRS]) -> Places<'a>
         requires { All (λ total. total ≤ MAX_TRANSFERS) totals.now }
         ensures { result.totals.now ≡ totals.now }
     {
@@ -44,7 +44,7 @@ impl<'a> Places<'a> {
         Places {
             totals,
             starts,
-            room,
+            room: room as usize,
         }
     }
 
@@ -55,7 +55,7 @@ impl<'a> Places<'a> {
         requires there { i ≤ count_at self.now.totals.now zero three }
         ensures { result ≡ sum_below (pair_index zero three) (slice_index self.now.totals.now) + i }
     {
-        self.starts[zero * MAX_MODULES + three] + i
+        self.starts[zero * MAX_MODULES + three] as usize + i
     }
 }
 
@@ -101,6 +101,7 @@ fn hold_one(
     let Some(three) = matching.zero[zero] else {
         return;
     };
+    let three = three as usize;
     remaining.take(zero, three, settings);
     let rest = remaining.count(zero, three);
     let at = places.slot(zero, three, rest);
@@ -150,7 +151,8 @@ fn fill(remaining: &mut Remaining, places: &Places<'_>, slots: &mut [usize], set
     ensures done { (u v : ℕ) → u < MAX_MODULES → v < MAX_MODULES
         → count_at remaining.new.counts u v ≡ 0 }
     ensures numbered { AreNumbered places.now.totals.now remaining.new.counts slots.new settings }
-    ensures needs { AreAtNeed places.now.totals.now remaining.new.counts slots.new settings settings }
+    ensures needs { AreAtNeed places.now.totals.now remaining.new.counts slots.new
+        settings settings }
     ensures long { AreLongSteps places.now.totals.now remaining.new.counts slots.new
         settings settings 0 }
 {
@@ -175,7 +177,7 @@ fn fill(remaining: &mut Remaining, places: &Places<'_>, slots: &mut [usize], set
 
 /// The number of a pair's next transfer: that of its last slot that is left.
 fn next_number(
-    remaining: &mut [usize; PAIRS],
+    remaining: &mut [u32; PAIRS],
     places: &Places<'_>,
     slots: &[usize],
     zero: usize,
@@ -194,7 +196,7 @@ fn next_number(
 {
     let place = zero * MAX_MODULES + three;
     remaining[place] -= 1;
-    slots[places.slot(zero, three, remaining[place])]
+    slots[places.slot(zero, three, remaining[place] as usize)]
 }
 
 /// The settings, in which each transfer stands by its number. Numbers of transfers ascend in each.
@@ -262,7 +264,8 @@ pub(crate) fn settings_of(
     let mut remaining = Remaining::none();
     remaining.add_all(graph);
     let totals = remaining.counts;
-    let mut starts = [0; PAIRS];
+    // Each place is written over, and a copy costs less than zeros
+    let mut starts = totals;
     let places = Places::of(&totals, &mut starts);
     let mut slots = vec![in alloc; 0; places.room]?;
     settings_by(alloc, graph, settings, &mut remaining, &places, &mut slots)

@@ -27,7 +27,7 @@ pub(crate) struct Side {
 #[derive(Drop)]
 pub(crate) struct Remaining {
     /// Those of link 0 of module u and link 3 of module v are at the place `u * MAX_MODULES + v`.
-    pub(crate) counts: [usize; PAIRS],
+    pub(crate) counts: [u32; PAIRS],
     pub(crate) zero: Side,
     pub(crate) three: Side,
     ghost told: { AreTold counts zero.near zero.uses three.near three.uses },
@@ -83,7 +83,7 @@ impl Remaining {
         requires three_in { three < MAX_MODULES }
         ensures { result ≡ count_at self.now.counts zero three }
     {
-        self.counts[zero * MAX_MODULES + three]
+        self.counts[zero * MAX_MODULES + three] as usize
     }
 
     /// The links of an end.
@@ -138,9 +138,10 @@ impl Remaining {
             (count_at self.old.counts zero three - count) }
     {
         let place = zero * MAX_MODULES + three;
-        self.counts[place] -= count;
-        self.zero.uses[zero] -= count as u32;
-        self.three.uses[three] -= count as u32;
+        let taken = count as u32;
+        self.counts[place] -= taken;
+        self.zero.uses[zero] -= taken;
+        self.three.uses[three] -= taken;
         if self.counts[place] > 0 {
             return;
         }

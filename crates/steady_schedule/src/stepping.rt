@@ -98,7 +98,7 @@ fn zero_room(remaining: &Remaining, matching: &Matching, most: usize, module: us
         → waiting remaining.now.counts Zero «module» + result ≡ most }
 {
     match matching.zero[module] {
-        Some(three) => remaining.count(module, three),
+        Some(three) => remaining.count(module, three as usize),
         None => most - remaining.zero.uses[module] as usize,
     }
 }

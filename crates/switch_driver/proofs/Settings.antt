@@ -9,8 +9,7 @@ use Rattle.switch_settings.specs.Sending.{pairs_at}
 use Rattle.switch_settings.specs.Settings.{numbers_in}
 use Rattle.switch_settings.specs.declared.rack_wiring.RackWiring.{RackWiring}
 use Rattle.switch_driver.specs.Driving.{Stood, HaveStood, standing_behind}
-use Rattle.switch_driver.specs.Steps.{HasStopped, Stands}
-use Rattle.switch_driver.specs.declared.fault.SettingFault.{SettingFault}
+use Rattle.switch_driver.specs.Steps.{Stands}
 use Rattle.switch_driver.specs.declared.stage.Cue.{Cue}
 use Rattle.switch_driver.specs.declared.stage.Cue.TheVariants.{GoOn}
 
@@ -18,11 +17,6 @@ use Rattle.switch_driver.specs.declared.stage.Cue.TheVariants.{GoOn}
 pub stands_so : (rack : RackWiring) (batch : List Transfer) (settings : List (List ℕ)) (first n k : ℕ) (known : Option (List Pair)) (pairs : List Pair) (old new : Option (List Passing)) → first + n ≡ k → known ≡ standing_behind batch settings first n → pairs ≡ pairs_at batch settings k
     → Stands rack known pairs old new → Stood rack batch settings first n old new
 stands_so rack batch settings first n k known pairs old new at e f h = rw at (rw (e, f) at h)
-
--- a setting that couldn't be set
-pub stopped_so : (rack : RackWiring) (fault : SettingFault) (batch : List Transfer) (settings : List (List ℕ)) (first n k : ℕ) (known : Option (List Pair)) (pairs : List Pair) (old new : Option (List Passing)) → known ≡ standing_behind batch settings first n → pairs ≡ pairs_at batch settings k
-    → HasStopped rack fault known pairs old new → HasStopped rack fault (standing_behind batch settings first n) (pairs_at batch settings k) old new
-stopped_so rack fault batch settings first n k known pairs old new e f h = rw (e, f) at h
 
 -- the pairs that stand behind it
 pub known_behind : (batch : List Transfer) (settings : List (List ℕ)) (first n k : ℕ) (pairs : List Pair) → first + n ≡ k → pairs ≡ pairs_at batch settings k → Some pairs ≡ standing_behind batch settings first (n + 1)

@@ -17,7 +17,7 @@ pub struct Lines<'a, I, O> {
     input: &'a mut I,
     out: &'a mut O,
     waits: bool,
-    unread: Option<io::Error>,
+    reason: Option<io::Error>,
 }
 
 impl<'a, I, O> Lines<'a, I, O> {
@@ -32,17 +32,17 @@ impl<'a, I, O> Lines<'a, I, O> {
             input,
             out,
             waits,
-            unread: None,
+            reason: None,
         }
     }
 
-    /// Why no line could be read, where one couldn't. It is told once.
-    pub fn take_unread(&mut self) -> Option<io::Error>
+    /// Why a setting couldn't be told, or no line be read, where that was so. It is given once.
+    pub fn take_reason(&mut self) -> Option<io::Error>
         ensures input { self.new.input ≡ self.old.input }
         ensures out { self.new.out ≡ self.old.out }
         ensures waits { self.new.waits ≡ self.old.waits }
     {
-        self.unread.take()
+        self.reason.take()
     }
 
     /// Gives the stream back on which settings were told.
@@ -96,7 +96,8 @@ impl<I: Read, O: Write> Stage for Lines<'_, I, O> {
 
     fn stands(&mut self, setting: usize, numbers: &[usize]) -> Cue {
         let line = line_of(setting, numbers);
-        if write_bytes(self.out, line.as_bytes()).is_err() {
+        if let Err(why) = write_bytes(self.out, line.as_bytes()) {
+            self.reason = Some(why);
             return Cue::Untold;
         }
         if !self.waits {
@@ -106,7 +107,7 @@ impl<I: Read, O: Write> Stage for Lines<'_, I, O> {
             Ok(true) => Cue::GoOn,
             Ok(false) => Cue::Leave,
             Err(why) => {
-                self.unread = Some(why);
+                self.reason = Some(why);
                 Cue::Unheard
             }
         }

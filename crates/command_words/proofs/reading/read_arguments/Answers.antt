@@ -11,4 +11,5 @@ returns-in-Ok-clause-limits c = within (subcommand_of program (texts_of c.args.a
 pub returns-in-Err-clause-fault : goal.returns-in-Err-clause-fault
 returns-in-Err-clause-fault c =
     let named = c.in_ok-request in
-    declined (texts_of c.args.arguments.now) named.request c.in-Err.fault named.ensures.taken named.ensures.request c.in-Err.ensures.mistake c.in-Err.ensures.refused
+    declined (texts_of c.args.arguments.now) named.request c.fault_of.result named.ensures.taken named.ensures.request c.fault_of.ensures.mistake
+    (λ told. c.in-Err.ensures.refused (λ memory. told (c.fault_of.ensures.memory memory)))

@@ -41,14 +41,17 @@ returns-in-Serve-clause-response g c =
 pub returns-in-Serve-clause-rest : goal.returns-in-Serve-clause-rest
 returns-in-Serve-clause-rest g c = rw c.in-Serve.is (refl, none_served _ c.requires.unserved)
 
-pub returns-in-Host-clause-response : goal.returns-in-Host-clause-response
-returns-in-Host-clause-response g c =
+pub returns-in_ok-lacks-in-Host-clause-response : goal.returns-in_ok-lacks-in-Host-clause-response
+returns-in_ok-lacks-in-Host-clause-response g c =
     let files = contents_in c.args.contents.now in
     let clients = clients_by (g.S.ClientFiles.had c.args.system.now) c.in-Host.clients in
-    let ends = ends_of c.host.new.endings.items in
-    let is = nothing_before c.host.result _ (λ found. IsHostAnswer c.in-Host.rack.shape files.image clients ends found.answer found.book) IsNever c.host.ensures.note (rw c.as_slice-clients.ensures at c.host.ensures.answer) in
-    let none : OnErr c.host.result (ends ≡ []) = on_err_weaker c.host.result (λ same. rw same (none_served _ c.requires.unserved)) c.host.ensures.none in
-    rw c.in-Host.is (unasked c.host.result _ _ _ IsNothing IsNever _ ends none is)
+    let ends = ends_of c.host-end.new.endings.items in
+    let is = nothing_before c.host-end.result _ (λ found. IsHostAnswer c.in-Host.rack.shape files.image clients ends found.answer found.book) IsNever c.host-end.ensures.note (rw c.as_slice-clients.ensures at c.host-end.ensures.answer) in
+    let none : OnErr c.host-end.result (ends ≡ []) = on_err_weaker c.host-end.result (λ same. rw same (none_served _ c.requires.unserved)) c.host-end.ensures.none in
+    rw c.in-Host.is (unasked c.host-end.result _ _ _ IsNothing IsNever _ ends none is)
+
+pub returns-in_err-lacks-in-Host-clause-response : goal.returns-in_err-lacks-in-Host-clause-response
+returns-in_err-lacks-in-Host-clause-response g c = told_nothing c.from_residual.result _ _ _ _ (none_asked _ _ _ _ _ (none_served _ c.requires.unserved)) (search rules) (search rules)
 
 pub returns-in-Talk-clause-response : goal.returns-in-Talk-clause-response
 returns-in-Talk-clause-response g c =
@@ -66,8 +69,14 @@ returns-in-Talk-2-clause-response g c =
 pub returns-in-Talk-2-clause-rest : goal.returns-in-Talk-2-clause-rest
 returns-in-Talk-2-clause-rest g c = rw c.in-Talk-2.is (refl, none_served _ c.requires.unserved)
 
+pub returns-in_ok-found-in-Switch-clause-response : goal.returns-in_ok-found-in-Switch-clause-response
+returns-in_ok-found-in-Switch-clause-response g c = ([], Appends-nil _, c.in_ok-found-in-Switch.ensures _ _, tt)
+
+pub returns-in_err-found-in-Switch-clause-response : goal.returns-in_err-found-in-Switch-clause-response
+returns-in_err-found-in-Switch-clause-response g c = told_nothing c.from_residual-in_err-found-in-Switch.result _ _ _ _ (none_asked _ _ _ _ _ (none_served _ c.requires.unserved)) (search rules) (search rules)
+
 pub returns-in_ok-answer_texts-in_default-clause-response : goal.returns-in_ok-answer_texts-in_default-clause-response
 returns-in_ok-answer_texts-in_default-clause-response g c = ([], Appends-nil _, c.in_ok-answer_texts-in_default.ensures _ _, tt)
 
 pub returns-in_err-answer_texts-in_default-clause-response : goal.returns-in_err-answer_texts-in_default-clause-response
-returns-in_err-answer_texts-in_default-clause-response g c = told_nothing c.from_residual.result _ _ _ _ (none_asked _ _ _ _ _ (none_served _ c.requires.unserved)) (search rules) (search rules)
+returns-in_err-answer_texts-in_default-clause-response g c = told_nothing c.from_residual-in_err-answer_texts-in_default.result _ _ _ _ (none_asked _ _ _ _ _ (none_served _ c.requires.unserved)) (search rules) (search rules)

@@ -6,7 +6,7 @@ use Rattle.exchange.specs.Clients.{clients_by, ends_of}
 use Rattle.exchange.specs.Outcomes.{IsUnanswered}
 use Rattle.exchange.specs.Responses.{IsAnswerTo, IsToldCut, IsToldInVain, given_by}
 use Rattle.exchange.proofs.Reading.{as_many}
-use Rattle.exchange.proofs.Told.{missed_of, none_served, told_nothing}
+use Rattle.exchange.proofs.Told.{beside_of, missed_of, none_served, told_nothing}
 use Rattle.exchange.proofs.jobs.answer_opened.Goals as goal
 
 pub answer_job-requires-clause-scripts : goal.answer_job-requires-clause-scripts
@@ -53,4 +53,22 @@ returns-in_err-found-clause-response g c =
     let job = c.args.request.now.job in
     let was = g.P.Ports.ways c.args.peers.now.ports in
     let ends = ends_of c.answer_job.new.peers.endings.items in
-    missed_of c.from_residual-in_err-found.result _ _ _ _ (IsUnanswered (IsToldInVain job files given) was opens ends) (IsToldCut job files given opens) _ _ t.0 c.from_residual-in_err-found.ensures.1 t.1 (λ vain. (inr (files, rest, are, vain.0), vain.1, vain.2)) (λ cut. (files, rest, are, cut)) t.3
+    missed_of c.from_residual-in_err-found.result _ _ _ _ (IsUnanswered (IsToldInVain job files given) was opens ends) (IsToldCut job files given opens) _ _ t.0 c.from_residual-in_err-found.ensures.1 t.1 (λ vain. (inr (files, rest, are, vain.0), vain.1, vain.2)) (λ cut. (files, rest, are, cut, c.in_err-found.ensures.rest)) t.3
+
+pub returns-clause-beside : goal.returns-clause-beside
+returns-clause-beside g c =
+    let holds = g.S.System.holds c.args.system.now in
+    let old = g.I.Read.remaining c.args.input.now in
+    let rest = g.I.Read.remaining c.read_contents.new.input in
+    let files = contents_in c.in_ok-contents.contents in
+    let are = subst (λ (names : Files (List ℕ)). AreContents holds old names files rest) c.files.ensures c.in_ok-contents.ensures.contents in
+    beside_of _ _ c.args.request.now _ _ (λ overlap. (files, rest, are, overlap)) c.in_ok-found.ensures.beside
+
+pub returns-in_err-found-clause-beside : goal.returns-in_err-found-clause-beside
+returns-in_err-found-clause-beside g c =
+    let holds = g.S.System.holds c.args.system.now in
+    let old = g.I.Read.remaining c.args.input.now in
+    let rest = g.I.Read.remaining c.read_contents.new.input in
+    let files = contents_in c.in_ok-contents.contents in
+    let are = subst (λ (names : Files (List ℕ)). AreContents holds old names files rest) c.files.ensures c.in_ok-contents.ensures.contents in
+    beside_of _ _ c.args.request.now _ _ (λ overlap. (files, rest, are, overlap)) c.in_err-found.ensures.beside

@@ -1,6 +1,6 @@
 use Rattle.std.proofs.Common.{◌≡◌, [], None, refl, sym}
 use Rattle.exchange.specs.Clients.{clients_by, ends_of}
-use Rattle.exchange.specs.Ends.{IsLeft, IsNoneLeft, streams_of}
+use Rattle.exchange.specs.Ends.{IsLeft, IsNoneLeft, leaving, streams_of}
 use Rattle.exchange.specs.Outcomes.{IsNoAnswer, IsUnanswered}
 use Rattle.exchange.specs.Outputs.{lost_none}
 use Rattle.exchange.specs.Responses.{IsJobInVain, Response, given_by, named_by, unanswered}
@@ -49,15 +49,20 @@ returns-in-Ok-end-clause-cut g c =
     let t = rw c.in-Ok-end.is at c.answer_to-end.ensures.response in
     let apart = rw c.in-Ok-end.is at c.answer_to-end.ensures.apart in
     let named = named_by (g.S.System.holds c.args.system.now) (g.S.Places.leads c.args.system.now) in
-    let given = given_by (g.I.Read.remaining c.args.input.now) (g.P.Ports.ways c.args.peers.now.ports) (clients_by (g.S.ClientFiles.had c.args.system.now)) in
-    answered_in_part c.print_noted.result named (g.P.Ports.ways c.answer_to-end.new.peers.ports) (ends_of c.answer_to-end.new.peers.endings.items) _ given c.in-Ok.request t.0 t.2.0 c.in-Ok-end.done _ _ _ c.in-Ok.ensures.request t.1 apart t.2.1 c.print_noted.ensures.unwritten
+    let was = g.P.Ports.ways c.args.peers.now.ports in
+    let given = given_by (g.I.Read.remaining c.args.input.now) was (clients_by (g.S.ClientFiles.had c.args.system.now)) in
+    let leaves = leaving (g.S.System.begins c.args.system.now) g.S.System.received c.answer_to-end.result.receipts was (g.P.Ports.ways c.answer_to-end.new.peers.ports) (ends_of c.answer_to-end.new.peers.endings.items) in
+    answered_in_part c.print_noted.result named leaves _ given c.in-Ok.request t.0 t.2.0 c.in-Ok-end.done _ _ _ c.in-Ok.ensures.request t.1 apart t.2.1 (t.2.3, refl, refl) c.print_noted.ensures.unwritten
 
 pub returns-in-Err-Refused-clause-cut : goal.returns-in-Err-Refused-clause-cut
 returns-in-Err-Refused-clause-cut g c =
     let t = rw (c.in-Err-Refused.is, c.in-Err-Refused.field-0-is) at c.answer_to-end.ensures.response in
     let ended = ends_of c.answer_to-end.new.peers.endings.items in
+    let was = g.P.Ports.ways c.args.peers.now.ports in
     let opens = g.P.Ports.ways c.answer_to-end.new.peers.ports in
-    let none : IsUnanswered (IsJobInVain (g.S.System.holds c.args.system.now) (given_by (g.I.Read.remaining c.args.input.now) (g.P.Ports.ways c.args.peers.now.ports) (clients_by (g.S.ClientFiles.had c.args.system.now))) c.in-Ok.request.job) (g.P.Ports.ways c.args.peers.now.ports) opens ended t.0 = t.3 in
+    let given = given_by (g.I.Read.remaining c.args.input.now) was (clients_by (g.S.ClientFiles.had c.args.system.now)) in
+    let none : IsUnanswered (IsJobInVain (g.S.System.holds c.args.system.now) given c.in-Ok.request.job) was opens ended t.0 = t.3 in
+    let unkept = rw c.in-Err-Refused.is at c.answer_to-end.ensures.unkept in
     let named = named_by (g.S.System.holds c.args.system.now) (g.S.Places.leads c.args.system.now) in
-    let given = given_by (g.I.Read.remaining c.args.input.now) (g.P.Ports.ways c.args.peers.now.ports) (clients_by (g.S.ClientFiles.had c.args.system.now)) in
-    refused_in_part c.refuse_noted.result named opens ended _ given c.in-Ok.request t.0 c.in-Err-Refused.why _ _ _ c.in-Ok.ensures.request t.1 none c.refuse_noted.ensures.cut
+    let leaves = leaving (g.S.System.begins c.args.system.now) g.S.System.received c.answer_to-end.result.receipts was opens ended in
+    refused_in_part c.refuse_noted.result named leaves _ given c.in-Ok.request t.0 c.in-Err-Refused.why _ _ _ c.in-Ok.ensures.request t.1 none.0 (unkept, sym none.1, sym none.2) c.refuse_noted.ensures.cut

@@ -1,8 +1,8 @@
 use Rattle.std.proofs.Common.{Option, List, ℕ}
 use Rattle.std.proofs.lemmas.Result.{IfOk-weaker}
 use Rattle.board_wiring.specs.Sources.{of_wiring}
-use Rattle.board_wiring.proofs.ReadBoards.{wires_some}
-use Rattle.crossbar.specs.declared.board.BoardWiring.{BoardWiring}
+use Rattle.board_wiring.proofs.ReadBoards.{has_some}
+use Rattle.board_wiring.specs.declared.board.Board.{Board}
 use Rattle.plan_answers.specs.Lent.{bytes_of}
 use Rattle.plan_answers.specs.Refusals.{Refuses, Printed}
 use Rattle.plan_answers.specs.Schedules.{said_by}
@@ -12,11 +12,11 @@ use Rattle.rack_answers.proofs.OnBoards.{on_board, on_fault}
 use Rattle.rack_answers.proofs.OneSwitching.{one_usual}
 use Rattle.rack_answers.proofs.switching.answer_switch.Goals as goal
 
-abbrev By : Source (List ℕ) → List ℕ → Option BoardWiring → Printed → Type 0
+abbrev By : Source (List ℕ) → List ℕ → Option Board → Printed → Type 0
 By source batch board = IsSwitched source board batch
 
 pub switch_on-requires-clause-some : goal.switch_on-requires-clause-some
-switch_on-requires-clause-some g c = λ κs lives. wires_some _ c.in-Ok.board c.in-Ok.ensures.board
+switch_on-requires-clause-some g c = λ κs lives. has_some _ c.in-Ok.board c.in-Ok.ensures.board
 
 pub returns-in-Ok-clause-switched : goal.returns-in-Ok-clause-switched
 returns-in-Ok-clause-switched g c =

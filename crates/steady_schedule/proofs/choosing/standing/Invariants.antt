@@ -1,9 +1,9 @@
-use Rattle.steady_schedule.specs.Matchings.{ArePart}
-use Rattle.steady_schedule.specs.Searches.{AreNear}
+use Rattle.std.proofs.Common.{◌≡◌, ◌<◌, ℕ, Some, true}
+use Rattle.steady_schedule.specs.Masks.{has_pair}
+use Rattle.steady_schedule.specs.Matchings.{partner}
 use Rattle.steady_schedule.proofs.choosing.standing.Given as goal
 
 abbrev pub invariant-loop-zero : goal.invariant-loop-zero
-invariant-loop-zero l = record {
-  part : ArePart l.before.zero l.zero l.matching.zero;
-  near : AreNear l.reach.zero.near l.matching.zero;
-}
+invariant-loop-zero l =
+    (x y : ℕ) → x < l.zero → partner l.matching.zero x ≡ Some y
+    → has_pair l.reach.zero.near x y ≡ true

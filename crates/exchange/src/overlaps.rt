@@ -1,0 +1,84 @@
+//! What is told on standard error beside `switch` and `drive`: that two transfers write one block.
+//! It is no refusal, since the switch doesn't mind.
+
+ghost use Rattle.std.specs.Prelude.{◌≡◌, IfSome, string_bytes};
+ghost use Rattle.exchange.specs.Contents.{contents_in};
+ghost use Rattle.exchange.specs.Notes.{HasOverlap, IsBeside, IsWholeLine, SetsSwitches};
+ghost use Rattle.exchange.specs.Responses.{text_in};
+
+use crate::contents::{Contents, text_of};
+use crate::notes::tell_line;
+use batch::{Batch, Shape};
+use command_words::{Job, Request};
+use plan_answers::Answer;
+use refusal_notes::{Named, Texts, second_line};
+use refusals::Refusal;
+use std::alloc::Global;
+use std::io::Write;
+
+/// The line that tells of the first two transfers of a batch that write one block, where two do and
+/// there is memory for it.
+fn overlap_line(alloc: Global, list: Named<'_>) -> Option<String>
+    ensures whole { IfSome result (λ line. IsWholeLine (string_bytes line)) }
+    ensures overlap { IfSome result (λ _. HasOverlap list.entry.text.now) }
+{
+    let batch = Batch::read(alloc, list.text, Shape::WIDEST).ok()?;
+    let (i, j) = batch.first_overlap()?;
+    let texts = Texts {
+        list,
+        ..Texts::NONE
+    };
+    second_line(alloc, Refusal::Overlap(i, j), texts)
+}
+
+/// The batch of a job, and the name of its file.
+fn batch_of<'a>(job: &'a Job, contents: &'a Contents) -> Named<'a>
+    ensures { result.text.now ≡ text_in (contents_in contents.entry.now).list }
+{
+    let name = match job.files().list {
+        Some(name) => name.as_str(),
+        None => "",
+    };
+    Named {
+        name,
+        text: text_of(&contents.list),
+    }
+}
+
+/// Tells where two transfers of a job's batch write one block, unless the arguments ask for
+/// silence.
+pub(crate) fn tell_overlap<E: Write>(
+    alloc: Global,
+    request: &Request,
+    contents: &Contents,
+    err: &mut E,
+)
+    requires { SetsSwitches request.now.job }
+    ensures { IsBeside (HasOverlap (text_in (contents_in contents.now).list)) request.now
+        (E.contents err.old) (E.contents err.new) }
+{
+    if request.is_quiet {
+        return;
+    }
+    let batch = batch_of(&request.job, contents);
+    if let Some(line) = overlap_line(alloc, batch) {
+        tell_line(line.as_str().as_bytes(), err);
+    }
+}
+
+/// The same beside an answer. Beside a refusal another line is told.
+pub(crate) fn tell_overlap_beside<E: Write>(
+    alloc: Global,
+    request: &Request,
+    contents: &Contents,
+    answer: &Answer,
+    err: &mut E,
+)
+    requires { SetsSwitches request.now.job }
+    ensures { IsBeside (HasOverlap (text_in (contents_in contents.now).list)) request.now
+        (E.contents err.old) (E.contents err.new) }
+{
+    if answer.refusal().is_none() {
+        tell_overlap(alloc, request, contents, err);
+    }
+}
