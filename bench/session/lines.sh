@@ -1,15 +1,18 @@
 #!/usr/bin/env bash
-# Counts what lines cost. Of `peek` lines: the instructions of `serve` on a script of 5,000, less those on one of 500; and the most memory
-# that `talk` takes for 65,536, whose calls fill the history, less that for half as many. Of `plan` lines on one batch of 4096 transfers:
-# the most memory for 4,096, less that for half as many.
+# Counts what lines cost. Of `peek` lines: the instructions of `serve`, of `talk`, and of `talk --record`, on a script of 5,000, less those
+# on one of 500; and the most memory of each, of `serve` for 65,536, and of `talk` for 1,048,576, less that for 32,768. Of `plan` lines on
+# one batch of 4096 transfers: the most memory of `serve` for 4,096, less that for half as many.
 #
-# With --check a peek line may take LINE instructions and its call CALL bytes of the history at most, and a plan line PLAN bytes; else the
-# status is 1. Where valgrind is missing, --check says so and counts no instructions.
+# With --check a peek line may take SERVE, TALK and RECORD instructions, and KEPT bytes in `serve` and FLAT in `talk`, and a plan line PLAN
+# bytes; else the status is 1. Where valgrind is missing, --check says so and counts no instructions.
 #
 # Needs valgrind and python3. Build the program first: ./exchange prove
 set -eu
-LINE=2500
-CALL=360
+SERVE=2500
+TALK=2500
+RECORD=5000
+KEPT=420
+FLAT=1
 PLAN=2048
 here=$(cd "$(dirname "${BASH_SOURCE[0]}")" && pwd)
 . "$here/../copy.sh"
@@ -17,7 +20,7 @@ program=$here/../../crates/exchange/out/exchange
 work=$(mktemp -d)
 trap 'rm -rf "$work"' EXIT
 
-for count in 500 5000 32768 65536; do
+for count in 500 5000 32768 65536 1048576; do
     yes "peek 0 80000800" | head -n $count >"$work/$count"
 done
 for count in 2048 4096; do
@@ -28,49 +31,49 @@ if [ "$("$program" serve 1x1x1 "$work/65536" | grep -c '^word 00000000$')" != 65
     exit 1
 fi
 
-# SHAPE SCRIPT COUNT REPLY: the most memory that a session takes at a time, in bytes, whose lines are answered by so many such replies
-memory() {
-    python3 - "$program" "$1" "$work/$2" "$3" "$4" <<'END'
-import subprocess, sys, threading
+# SHAPE SCRIPT: a session over a script, by `serve`, by `talk`, and by `talk` with a record of its own
+serve() { "${before[@]}" "$program" serve "$1" "$work/$2"; }
+talk() { "${before[@]}" "$program" talk "$1" <"$work/$2"; }
+record() {
+    rm -f "$work/record"
+    "${before[@]}" "$program" talk "$1" --record "$work/record" <"$work/$2"
+}
 
-program, shape, script, count, reply = sys.argv[1:]
-talk = subprocess.Popen([program, "talk", shape], stdin=subprocess.PIPE, stdout=subprocess.PIPE, stderr=subprocess.DEVNULL)
-lines = open(script, "rb").read()
-threading.Thread(target=lambda: (talk.stdin.write(lines), talk.stdin.flush())).start()
-left = int(count)
-for line in talk.stdout:
-    left -= line.decode() == reply + "\n"
-    if not left:
-        break
-[peak] = [line for line in open(f"/proc/{talk.pid}/status") if line.startswith("VmHWM")]
-print(1024 * int(peak.split()[1]))
-talk.stdin.close()
-talk.wait()
-END
+# COMMAND SHAPE SCRIPT: the instructions of such a session, and the most memory that it takes at a time, in bytes
+counted() {
+    local before=(instructions)
+    "$@"
+}
+memory() {
+    local before=(python3 -c 'import resource, subprocess, sys
+subprocess.run(sys.argv[1:], stdout=subprocess.DEVNULL, stderr=subprocess.DEVNULL)
+print(1024 * resource.getrusage(resource.RUSAGE_CHILDREN).ru_maxrss)')
+    "$@"
 }
 
 failed=0
+# NAME WHAT BOUND MANY FEW COUNT: tells what each of so many lines takes
+tell() {
+    local each=$(((${4:?not counted} - ${5:?not counted}) / $6))
+    echo "$2 of $1: $each"
+    [ "$each" -le "$3" ] || failed=1
+}
+
 if command -v valgrind >/dev/null; then
-    many=$(instructions "$program" serve 1x1x1 "$work/5000")
-    few=$(instructions "$program" serve 1x1x1 "$work/500")
-    line=$(((${many:?not counted} - ${few:?not counted}) / 4500))
-    echo "instructions of a peek line of serve: $line"
-    [ "$line" -le $LINE ] || failed=1
+    for of in "serve $SERVE" "talk $TALK" "record $RECORD"; do
+        read -r command most <<<"$of"
+        tell "a peek line, $command" instructions "$most" "$(counted "$command" 1x1x1 5000)" "$(counted "$command" 1x1x1 500)" 4500
+    done
 else
     echo "lines: valgrind is missing, so no instructions were counted"
     [ "${1-}" = --check ]
 fi
-many=$(memory 1x1x1 65536 65536 'word 00000000')
-few=$(memory 1x1x1 32768 32768 'word 00000000')
-call=$(((many - few) / 32768))
-echo "bytes of memory of a call that is kept: $call"
-[ "$call" -le $CALL ] || failed=1
-many=$(memory 2x1x1 plans-4096 4095 'refused already')
-few=$(memory 2x1x1 plans-2048 2047 'refused already')
-plan=$(((many - few) / 2048))
-echo "bytes of memory of a plan line that is kept: $plan"
-[ "$plan" -le $PLAN ] || failed=1
+for of in "serve $KEPT 65536" "talk $FLAT 1048576" "record $FLAT 1048576"; do
+    read -r command most many <<<"$of"
+    tell "a peek line, $command" "bytes of memory" "$most" "$(memory "$command" 1x1x1 "$many")" "$(memory "$command" 1x1x1 32768)" $((many - 32768))
+done
+tell "a plan line, serve" "bytes of memory" $PLAN "$(memory serve 2x1x1 plans-4096)" "$(memory serve 2x1x1 plans-2048)" 2048
 if [ "${1-}" = --check ] && [ $failed = 1 ]; then
-    echo "lines: a peek line may take $LINE instructions and $CALL bytes at most, and a plan line $PLAN bytes"
+    echo "lines: a peek line may take $SERVE, $TALK and $RECORD instructions and $KEPT and $FLAT bytes at most, and a plan line $PLAN bytes"
     exit 1
 fi

@@ -147,10 +147,10 @@ def judge_round(shape, scripts, told, status, room):
     """Judges what the sessions were told, their record and their image: the entries, and how many readings there were."""
     if status != int(any(line.startswith("ended ") for lines in told.values() for line in lines)):
         raise AssertionError("the status doesn't say whether a fault ended a session")
-    replay = Replay(shape, read(f"{room}/record"))
-    if replay.exchange.image() != read(f"{room}/left"):
+    replay = Replay(read(f"{room}/record"), shape)
+    if not replay.ended or replay.exchange.image() != read(f"{room}/left"):
         raise AssertionError("the record leads to another image")
-    again = ask("replay", "{}x{}x{}".format(*shape), f"{room}/record")
+    again = ask("replay", f"{room}/record")
     if (again.out, again.status) != (read(f"{room}/left"), 0):
         raise AssertionError(f"`replay` leads to another image: {again.err!r}, status {again.status}")
     history, readings = History(replay.entries), 0

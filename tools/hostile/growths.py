@@ -46,10 +46,13 @@ REFUSALS = (
     "peek 2 80000800\npeek 0 80000801\npeek 0 80000000\nhello\n"
 )
 RECORD = (
-    "record 8\n0 poke 1 80000808 000000ff\npoked\n0 batch 1\npull 0 0 1 1\naccepted 1\n0 fetch 1\nfetched\n0 settle 1\nplanned 1 settings 1\n"
+    "record 2x2x2 00200001 0\n"
+    "0 poke 1 80000808 000000ff\npoked\n0 batch 1\npull 0 0 1 1\naccepted 1\n0 fetch 1\nfetched\n0 settle 1\nplanned 1 settings 1\n"
     "0 run 1\nran 1 run 1 settings 1 words 2 bits 234\n0 peek 0 80000800\nword 000000ff\n1 show 1\nrefused unknown\n"
-    "1 peek 1 80000800\nword 00000000\n"
+    "1 peek 1 80000800\nword 00000000\nend\n"
 )
+# A record of a rack of 3x2x2 that begins with the image.
+WORDED = "record 3x2x2 48280469 0\n0 peek 0 80000800\nword 03020100\nend\n"
 KEPT = "poke 0 80000800 000000ff\nbatch 1\npush 0 0 1 0\nplan 1\nrun 1\n"
 PUSHES = TWO_PUSHES + "plan 1\nrun 1\nprogress\npeek 1 80000804\npeek 2 80000800\n"
 # An image of 3x2x2, and moves that are directed both ways.
@@ -58,8 +61,8 @@ MOVES = "moves 3\nmove 0 0 1 0\nmove 0 1 1 1\nmove 1 2 1 3\n"
 # Wirings: of three modules, and of two.
 BOARD = "wiring 3\nmodule 0 link 0 at 4 link 3 at 21\nmodule 1 link 0 at 5 link 3 at 22\nmodule 2 link 0 at 11 link 3 at 0\n"
 SMALL = "wiring 2\nmodule 0 link 0 at 4 link 3 at 21\nmodule 1 link 0 at 5 link 3 at 22\n"
-# What stands in a file before an image goes there.
-OLDER = b"older words"
+# What stands in a file before an image goes there, or the record of scripts. That of live clients goes on behind what is there.
+OLDER = {"serve": {"record": b"older words", "image": b"older words"}, "host": {"record": b"", "image": b"older words"}}
 # What a session sees of the words that two pushes write, of batch 1 and of runs.
 LOOK = "peek 1 80000800\npeek 1 80000804\npeek 2 80000800\npeek 2 80000804\nshow 1\nprogress\n"
 # Each call of a book and its exchange, as the command that makes it, and how many calls that command makes before it.
@@ -92,7 +95,7 @@ FILES = {
     "three": THREE_TRANSFERS, "two": TWO_PUSHES, "nine": NINE, "schedule": SCHEDULE, "long": LONG, "each": EACH, "wrong": "batch 01\n",
     "script": SCRIPT, "other": "show 1\n", "refusals": REFUSALS,
     "pushes": PUSHES, "swap": SWAP, "wide": WIDE, "image": IMAGE, "moves": MOVES, "twice": asked_twice(), "board": BOARD, "small": SMALL,
-    "record": RECORD, "spoilt": RECORD.replace("000000ff\n1", "000000fe\n1"),
+    "record": RECORD, "worded": WORDED, "spoilt": RECORD.replace("000000ff\n1", "000000fe\n1"),
     "caller.in": "batch 1\npush 0 0 1 0\nplan 1\nrun 1\n", "keeper.in": KEPT,
 }  # fmt: skip
 FILES["pairs"] = "batch 64\n" + "".join(f"push 0 {block} 1 {block}\n" for block in range(64))
@@ -146,7 +149,7 @@ COMMANDS = [
     ["serve", "3x2x2", "pushes", "--image", "image", "--image-out", "left-2"], ["serve", "2x2", "script", "--image-out", "left-3"],
     # `write_record`, `read_entry`, `replay` and `answer_replay`.
     ["serve", "2x1x1", "refusals", "--record", "left-4"], ["serve", "2x2x2", "script", "--record", "left-5", "--image-out", "left-6"],
-    ["replay", "2x2x2", "record"], ["replay", "3x2x2", "record", "--image", "image"], ["replay", "2x2x2", "-"], ["replay", "2x2x2", "spoilt"],
+    ["replay", "record"], ["replay", "worded", "--image", "image"], ["replay", "-", "--first", "2"], ["replay", "spoilt", "--shape", "2x2x2"],
     # `Batch::write`.
     ["direct", "moves"], ["direct", "wrong"], ["direct", "-"],
     ["apply", "3x2x2", "two", "image"], ["apply", "3x2x2", "two", "image", "--workers", "2"], ["apply", "3x2x2", "swap", "image"],
@@ -261,25 +264,32 @@ def kept_files(words):
     return {what: words[words.index(option) + 1] for what, option in options.items() if option in words}
 
 
-def put_older(files):
-    for name in files.values():
+def put_older(words, files):
+    for what, name in files.items():
         with open(name, "wb") as older:
-            older.write(OLDER)
+            older.write(OLDER[words[0]][what])
 
 
-def taken(files):
-    """What is left in files, which are as before then."""
+def taken(words, files):
+    """What is left in files that isn't what was there before. They are as before then."""
     texts = {}
     for what, name in files.items():
         with open(name, "rb") as file:
             texts[what] = file.read()
-    put_older(files)
-    return texts
+    put_older(words, files)
+    return {what: text for what, text in texts.items() if text != OLDER[words[0]][what]}
+
+
+def is_begun(words, kept):
+    """Whether nothing is left but a front of the head of a live client's record."""
+    shape = plain.read_shape(words[1].encode())
+    head = records.head_of(shape, bytes(4 * shape[0] * shape[1] * shape[2]), words[2:3])
+    return words[0] == "host" and list(kept) == ["record"] and head.startswith(kept["record"])
 
 
 def is_record_of(words, ended, record, image):
     """Whether a record is one of what was told, also where some growths were refused, and leads to the image that is left, if one is."""
-    replay = records.Replay(plain.read_shape(words[1].encode()), record, FILES["image"].encode() if "--image" in words else None)
+    replay = records.Replay(record, plain.read_shape(words[1].encode()), FILES["image"].encode() if "--image" in words else None)
     told = sessions_of(words, ended)[3].decode().splitlines()
     replies = [reply for _, _, reply in replay.entries if reply != "fetched"]
     is_told = [line for line in told if line in replies] == [reply for reply in replies if reply in told]
@@ -296,14 +306,13 @@ def judge_of_files(words, judge):
     """A judge of what is answered, and of the record and the image that are left. Where there is no memory for one, its file is as before, the
     status 3, and a line may say so."""
     files = kept_files(words)
-    put_older(files)
+    put_older(words, files)
 
     def judge_all(ended, refused):
-        left, images = taken(files), images_behind(words, ended)
-        kept = {what: text for what, text in left.items() if text != OLDER}
+        kept, images = taken(words, files), images_behind(words, ended)
         missing = [what for what in files if what not in kept]
         if not images:
-            return f"WRONG {ended}, and {kept}" if kept else judge(ended, refused)
+            return f"WRONG {ended}, and {kept}" if kept and not is_begun(words, kept) else judge(ended, refused)
         if "image" in kept and kept["image"] not in images:
             return f"WRONG image {kept['image']} of {ended}"
         if "record" in kept and not is_record_of(words, ended, kept["record"], kept.get("image")):

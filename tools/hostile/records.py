@@ -1,21 +1,28 @@
 """Records of sessions, replayed a second time: plain Python, as plain.py, that shares no code with the product."""
 
 import re
+import zlib
 
 import notes
 import plain
 import spoil
 from plain import NUMBER, Refused
-from sessions import HEX8, MOST_ENTRIES, Exchange
+from sessions import HEX8, LINE_BYTES, Exchange
 
-HEAD = re.compile(rb"record " + NUMBER)
+HEAD = re.compile(rb"record " + rb"x".join([NUMBER] * 3) + rb" " + HEX8 + rb" " + NUMBER)
+CLIENT = re.compile(rb"client ([^\n]*)")
+END = b"end\n"
+# The longest first line of an entry: a session's number, a space, and the longest line of a session.
+LONGEST = 9 + 1 + LINE_BYTES
 SESSION = re.compile(NUMBER + rb" ")
 BATCH = re.compile(rb"batch " + NUMBER)
 SUBMITTED = re.compile(NUMBER + rb" batch " + NUMBER + rb"\n")
 
 # What is wanted in the first line, and in that of a call, as the line on standard error says it.
 ENDED = f"{notes.RULES}, a line feed at its end"
-HEAD_WANTED = f'"record N", where N counts the entries, at most {MOST_ENTRIES}'
+HEAD_WANTED = (
+    '"record MxKxW SUM N", where MxKxW is its shape, SUM the sum of its image, of eight digits, and N counts the lines "client NAME" behind it'
+)
 CALL_WANTED = (
     '"S CALL", where S is the number of a session, CALL is "batch N" and the batch\'s lines, "fetch ID", "settle ID", "run ID", "show ID", '
     '"drop ID", "peek M A" or "poke M A D", ID is the number of a batch, M a module, A an address and D a word, of eight digits 0 to 9 and '
@@ -142,31 +149,86 @@ def wrong_in_batch(text, at):
     return number + 1, notes.of_form(b"", 2, *notes.KINDS["batch"][2][1])
 
 
-class Misrecorded(Refused):
-    """What is first wrong with a record, the number of the line where it is, and what is told of that: the first thing that it hasn't of a form,
-    if it has to be of one, and what is wanted there. Nothing may be."""
+def is_one_line_call(line):
+    """Whether a line, without its line feed, is a call of one line behind a session's number."""
+    session = SESSION.match(line)
+    return bool(session) and any(form.fullmatch(line[session.end() :]) for form, _, _ in CALLS)
 
-    def __init__(self, what, text, at, wanted, form=None):
+
+def may_be_torn(rest):
+    """Whether a rest can be what is there of an entry, or of the last line, that was cut off while it was written."""
+    if END.startswith(rest):
+        return rest != END
+    first, _, more = rest.partition(b"\n")
+    if len(first) == len(rest):
+        return len(rest) <= LONGEST
+    session = SESSION.match(first)
+    announced = session and BATCH.fullmatch(first[session.end() :])
+    if announced:
+        return int(announced[1]) <= plain.TRANSFERS and more.count(b"\n") <= int(announced[1])
+    return is_one_line_call(first) and b"\n" not in more
+
+
+def head_of(shape, image, names):
+    """The head of a record: of a rack of this shape that begins with these words, and of clients of these names."""
+    first = b"record %dx%dx%d %08x %d\n" % (*shape, zlib.adler32(image), len(names))
+    return first + b"".join(b"client %b\n" % name.encode() for name in names)
+
+
+def head_in(text):
+    """The shape, the sum and the names in the head of a record, and where it ends."""
+    line, at = plain.line_at(text, 0)
+    found = line is not None and HEAD.fullmatch(line)
+    try:
+        shape = found and plain.read_shape(b"%bx%bx%b" % found.groups()[:3])
+    except Refused:
+        shape = None
+    if not shape:
+        raise Misrecorded("head", text, 0, HEAD_WANTED)
+    names = []
+    for _ in range(int(found[5])):
+        line, at = plain.line_at(text, at)
+        client = line is not None and CLIENT.fullmatch(line)
+        if not client:
+            raise Misrecorded("head", text, 0, HEAD_WANTED)
+        names.append(client[1])
+    return shape, int(found[4], 16), names, at
+
+
+class Misrecorded(Refused):
+    """What is first wrong with a record, the number of the line where it is, and what is told of that, by what is wanted there. Nothing may be."""
+
+    def __init__(self, what, text, at, wanted):
         super().__init__(f"record {what}")
         self.line = text.count(b"\n", 0, at) + 1
-        self.told = f"{notes.quoted(notes.line_of(text, self.line))} stands behind the last entry; nothing may follow"
+        self.told = f"{notes.quoted(notes.line_of(text, self.line))} stands behind the last line; nothing may follow"
         if wanted:
-            self.told = notes.of_form(text, self.line, form, wanted)
+            self.told = notes.of_form(text, self.line, None, wanted)
+        if what == "head" and text:
+            self.told = f"{notes.quoted(notes.line_of(text, 1))} begins no record of this rack; wanted is {wanted}"
 
 
 class Replay:
-    """A record on a rack of a shape, replayed: its entries, each the session, the call's text and the reply, and the exchange that is left."""
+    """A record, replayed: its whole entries, each the session, the call's text and the reply, and the exchange that is left. `ends` are the places
+    where the head and each of them end, `rest` is what stands behind, and `ended` says whether that is the last line. A shape that is given has to
+    be the record's. So many entries are replayed, where a number is given."""
 
-    def __init__(self, shape, text, image=None):
-        self.exchange, self.entries = Exchange(shape, image), []
-        line, at = plain.line_at(text, 0)
-        head = HEAD.fullmatch(line) if line is not None else None
-        if not head or int(head[1]) > MOST_ENTRIES:
-            raise Misrecorded("head", text, 0, HEAD_WANTED, "record N")
-        for number in range(int(head[1])):
-            at = self.entry(text, at, number)
-        if at < len(text):
-            raise Misrecorded("more", text, at, None)
+    def __init__(self, text, shape=None, image=None, first=None):
+        own, total, self.names, at = head_in(text)
+        if shape not in (None, own):
+            raise Misrecorded("head", text, 0, HEAD_WANTED)
+        self.shape, self.exchange, self.entries, self.ends = own, Exchange(own, image), [], [at]
+        if zlib.adler32(self.exchange.image()) != total:
+            raise Misrecorded("head", text, 0, HEAD_WANTED)
+        while first is None or len(self.entries) < first:
+            if may_be_torn(text[at:]) or text.startswith(END, at):
+                break
+            at = self.entry(text, at, len(self.entries))
+            self.ends.append(at)
+        self.rest = text[at:]
+        self.ended = self.rest == END
+        if first is None and text.startswith(END, at) and not self.ended:
+            raise Misrecorded("more", text, at + len(END), None)
 
     def entry(self, text, at, number):
         """Replays the entry that stands there, and says where it ends."""
@@ -186,21 +248,23 @@ class Replay:
         return end + len(reply) + 1
 
 
-def answer_replay(shape, text, image=None):
+def answer_replay(text, shape=None, image=None):
     """What `replay` prints, and its status."""
     try:
-        return Replay(plain.read_shape(shape), text, image).exchange.image(), 0
+        return Replay(text, shape and plain.read_shape(shape), image).exchange.image(), 0
     except Refused as why:
         return f"refused {why}\n".encode(), 1
 
 
-def note(name, shape, text):
-    """What is told on standard error of a record in a file of this name: nothing where it can be replayed."""
+def note(name, text):
+    """What is told on standard error of a record in a file of this name: nothing where it can be replayed, and has its end."""
     try:
-        Replay(shape, text)
+        replay = Replay(text)
     except Misrecorded as why:
         return f"exchange: {name}:{why.line}: {why.told}\n".encode()
-    return b""
+    count = len(replay.entries)
+    told = f"exchange: {name}: not ended: {count} whole {'entry' if count == 1 else 'entries'} in {replay.ends[-1]} bytes\n"
+    return b"" if replay.ended else told.encode()
 
 
 def call_by(draw, shape, number):
@@ -226,9 +290,9 @@ def made(draw, shape, sessions, count):
     return entries
 
 
-def spelled(entries, count=None):
-    """The record of these entries, or one that says that there are so many."""
-    return b"record %d\n" % (len(entries) if count is None else count) + b"".join(entries)
+def spelled(shape, entries, ended=True):
+    """The record of these entries on a rack that begins with zeros, with its end or without it."""
+    return head_of(shape, Exchange(shape).image(), []) + b"".join(entries) + (END if ended else b"")
 
 
 def other_word(draw, entry):
@@ -239,12 +303,11 @@ def other_word(draw, entry):
     return call + b"\n" + b" ".join(words) + b"\n"
 
 
-def spoilt(draw, entries):
-    """A record to which something was done, or nothing: a word of a reply changed, two entries exchanged, one left out, one twice, one of
-    another session; or any bytes of it."""
-    entries, what = list(entries), draw.randrange(8)
+def spoilt(draw, shape, entries):
+    """A record of a rack of this shape to which something was done, or nothing: a word of a reply changed, two entries exchanged, one left out, one
+    twice, one of another session; any bytes of it; its end left out, or more; or the head of another rack."""
+    entries, what = list(entries), draw.randrange(10)
     one, other = draw.randrange(len(entries)), draw.randrange(len(entries))
-    before = len(entries)
     if what == 0:
         entries[one] = other_word(draw, entries[one])
     elif what == 1:
@@ -256,5 +319,10 @@ def spoilt(draw, entries):
     elif what == 4:
         entries[one] = b"%d %b" % (draw.randrange(4), entries[one].partition(b" ")[2])
     elif what < 7:
-        return spoil.spoil(draw, spelled(entries))
-    return spelled(entries, before if draw.random() < 0.2 else None)
+        return spoil.spoil(draw, spelled(shape, entries))
+    elif what < 9:
+        text = spelled(shape, entries)
+        return text[: draw.randrange(len(text) + 1)]
+    elif draw.random() < 0.5:
+        shape = (shape[0] + 1, *shape[1:])
+    return spelled(shape, entries, draw.random() < 0.8)

@@ -96,7 +96,7 @@ def unreadable_files(room):
             ("run", "3x2x2", name), ("run", "0", name), ("run", "0", "three", "--schedule", name), ("serve", "2x2x2", "script", name),
             ("serve", "0", name), ("apply", "2x1x1", name, "image"),
             ("apply", "0", "three", name), ("run", "0", "three", "--image", name), ("serve", "0", "script", "--image", name), ("direct", name),
-            ("replay", "0", name), ("replay", "0", "three", "--image", name),
+            ("replay", name), ("replay", "three", "--shape", "0", "--image", name),
         ]:  # fmt: skip
             expect(f"{what}: {words[0]}", ask(*words), refused_file(name, reason_of(name)))
 
@@ -122,7 +122,7 @@ def endless_files():
         ("check", "three", "/dev/zero"), ("draw", "/dev/zero", "plan"), ("draw", "three", "/dev/zero"), ("run", "3x2x2", "/dev/zero"),
         ("serve", "2x2x2", "script", "/dev/zero"), ("apply", "2x1x1", "swap", "/dev/zero"), ("run", "2x1x1", "swap", "--image", "/dev/zero"),
         ("direct", "/dev/zero"), ("switch", "three", "--wiring", "/dev/zero"), ("drive", "three", "missing", "--wiring", "/dev/zero"),
-        ("replay", "2x2x2", "/dev/zero"),
+        ("replay", "/dev/zero"),
     ]:  # fmt: skip
         expect(f"an endless file: {words[0]}", under(limit, *words), NO_MEMORY)
     with open("large", "wb") as file:

@@ -495,13 +495,12 @@ def try_scripts(draw):
 def try_record(draw):
     """A spoilt record, put to `replay`."""
     shape = (draw.randint(1, 4), draw.randint(1, 4), draw.randint(1, 3))
-    text = records.spoilt(draw, records.made(draw, shape, draw.randint(1, 3), draw.randint(1, 40)))
-    words = "{}x{}x{}".format(*shape)
-    answer = ask_of(draw, ["replay", words], [keep("record", text)])
-    wanted, status = records.answer_replay(words.encode(), text)
-    told = b"" if answer.is_quiet else records.note(named(answer, "record", text)[0], shape, text)
+    text = records.spoilt(draw, shape, records.made(draw, shape, draw.randint(1, 3), draw.randint(1, 40)))
+    answer = ask_of(draw, ["replay"], [keep("record", text)])
+    wanted, status = records.answer_replay(text)
+    told = b"" if answer.is_quiet else records.note(named(answer, "record", text)[0], text)
     well = (answer.out, answer.status, answer.err) == (wanted, status, told)
-    return well, b"an image" if status == 0 else wanted, [words.encode(), text], answer
+    return well, b"an image" if status == 0 else wanted, [text], answer
 
 
 KINDS = {

@@ -4,7 +4,7 @@
 Each case starts a host in a folder of its own, with a pipe for each way of each client, and is all of its clients. A client says a line only
 when it has heard the reply to the one before, unless the case says otherwise. At the end the host has to print a line for each client, and
 how its session ended where it didn't by itself. Its record has to be replayed to the image that it leaves. A case has LIMIT seconds. What the
-walk of docs/GUIDE.md shows is run in two shells, whose host records too, and the clients of examples/all-reduce.py are run too.
+walks of docs/GUIDE.md show is run in two shells, whose host records too, and the clients of examples/all-reduce.py are run too.
 """
 
 import array
@@ -111,9 +111,9 @@ class Client:
 
 
 def is_replayed(shape):
-    """Whether the record that a host kept is replayed to the image that it left."""
+    """Whether the record that a host of this shape kept is replayed to the image that it left."""
     with open("left", "rb") as left:
-        replay = start([EXCHANGE, "replay", shape, "record"], stdin=subprocess.DEVNULL)
+        replay = start([EXCHANGE, "replay", "record", "--shape", shape], stdin=subprocess.DEVNULL)
         return replay.communicate()[0] == left.read() and replay.returncode == 0
 
 
@@ -311,14 +311,15 @@ def lines_of_shells():
 
 
 def put_recorder():
-    """Puts a program here that is called as the exchange is, and is one that keeps its record and the image that it leaves."""
+    """Puts a program here that is called as the exchange is. A host that doesn't record keeps its record and the image that it leaves."""
+    exchange = shlex.quote(EXCHANGE)
     with open("exchange", "w") as file:
-        file.write(f"#!/bin/sh\nexec {shlex.quote(EXCHANGE)} \"$@\" {' '.join(KEPT)}\n")
+        file.write(f'#!/bin/sh\ncase "$*" in\n*record*|replay*) exec {exchange} "$@" ;;\n*) exec {exchange} "$@" {" ".join(KEPT)} ;;\nesac\n')
     os.chmod("exchange", 0o755)
 
 
 def walk():
-    """What the guide shows of two shells. Its one host records."""
+    """What the guide shows of two shells: clients that look, and a host that is killed. The host that isn't told to records too."""
     put_recorder()
     shells, shown = {}, lines_of_shells()
     for name, command, wanted in shown:
@@ -333,7 +334,7 @@ def walk():
     yield len(shells), 2
     for shell in shells.values():
         shell.communicate()
-    shapes = [command.split()[2] for _, command, _ in shown if command.startswith("./exchange host ")]
+    shapes = [command.split()[2] for _, command, _ in shown if command.startswith("./exchange host ") and "--record" not in command]
     yield [is_replayed(shape) for shape in shapes], [True]
 
 

@@ -1,6 +1,6 @@
 -- What a step of the machine says of its reply: it is one of its call's, and a run has the next
 -- number.
-use Rattle.std.proofs.Common.{◌≡◌, ℕ, ◌+◌, ◌*◌, ◌≤◌, List, Bool, true, false, nat_eq, nat_lt, if◌then◌else◌, ◌==◌, length, Option, None, Some, IfSome, ◌≢◌, refl, sym, subst, arith}
+use Rattle.std.proofs.Common.{◌≡◌, ℕ, ◌+◌, ◌*◌, ◌<◌, ◌≤◌, List, Bool, true, false, nat_eq, nat_lt, if◌then◌else◌, ◌==◌, length, Option, None, Some, IfSome, ◌≢◌, refl, sym, subst, arith}
 use Rattle.std.proofs.lemmas.Nat.{mul-le}
 use Rattle.std.proofs.lemmas.Map.Entries.{All-lookup}
 use Rattle.std.specs.Map.{lookup}
@@ -13,7 +13,7 @@ use Rattle.module_memory.specs.Store.{Store}
 use Rattle.module_memory.specs.declared.fault.MemoryFault.{MemoryFault}
 use Rattle.schedule_certificate.specs.Plans.{Plan, IsPlan}
 use Rattle.setting_runner.specs.declared.outcome.RunRefusal.TheVariants as run_refusal
-use Rattle.batch_book.specs.declared.limits.TheConstants.{MAX_BATCHES}
+use Rattle.batch_book.specs.declared.limits.TheConstants.{MAX_BATCHES, MAX_NUMBER, RUN_STEP}
 use Rattle.batch_book.specs.declared.entry.Entry.{Entry}
 use Rattle.batch_book.specs.declared.kept.KeptBatch.{KeptBatch}
 use Rattle.batch_book.specs.declared.kept.Stage.{Stage}
@@ -27,6 +27,7 @@ use Rattle.batch_book.specs.Machine.{Machine, opened, owned, batch_of, Gives, ac
 use Rattle.batch_book.specs.History.{Account, IsReplay, IsGrown, HasOwnPlan, HaveOwnPlans, IsSound}
 use Rattle.batch_book.specs.Replies.{is_logged}
 use Rattle.batch_book.specs.Answering.{IsReplyTo}
+use Rattle.batch_book.specs.Values.{value_of}
 use Rattle.batch_book.proofs.OwnPlans.{plans_stay}
 
 -- a reply that tells of a run has this number
@@ -150,6 +151,14 @@ answered m session (Show id) r n sound is = gives m (Show id) _ r n (show_of m i
 answered m session (Discard id) r n sound is = gives m (Discard id) _ r n (discard_of m id (batch_of m session id)) is
 answered m session (Peek «module» address) r n sound is = gives m (Peek «module» address) _ r n (peek_of m «module» address (fault_of m.store.shape «module» address)) is
 answered m session (Poke «module» address word) r n sound is = gives m (Poke «module» address word) _ r n (poke_of m «module» address word (fault_of m.store.shape «module» address)) is
+
+-- the value of the reply is no greater than that of the next run can be
+pub value_below : (m : Machine) (c : Call) (r : Reply) → IsAnswer m c r → m.runs ≤ MAX_NUMBER → value_of r < RUN_STEP * (MAX_NUMBER + 2)
+value_below m (Run id) (reply.Ran run settings words) is few = omega (arith, is.number, is.fits.few_settings, few)
+value_below m (Run id) (reply.Stopped run setting cause moved) is few = omega (arith, is.number, is.fits.few_settings, few)
+value_below m c (reply.Ran run settings words) is few = absurd is.fits
+value_below m c (reply.Stopped run setting cause moved) is few = absurd is.fits
+value_below m c r is few = omega arith
 
 -- ---- replies that the history hasn't
 

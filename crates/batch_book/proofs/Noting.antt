@@ -1,5 +1,5 @@
 -- What is noted of calls.
-use Rattle.std.proofs.Common.{◌≡◌, ℕ, ◌+◌, ◌≤◌, max, List, [], ◌∷◌, ◌++◌, length, length-append, take, Bool, true, false, cond, nat_eq, if◌then◌else◌, Option, Some, Result, Ok, Err, IfOk, refl, sym, ap, ◌∙◌, subst, arith, append_assoc, append-nil}
+use Rattle.std.proofs.Common.{◌≡◌, ℕ, ◌+◌, ◌≤◌, max, List, [], ◌∷◌, ◌++◌, length, length-append, take, Bool, true, false, cond, nat_eq, if◌then◌else◌, Option, Some, Result, Ok, Err, IfOk, is_err, ◌||◌, refl, sym, ap, ◌∙◌, subst, arith, append_assoc, append-nil}
 use Rattle.std.proofs.Math.Seq.{take-append_seam, take-append-add, take-length}
 use Rattle.std.proofs.lemmas.Grind.{flat_map-append}
 use Rattle.std.proofs.lemmas.List.{map-append}
@@ -133,9 +133,9 @@ greatest_more notes session c (Ok reply) = greatest_if notes (entry session c re
 greatest_more notes session c (Err (Now reply)) = one_more notes (entry session c reply) false
 greatest_more notes session c (Err Before) = let same = ap (λ (ns : List Noted). greatest (made_in ns)) (append-nil notes) in omega (arith, same)
 
-pub greatest_behind : (earlier es : List Entry) → greatest es ≤ greatest (earlier ++ es)
-greatest_behind [] es = omega arith
-greatest_behind (x ∷ earlier) es = let rest = greatest_behind earlier es in omega (arith, rest)
+pub greatest_append : (earlier es : List Entry) → greatest (earlier ++ es) ≡ max (greatest earlier) (greatest es)
+greatest_append [] es = omega arith
+greatest_append (x ∷ earlier) es = let rest = greatest_append earlier es in omega (arith, rest)
 
 -- ---- a session's own
 
@@ -192,16 +192,16 @@ unheard_made watcher run a b old new session c (Ok reply) sound is h none = unhe
 unheard_made watcher run a b old new session c (Err (Now reply)) sound is h none = unheard watcher run a b old session c reply new sound (λ _. is.3) h none
 unheard_made watcher run a b old new session c (Err Before) sound is h none = ap watcher h
 
-pub asked : (o p : WatcherView) (session parts after : ℕ) (notes list : List Noted) (c : Call) (r : Result Reply Unrecorded)
-    → Reaches o (value_made r) p → (value_made r ≡ 0 → p ≡ o) → after ≡ parts → list ≡ notes ++ noted session c r
-    → IsAsked (open_seat o session (told_in notes) parts) c r (open_seat p session (told_in list) after)
-asked o p session parts after notes list c r reaches quiet same are = record {
+pub asked : (o p : WatcherView) (session parts after : ℕ) (broken breaks : Bool) (notes list : List Noted) (c : Call) (r : Result Reply Unrecorded)
+    → Reaches o (value_made r) p → (value_made r ≡ 0 → p ≡ o) → after ≡ parts → list ≡ notes ++ noted session c r → breaks ≡ is_err r || broken
+    → IsAsked (open_seat o session (told_in notes) parts broken) c r (open_seat p session (told_in list) after breaks)
+asked o p session parts after broken breaks notes list c r reaches quiet same are is = record {
   seat = record { exchange = ap Some reaches.word; session = refl; parts = same };
   log = ap told_in are ∙ (told_append notes (noted session c r) ∙ ap (λ (es : List Entry). told_in notes ++ es) (told_noted session c r));
-  raised = reaches.raised;
   later = reaches.later;
   seen = reaches.seen;
   quiet = λ none. ap (λ (w : WatcherView). w.seen) (quiet none);
+  broken = is;
 }
 
 pub unstopped_made : {P W G : Type 0} (seen : Ghosts P) (sure : W → ℕ → Type 0) (shape : Extent) (ran : Option Scheduled) (plant next : Plant P W G) (old new : Account) (session : ℕ) (c : Call) (r : Result Reply Unrecorded)

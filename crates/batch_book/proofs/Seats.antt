@@ -18,6 +18,11 @@ pub greatest_push : (es : List Entry) (e : Entry) → greatest (es ++ e ∷ []) 
 greatest_push [] e = omega arith
 greatest_push (x ∷ xs) e = omega (arith, greatest_push xs e)
 
+-- how far runs have come, with an entry more
+pub further : (es new : List Entry) (e : Entry) (far value now : ℕ) → far ≡ greatest es → value ≡ value_of e.reply → now ≡ max far value → new ≡ es ++ e ∷ [] → now ≡ greatest new
+further es new e far value now was its is grown =
+    is ∙ (ap (λ (n : ℕ). max n value) was ∙ (ap (λ (n : ℕ). max (greatest es) n) its ∙ (sym (greatest_push es e) ∙ ap greatest (sym grown))))
+
 -- what one hears that raises a word from a watcher, in a run
 abbrev pub Hears : {N : Type 0} → (N → WatcherView) → (N → ℕ) → N → ℕ → N → Type 0
 Hears watcher run a k b = Reaches (watcher a) (value_at (run a) k) (watcher b) × (run b ≡ run a)

@@ -40,10 +40,11 @@ abbrev pub account : Store → List Entry → Machine → Bool → Account
 account opening history machine whole =
     record { opening = opening; history = history; machine = machine; whole = whole }
 
--- what they see of one without its history
+-- what they see of one without its history: how far its runs have come, too
 pub record Bare : Type 0 where
   pub opening : Store
   pub machine : Machine
+  pub furthest : ℕ
 
 -- what contracts see of a new book of these words
 abbrev pub new_account : Store → Account

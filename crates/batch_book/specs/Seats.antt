@@ -1,5 +1,5 @@
 -- The seats of an exchange, and their lists.
-use Rattle.std.specs.Prelude.{◌≡◌, ℕ, ◌≤◌, max, List, ◌++◌, length, sum_by, Option, Some, Result}
+use Rattle.std.specs.Prelude.{◌≡◌, ℕ, ◌≤◌, max, ◌||◌, Bool, List, ◌++◌, length, sum_by, Option, Some, Result, is_err}
 use Rattle.atomic_table.specs.Seated.{TableId}
 use Rattle.progress_word.specs.Watchers.{WatcherView}
 use Rattle.own_lists.specs.Lists.{own_of}
@@ -10,26 +10,26 @@ use Rattle.batch_book.specs.declared.unrecorded.Unrecorded.{Unrecorded}
 use Rattle.batch_book.specs.Recording.{told_by, value_made}
 
 -- What contracts see of a seat: the word of its exchange, its session, the list of what could be
--- told to it, the greatest value that it saw of the word, the greatest to which it raised it, and
--- its parts
+-- told to it, the greatest value that it saw of the word, its parts, and whether the record of its
+-- calls is broken, so that a reply was lost
 pub record SeatState : Type 0 where
   pub exchange : Option TableId
   pub session : ℕ
   pub log : List Entry
   pub seen : ℕ
-  pub raised : ℕ
   pub parts : ℕ
+  pub broken : Bool
 
 -- a seat with this watcher on the word of its exchange
-abbrev pub open_seat : WatcherView → ℕ → List Entry → ℕ → SeatState
-open_seat o session log parts =
+abbrev pub open_seat : WatcherView → ℕ → List Entry → ℕ → Bool → SeatState
+open_seat o session log parts broken =
     record {
       exchange = Some o.word;
       session = session;
       log = log;
       seen = o.seen;
-      raised = o.raised;
       parts = parts;
+      broken = broken;
     }
 
 -- it is the seat of the same session at the same exchange, with as many parts
@@ -39,15 +39,16 @@ pub record IsSameSeat (old new : SeatState) : Type 0 where
   pub parts : new.parts ≡ old.parts
 
 -- What a call leaves of a seat. Its list has the entry behind it, where the reply can be told. The
--- word was raised to the reply's value, and the seat has seen that, and nothing new where it is 0.
+-- seat has seen that the word is no less than the reply's value, and nothing new where that is 0.
+-- Where the reply is lost the record is broken, and it stays so.
 pub record IsAsked (old : SeatState) (call : Call) (made : Result Reply Unrecorded)
     (new : SeatState) : Type 0 where
   pub seat : IsSameSeat old new
   pub log : new.log ≡ old.log ++ told_by old.session call made
-  pub raised : new.raised ≡ max old.raised (value_made made)
   pub later : old.seen ≤ new.seen
   pub seen : value_made made ≤ new.seen
   pub quiet : value_made made ≡ 0 → new.seen ≡ old.seen
+  pub broken : new.broken ≡ is_err made || old.broken
 
 -- the parts of these seats together
 abbrev pub parts_of : List SeatState → ℕ

@@ -10,6 +10,7 @@ ghost use Rattle.batch_book.specs.Running.{plan_to_run};
 ghost use Rattle.batch_book.specs.Replies.{is_logged, outcome_of};
 ghost use Rattle.batch_book.specs.History.{new_account, IsReplay, IsLegal, IsFull, IsGrown, IsSound, IsKeptBook, account, has_book_room};
 ghost use Rattle.batch_book.specs.Recording.{Applies, outcome_made, outcome_entered};
+ghost use Rattle.batch_book.specs.Values.{greatest};
 
 use crate::call::Call;
 use crate::entry::Entry;
@@ -37,6 +38,7 @@ use std::thread::Threads;
 pub struct BareBook {
     holdings: Holdings,
     opening: Rack,
+    furthest: u64,
 }
 
 impl Model for BareBook {
@@ -44,7 +46,20 @@ impl Model for BareBook {
 
     ghost Value = { Bare };
 
-    ghost view = { λ b. record { opening = b.opening; machine = b.holdings } };
+    ghost view = { λ b. record {
+      opening = b.opening;
+      machine = b.holdings;
+      furthest = b.furthest;
+    } };
+}
+
+impl BareBook {
+    /// The rack, with the words that the history left.
+    pub fn rack(&self) -> &Rack
+        ensures { result.now ≡ self.now.machine.store }
+    {
+        self.holdings.rack()
+    }
 }
 
 /// The batches that sessions have submitted, the rack that these are run on, and the history of
@@ -54,6 +69,8 @@ pub struct Book<H: History = Kept> {
     holdings: Holdings,
     opening: Rack,
     history: H,
+    // How far the runs of the history have come.
+    furthest: u64,
 }
 
 // Said once, so that no function that lets go of one has to say it again.
@@ -63,19 +80,23 @@ impl<H: History + Drop> Drop for Book<H> {
             holdings: _,
             opening: _,
             history: _,
+            furthest: _,
         } = self;
     }
 }
 
 impl<H: History> Model for Book<H> {
+    ghost use Rattle.std.specs.Prelude.{◌≡◌};
     ghost use Rattle.batch_book.specs.History.{Account, account, IsKeptBook};
+    ghost use Rattle.batch_book.specs.Values.{greatest};
 
     ghost Value = { Account };
 
     ghost view = { λ b. account b.opening (H.pushed b.history) b.holdings (H.whole b.history) };
 
     ghost invariant = { λ b. IsKeptBook H.limited H.loses
-        (account b.opening (H.pushed b.history) b.holdings (H.whole b.history)) };
+        (account b.opening (H.pushed b.history) b.holdings (H.whole b.history))
+        × (b.furthest ≡ greatest (H.pushed b.history)) };
 }
 
 impl Book<Kept> {
@@ -122,6 +143,7 @@ impl<H: History> Book<H> {
                 holdings,
                 opening,
                 history,
+                furthest: 0,
             }),
             Err((rack, error)) => Err((rack, history, error)),
         }
@@ -143,27 +165,42 @@ impl<H: History> Book<H> {
             result.0.machine (H.whole result.1)) }
         ensures same { account result.0.opening (H.pushed result.1) result.0.machine
             (H.whole result.1) ≡ self }
+        ensures furthest { result.0.furthest ≡ greatest (H.pushed result.1) }
     {
         let Book {
             holdings,
             opening,
             history,
+            furthest,
         } = self;
-        (BareBook { holdings, opening }, history)
+        (
+            BareBook {
+                holdings,
+                opening,
+                furthest,
+            },
+            history,
+        )
     }
 
     /// The book that goes on with this history.
     pub fn go_on(bare: BareBook, history: H) -> Book<H>
-        requires { IsKeptBook H.limited H.loses (account bare.opening (H.pushed history)
+        requires kept { IsKeptBook H.limited H.loses (account bare.opening (H.pushed history)
             bare.machine (H.whole history)) }
+        requires furthest { bare.furthest ≡ greatest (H.pushed history) }
         ensures { result ≡ account bare.opening (H.pushed history) bare.machine
             (H.whole history) }
     {
-        let BareBook { holdings, opening } = bare;
+        let BareBook {
+            holdings,
+            opening,
+            furthest,
+        } = bare;
         Book {
             holdings,
             opening,
             history,
+            furthest,
         }
     }
 
@@ -186,6 +223,13 @@ impl<H: History> Book<H> {
         ensures { result.now ≡ self.now.opening }
     {
         &self.opening
+    }
+
+    /// How far the runs of the history have come, as the progress word has it.
+    pub(crate) fn furthest(&self) -> u64
+        ensures { result ≡ greatest self.now.history }
+    {
+        self.furthest
     }
 
     /// The number that the next run gets.
@@ -291,6 +335,7 @@ impl<H: History> Book<H> {
         self.history.draft(session, &call)?;
         let asked = Snapshot::of(&call);
         let (told, reply) = self.holdings.answer(rt, session, call, plant, notice)?;
+        self.furthest = self.furthest.max(reply.value());
         let entry = Entry {
             session,
             call: LoggedCall::new(asked, told),

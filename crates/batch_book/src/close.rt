@@ -1,6 +1,6 @@
 //! How an exchange is closed.
 
-ghost use Rattle.std.specs.Prelude.{◌≡◌, ◌≤◌, length, All, Some, IsSome};
+ghost use Rattle.std.specs.Prelude.{◌≡◌, ◌≤◌, max, true, false, length, All, Some, IsSome};
 ghost use Rattle.batch_book.specs.Recording.{made_in, told_in};
 ghost use Rattle.batch_book.specs.Seats.{parts_of, entries_of, LogAgrees};
 ghost use Rattle.batch_book.specs.Values.{greatest};
@@ -71,6 +71,37 @@ impl<L: ExchangeName, P: ConfigPort, W: WireMaker, G, H: History> Shared<L, P, W
     }
 }
 
+impl<L: ExchangeName, P: ConfigPort + Drop, W: WireMaker + Drop, G: Drop, H: History> Shared<
+    L,
+    P,
+    W,
+    G,
+    H,
+> {
+    ghost use Rattle.batch_book.specs.Closing.{IsGivenUp};
+    ghost use Rattle.batch_book.specs.History.{AreUnstopped};
+    ghost use Rattle.batch_book.specs.Replies.{NeverFail};
+
+    /// The book of the exchange, which is given up, whether its seats are there or not. Its history
+    /// has those entries that it had before, and whatever calls were made since.
+    pub fn give_up(self) -> Book<H>
+        ensures book { IsGivenUp L.opening L.earlier result }
+        ensures lost { result.whole ≡ false → H.loses ≡ true }
+        ensures unstopped { NeverFail P.ConfigPort W.is_sure → AreUnstopped result.history }
+    {
+        let (locked, _) = self.into_parts();
+        let Locked {
+            book,
+            plant: _,
+            entries: _,
+            keeper: _,
+        } = locked;
+        // Asked for only for its contract, which says that the history is legal.
+        book.log();
+        book
+    }
+}
+
 // What a seat has of its exchange, without its list, which is what was told to its session.
 fn compared<L: ExchangeName>(keeper: &mut Keeper<NotedEntry, L>, seat: Seat<L>) -> ExchangeAccess<L>
     requires { IsSome seat.exchange }
@@ -78,11 +109,16 @@ fn compared<L: ExchangeName>(keeper: &mut Keeper<NotedEntry, L>, seat: Seat<L>) 
     ensures agrees { LogAgrees (told_in keeper.old.history) seat }
     ensures word { Some result.watcher.word ≡ seat.exchange }
     ensures seen { result.watcher.seen ≡ seat.seen }
-    ensures raised { result.watcher.raised ≤ greatest (made_in keeper.old.history) }
+    ensures raised { result.watcher.raised
+        ≤ max (greatest L.earlier) (greatest (made_in keeper.old.history)) }
     ensures parts { result.parts ≡ seat.parts }
     ensures amount { result.share.amount ≡ length seat.log }
 {
-    let Place { access, own } = seat.into_place();
+    let Place {
+        access,
+        own,
+        broken: _,
+    } = seat.into_place();
     keeper.compare(own);
     access
 }
@@ -102,7 +138,8 @@ fn gather<L: ExchangeName>(
     ensures total { parts_of seats.items ≡ ALL_PARTS }
     ensures amount { result.share.amount ≡ entries_of seats.items }
     ensures seen { All (λ s. s.seen ≤ result.watcher.seen) seats.items }
-    ensures raised { result.watcher.raised ≤ greatest (made_in keeper.old.history) }
+    ensures raised { result.watcher.raised
+        ≤ max (greatest L.earlier) (greatest (made_in keeper.old.history)) }
 {
     let Some(last) = seats.pop() else {
         unreachable!()

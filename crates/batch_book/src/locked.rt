@@ -1,6 +1,6 @@
 //! What lies under the lock of an exchange.
 
-ghost use Rattle.std.specs.Prelude.{◌≡◌, ◌+◌, ◌++◌, ◌≤◌, [], ◌∷◌, length, true, false, Some, IfOk, OnErr};
+ghost use Rattle.std.specs.Prelude.{◌≡◌, ◌+◌, ◌++◌, ◌≤◌, [], ◌∷◌, ◌||◌, length, true, false, Some, IfOk, OnErr, is_err};
 ghost use Rattle.batch_book.specs.Answering.{IsReplyTo};
 ghost use Rattle.batch_book.specs.History.{AreUnstopped};
 ghost use Rattle.batch_book.specs.Recording.{Applies, AreAllBut, made_in, told_in};
@@ -89,14 +89,19 @@ impl<L: ExchangeName, P: ConfigPort, W: WireMaker + Sync, G: Gate + Sync, H: His
         ensures reply { IfOk result.0 (IsReplyTo call) }
         ensures step { Applies self.old.book session call result.0 self.new.book }
         ensures asked { IsAsked
-            (open_seat place.access.watcher session (told_in place.own.list) place.access.parts)
+            (open_seat place.access.watcher session (told_in place.own.list) place.access.parts
+            place.broken)
             call result.0
             (open_seat result.1.access.watcher session (told_in result.1.own.list)
-            result.1.access.parts) }
+            result.1.access.parts result.1.broken) }
         ensures session { result.1.own.session ≡ session }
         ensures loses { OnErr result.0 (H.loses ≡ true) }
     {
-        let Place { access, own } = place;
+        let Place {
+            access,
+            own,
+            broken,
+        } = place;
         let ExchangeAccess {
             mut share,
             watcher,
@@ -130,6 +135,21 @@ impl<L: ExchangeName, P: ConfigPort, W: WireMaker + Sync, G: Gate + Sync, H: His
             watcher,
             parts,
         };
-        (made, Place { access, own })
+        let broken = is_broken(&made, broken);
+        (
+            made,
+            Place {
+                access,
+                own,
+                broken,
+            },
+        )
     }
+}
+
+// Whether a record is broken that was broken before, or behind such a call.
+fn is_broken(made: &Result<Reply, Unrecorded>, before: bool) -> bool
+    ensures { result ≡ is_err made.now || before }
+{
+    made.is_err() || before
 }

@@ -8,6 +8,7 @@ ghost use Rattle.batch_book.specs.Exchanges.{AreNew};
 ghost use Rattle.batch_book.specs.History.{AreUnstopped, new_account};
 ghost use Rattle.batch_book.specs.Naming.{IsNamed};
 ghost use Rattle.batch_book.specs.Replies.{NeverFail};
+ghost use Rattle.batch_book.specs.Values.{greatest};
 
 use crate::access::ExchangeAccess;
 use crate::book::Book;
@@ -98,7 +99,7 @@ impl<L: ExchangeName, P: ConfigPort, W: WireMaker, G> Shared<L, P, W, G, Kept> {
         requires { IsNamed L.name L.parts L.table L.opening L.earlier blank (new_account rack) }
         ensures sessions { OnOk result ((1 ≤ sessions) × (sessions ≤ MAX_SESSIONS)) }
         ensures shape { IfOk result (λ made. made.0.shape ≡ rack.shape) }
-        ensures seats { IfOk result (λ made. AreNew made.0.word sessions made.1.items) }
+        ensures seats { IfOk result (λ made. AreNew made.0.word 0 sessions made.1.items) }
         ensures blank { IfErr result (λ back. back.0 ≡ blank) }
         ensures rack { IfErr result (λ back. back.1 ≡ rack) }
         ensures plant { IfErr result (λ back. back.2 ≡ plant) }
@@ -117,8 +118,8 @@ impl<L: ExchangeName, P: ConfigPort, W: WireMaker, G> Shared<L, P, W, G, Kept> {
 }
 
 impl<L: ExchangeName, P: ConfigPort, W: WireMaker, G, H: History> Shared<L, P, W, G, H> {
-    /// An exchange over this book, which may have entries before, and this plant; else the same as
-    /// [`new`](Shared::new).
+    /// An exchange over this book, which may have entries before, and this plant. Its word begins as
+    /// far as the runs of these have come. Else the same as [`new`](Shared::new).
     pub fn of_book(
         alloc: Global,
         blank: ExchangeBlank,
@@ -133,7 +134,8 @@ impl<L: ExchangeName, P: ConfigPort, W: WireMaker, G, H: History> Shared<L, P, W
         requires unstopped { NeverFail P.ConfigPort W.is_sure → AreUnstopped book.history }
         ensures sessions { OnOk result ((1 ≤ sessions) × (sessions ≤ MAX_SESSIONS)) }
         ensures shape { IfOk result (λ made. made.0.shape ≡ book.machine.store.shape) }
-        ensures seats { IfOk result (λ made. AreNew made.0.word sessions made.1.items) }
+        ensures seats { IfOk result (λ made.
+            AreNew made.0.word (greatest book.history) sessions made.1.items) }
         ensures back { IfErr result (λ back.
             (back.0 ≡ blank) × (back.1 ≡ book) × (back.2 ≡ plant)) }
         ensures bad { IfErr result (λ back.
@@ -156,15 +158,17 @@ fn assemble<L: ExchangeName, P: ConfigPort, W: WireMaker, G, H: History>(
     requires named { IsNamed L.name L.parts L.table L.opening L.earlier blank book }
     requires unstopped { NeverFail P.ConfigPort W.is_sure → AreUnstopped book.history }
     ensures shape { result.0.shape ≡ book.machine.store.shape }
-    ensures seats { AreNew result.0.word places.sessions result.1.items }
+    ensures seats { AreNew result.0.word (greatest book.history) places.sessions result.1.items }
 {
     let Places {
         word,
-        watcher,
+        mut watcher,
         seats,
         sessions,
     } = places;
     let shape = book.rack().shape();
+    word.raise(&mut watcher, book.furthest());
+    word.load(&mut watcher);
     let ExchangeBlank { ledger, history } = blank;
     let (entries, share) = ledger.open::<L>();
     let mut keeper = history.open::<L>();
@@ -184,7 +188,7 @@ fn assemble<L: ExchangeName, P: ConfigPort, W: WireMaker, G, H: History>(
 }
 
 // Deals the parts to the seats, which takes no memory: each gets one, and the first keeps those
-// left over.
+// left over. All have seen as much as the first.
 fn deal<L: ExchangeName>(
     word: &ProgressWord,
     keeper: &mut Keeper<NotedEntry, L>,
@@ -196,11 +200,13 @@ fn deal<L: ExchangeName>(
     requires room { sessions ≤ vec_capacity seats }
     requires some { 0 < sessions }
     requires few { sessions ≤ MAX_SESSIONS }
-    requires first { first.watcher ≡ watcher_view word.now 0 0 ALL_PARTS }
+    requires first { first.watcher
+        ≡ watcher_view word.now first.watcher.seen first.watcher.raised ALL_PARTS }
+    requires raised { first.watcher.raised ≤ greatest L.earlier }
     requires amount { first.share.amount ≡ 0 }
     requires none_dealt { keeper.old.dealt ≡ 0 }
     requires history { keeper.old.history ≡ [] }
-    ensures seats { AreNew word.now sessions result.items }
+    ensures seats { AreNew word.now first.watcher.seen sessions result.items }
     ensures history { keeper.new.history ≡ [] }
 {
     let own = keeper.deal();

@@ -1,8 +1,10 @@
-ghost use Rattle.std.specs.Prelude.{◌≡◌};
+ghost use Rattle.std.specs.Prelude.{◌≡◌, ◌<◌, ◌+◌, ◌*◌};
 ghost use Rattle.batch_book.specs.Replies.{is_logged};
 ghost use Rattle.batch_book.specs.Told.{IsKeptOf};
+ghost use Rattle.batch_book.specs.Values.{value_of};
 
 use crate::kept::BatchState;
+use crate::limits::{MAX_NUMBER, RUN_STEP};
 use crate::refusal::BookRefusal;
 use batch::Batch;
 use setting_runner::{Moved, RunRefusal, StopCause};
@@ -69,6 +71,19 @@ impl Reply {
             self,
             Reply::Refused(BookRefusal::HistoryFull) | Reply::Refused(BookRefusal::NoMemory)
         )
+    }
+
+    /// How far the run has come of which the reply tells, as the progress word has it; 0 where it
+    /// tells of none.
+    pub(crate) fn value(&self) -> u64
+        requires { value_of self.now < RUN_STEP * (MAX_NUMBER + 2) }
+        ensures { result ≡ value_of self.now }
+    {
+        match self {
+            Reply::Ran { run, settings, .. } => RUN_STEP * *run as u64 + *settings as u64,
+            Reply::Stopped { run, setting, .. } => RUN_STEP * *run as u64 + *setting as u64,
+            _ => 0,
+        }
     }
 
     /// An equal reply, where it has no batch. It takes no memory.

@@ -1,6 +1,6 @@
 //! A session's seat at an exchange.
 
-ghost use Rattle.std.specs.Prelude.{◌≡◌, ◌≤◌, [], length, Some, IsSome};
+ghost use Rattle.std.specs.Prelude.{◌≡◌, ◌≤◌, max, [], false, length, Some, IsSome};
 ghost use Rattle.batch_book.specs.Recording.{made_in, told_in};
 ghost use Rattle.progress_word.specs.declared.limits.TheConstants.{ALL_PARTS};
 ghost use Rattle.batch_book.specs.Values.{greatest};
@@ -13,13 +13,16 @@ use own_lists::OwnList;
 use progress_word::ALL_PARTS;
 use std::marker::Model;
 
-/// What a seat has of its exchange: its access, and its session's list.
+/// What a seat has of its exchange: its access, its session's list, and whether a reply to the
+/// session was lost.
 #[derive(Drop)]
 pub(crate) struct Place<L: ExchangeName> {
     pub(crate) access: ExchangeAccess<L>,
     pub(crate) own: OwnList<NotedEntry, L>,
+    pub(crate) broken: bool,
     pub(crate) ghost counted: { access.share.amount ≡ length (told_in own.list) },
-    pub(crate) ghost highest: { access.watcher.raised ≡ greatest (made_in own.list) },
+    pub(crate) ghost highest: { access.watcher.raised
+        ≤ max (greatest L.earlier) (greatest (made_in own.list)) },
 }
 
 /// The seat of a session at an exchange. Contracts see the list of what the session has asked and
@@ -41,7 +44,7 @@ impl<L: ExchangeName> Drop for Seat<L> {
 }
 
 impl<L: ExchangeName> Model for Seat<L> {
-    ghost use Rattle.std.specs.Prelude.{◌≡◌, [], IfSome, option_map};
+    ghost use Rattle.std.specs.Prelude.{◌≡◌, [], false, IfSome, option_map};
     ghost use Rattle.std.specs.Option.{option_map_or};
     ghost use Rattle.batch_book.specs.Recording.{told_in};
     ghost use Rattle.batch_book.specs.Seats.{SeatState};
@@ -53,8 +56,8 @@ impl<L: ExchangeName> Model for Seat<L> {
       session = s.session;
       log = option_map_or (λ p. told_in p.own.list) s.place [];
       seen = option_map_or (λ p. p.access.watcher.seen) s.place 0;
-      raised = option_map_or (λ p. p.access.watcher.raised) s.place 0;
       parts = option_map_or (λ p. p.access.parts) s.place 0;
+      broken = option_map_or (λ p. p.broken) s.place false;
     } };
 
     ghost invariant = { λ s. IfSome s.place (λ p. p.own.session ≡ s.session) };
@@ -68,14 +71,18 @@ impl<L: ExchangeName> Seat<L> {
         own: OwnList<NotedEntry, L>,
     ) -> Seat<L>
         requires amount { access.share.amount ≡ 0 }
-        requires raised { access.watcher.raised ≡ 0 }
+        requires raised { access.watcher.raised ≤ greatest L.earlier }
         requires session { own.session ≡ session }
         requires list { own.list ≡ [] }
-        ensures { result ≡ open_seat access.watcher session [] access.parts }
+        ensures { result ≡ open_seat access.watcher session [] access.parts false }
     {
         Seat {
             session,
-            place: Some(Place { access, own }),
+            place: Some(Place {
+                access,
+                own,
+                broken: false,
+            }),
         }
     }
 

@@ -86,7 +86,7 @@ impl<L: ExchangeName, P: ConfigPort, W: WireMaker, G, H: History> Shared<L, P, W
         ensures later { seat.old.seen ≤ seat.new.seen }
         ensures seat { IsSameSeat seat.old seat.new }
         ensures log { seat.new.log ≡ seat.old.log }
-        ensures raised { seat.new.raised ≡ seat.old.raised }
+        ensures broken { seat.new.broken ≡ seat.old.broken }
     {
         let value = match &mut seat.place {
             Some(place) => self.word.load(&mut place.access.watcher),

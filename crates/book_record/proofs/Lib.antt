@@ -4,6 +4,7 @@ pub mod AnyRun
 pub mod Again
 pub mod BatchTexts
 pub mod CallTexts
+pub mod FirstLines
 pub mod Behind
 pub mod Records
 pub mod Replans

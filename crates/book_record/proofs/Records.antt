@@ -1,11 +1,12 @@
 -- Two records of one text.
-use Rattle.std.proofs.Common.{◌≡◌, ℕ, ◌*◌, ◌≤◌, List, [], ◌∷◌, ◌++◌, length, map, All, codes, refl, sym, ap, ◌∙◌, append_assoc, append-nil, subst, arith}
+use Rattle.std.proofs.Common.{◌≡◌, ℕ, ◌*◌, ◌≤◌, List, [], ◌∷◌, ◌++◌, length, map, All, refl, sym, ap, ◌∙◌, append_assoc, append-nil, subst, arith, inl, inr}
 use Rattle.std.specs.List.{flat_map}
-use Rattle.std.proofs.lemmas.List.{append_cancel_left, length-append, nil_from_length}
+use Rattle.std.specs.Fmt.{decimal}
+use Rattle.std.proofs.lemmas.Bool.{cases_lt}
+use Rattle.std.proofs.lemmas.List.{append_cancel_left, length-append}
 use Rattle.std.proofs.lemmas.List.Elements.{All-head, All-tail}
 use Rattle.batch.specs.Extent.{Extent, IsShape}
-use Rattle.batch.specs.Text.{number, space, line_feed}
-use Rattle.batch.proofs.Lines.{one_number, ends_line}
+use Rattle.batch.specs.Text.{number, space}
 use Rattle.module_memory.specs.Store.{Store, HasAllBlocks}
 use Rattle.batch_book.specs.declared.entry.Entry.{Entry}
 use Rattle.batch_book.specs.declared.reply.Reply.{Reply}
@@ -15,7 +16,7 @@ use Rattle.batch_book.proofs.OwnPlans.{plans_stay}
 use Rattle.batch_book.proofs.Steps.{small_step}
 use Rattle.batch_book.specs.Told.{PlanlessCall}
 use Rattle.batch_book.specs.Told.{told}
-use Rattle.book_record.specs.RecordText.{id_of, call_text, reply_text, entry_text, record_head, CanTell}
+use Rattle.book_record.specs.RecordText.{id_of, call_text, reply_text, entry_text, CanTell}
 use Rattle.book_record.specs.Untold.{ToldEntry, told_entry}
 use Rattle.book_record.specs.Laws.{OneRecord}
 use Rattle.book_record.proofs.Alike.{um, Alike}
@@ -127,23 +128,30 @@ goes_on m n (e ∷ es) (f ∷ fs) x y a b alike fm fn p q led too few same =
       rest = go.rest;
     }
 
-head_form : (w n x : List ℕ) → (w ++ n) ++ x ≡ w ++ (n ++ x)
-head_form w n x = append_assoc w n x
+-- entries without a text are none
+pub none_told : (es : List Entry) (y : List ℕ) → [] ≡ flat_map entry_text es ++ y → es ≡ []
+none_told [] y is = refl
+none_told (e ∷ es) y is =
+    let text = ap length (is ∙ append_assoc (entry_text e) (flat_map entry_text es) y ∙ entry_parts e (flat_map entry_text es ++ y)) in
+    absurd (omega (arith, text, length-append (number e.session space) (call_text (told e.call) ++ (reply_text (id_of (told e.call)) e.reply ++ (flat_map entry_text es ++ y))), length-append (decimal e.session) (space ∷ [])))
 
--- the first lines of two records
-pub one_head : (m n : ℕ) (x y : List ℕ) → m ≤ 65536 → n ≤ 65536 → record_head m ++ x ≡ record_head n ++ y → (m ≡ n) × (x ≡ y)
-one_head m n x y few less same =
-    one_number m n line_feed x y (omega arith) (omega arith) ends_line
-    (append_cancel_left (codes "record ") _ _ (sym (head_form (codes "record ") (number m line_feed) x) ∙ same ∙ head_form (codes "record ") (number n line_feed) y))
-
-pub one_record : OneRecord
-one_record opening text es fs a b all p q led too =
-    let few = p.few in
-    let less = q.few in
-    let head = one_head (length es) (length fs) (flat_map entry_text es) (flat_map entry_text fs) (omega arith) (omega arith) (sym p.spelled ∙ q.spelled) in
+-- where the one has as many entries as the other, or more
+one_record_by : (opening : Store) (es fs : List Entry) (a b : Machine) → HasAllBlocks opening → All CanTell es → All CanTell fs → IsReplay (opened opening) es a → IsReplay (opened opening) fs b
+    → length es ≤ length fs → flat_map entry_text es ≡ flat_map entry_text fs → (map told_entry es ≡ map told_entry fs) × (a.store ≡ b.store)
+one_record_by opening es fs a b all p q led too few same =
     let fit = fit_at_first opening all in
-    let go = goes_on (opened opening) (opened opening) es fs [] [] a b refl fit fit p.each q.each led too (omega (arith, head.0)) (append-nil _ ∙ head.1 ∙ sym (append-nil _)) in
-    let none : go.more ≡ [] = nil_from_length go.more (omega (arith, head.0, go.counted, ap length go.list, length-append go.front go.more)) in
+    let go = goes_on (opened opening) (opened opening) es fs [] [] a b refl fit fit p q led too few (append-nil _ ∙ same ∙ sym (append-nil _)) in
+    let none : go.more ≡ [] = none_told go.more [] go.rest in
     let whole : go.front ≡ fs = sym (append-nil go.front) ∙ ap (λ (l : List Entry). go.front ++ l) (sym none) ∙ sym go.list in
     let end : b ≡ go.mid = subst (λ (l : List Entry). IsReplay go.mid l b) none go.replay in
     (go.same ∙ ap (map told_entry) whole, ap (λ (m : Machine). m.store) go.alike ∙ ap (λ (m : Machine). m.store) (sym end))
+
+pub one_record : OneRecord
+one_record opening text es fs a b all p q led too =
+    let same = sym p.spelled ∙ q.spelled in
+    elim (cases_lt (length fs) (length es)) [
+      | inl less ↦
+          let other = one_record_by opening fs es b a all q.each p.each too led (omega (arith, less)) (sym same) in
+          (sym other.0, sym other.1)
+      | inr up ↦ one_record_by opening es fs a b all p.each q.each led too up same
+    ]

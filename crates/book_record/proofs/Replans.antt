@@ -1,5 +1,5 @@
 -- With other plans a history has the same text.
-use Rattle.std.proofs.Common.{◌≡◌, ℕ, List, [], ◌∷◌, ◌++◌, length, refl, sym, ap, ◌∙◌, arith}
+use Rattle.std.proofs.Common.{◌≡◌, ℕ, List, [], ◌∷◌, ◌++◌, refl, sym, ap, ◌∙◌}
 use Rattle.std.specs.List.{flat_map}
 use Rattle.batch.specs.Text.{number, space}
 use Rattle.batch_book.specs.declared.call.Call.{Call}
@@ -11,7 +11,7 @@ use Rattle.module_memory.proofs.Blocks.{all_blocks}
 use Rattle.batch_book.specs.Told.{PlanlessCall}
 use Rattle.batch_book.specs.declared.told_call.ToldCall.TheVariants as told_call
 use Rattle.batch_book.specs.Told.{told}
-use Rattle.book_record.specs.RecordText.{id_of, call_text, reply_text, entry_text, record_head, record_text}
+use Rattle.book_record.specs.RecordText.{id_of, call_text, reply_text, entry_text}
 use Rattle.book_record.specs.Untold.{IsReplanned, IsReplannedEntry, AreReplanned}
 use Rattle.book_record.specs.Laws.{PlansAreUntold}
 use Rattle.book_record.proofs.Again.{replay_again}
@@ -26,12 +26,6 @@ same_entry e f is =
     let make : ℕ → PlanlessCall → Reply → List ℕ = λ s c r. number s space ++ (call_text c ++ reply_text (id_of c) r) in
     ap (λ (s : ℕ). make s (told f.call) f.reply) is.session ∙ ap (λ (c : PlanlessCall). make e.session c f.reply) (same_told e.call f.call is.call) ∙ ap (make e.session (told e.call)) is.reply
 
-same_count : (es fs : List Entry) → AreReplanned es fs → length fs ≡ length es
-same_count [] [] is = refl
-same_count [] (f ∷ fs) is = absurd is
-same_count (e ∷ es) [] is = absurd is
-same_count (e ∷ es) (f ∷ fs) is = omega (arith, same_count es fs is.1)
-
 same_entries : (es fs : List Entry) → AreReplanned es fs → flat_map entry_text fs ≡ flat_map entry_text es
 same_entries [] [] is = refl
 same_entries [] (f ∷ fs) is = absurd is
@@ -39,12 +33,8 @@ same_entries (e ∷ es) [] is = absurd is
 same_entries (e ∷ es) (f ∷ fs) is =
     ap (λ (t : List ℕ). t ++ flat_map entry_text fs) (same_entry e f is.0) ∙ ap (λ (t : List ℕ). entry_text e ++ t) (same_entries es fs is.1)
 
-same_text : (es fs : List Entry) → AreReplanned es fs → record_text fs ≡ record_text es
-same_text es fs is =
-    ap (λ (n : ℕ). record_head n ++ flat_map entry_text fs) (same_count es fs is) ∙ ap (λ (t : List ℕ). record_head (length es) ++ t) (same_entries es fs is)
-
 pub plans_are_untold : PlansAreUntold
 plans_are_untold opening es fs a whole led unstopped is =
     let fit = fit_at_first opening (all_blocks opening whole) in
     let there = replay_again (opened opening) (opened opening) es fs a is refl whole fit.plans fit.plans unstopped led in
-    (there.0, there.1, sym (ap (λ (m : Machine). m.store) there.2), same_text es fs is)
+    (there.0, there.1, sym (ap (λ (m : Machine). m.store) there.2), same_entries es fs is)

@@ -1,10 +1,11 @@
 -- What the laws state. Proofs use them; no contract of a call cites them.
 use Rattle.std.specs.Prelude.{◌≡◌, ℕ, List, map}
+use Rattle.std.specs.List.{flat_map}
 use Rattle.module_memory.specs.Store.{Store, HasAllBlocks, IsWhole}
 use Rattle.batch_book.specs.declared.entry.Entry.{Entry}
 use Rattle.batch_book.specs.History.{AreUnstopped, IsReplay}
 use Rattle.batch_book.specs.Machine.{Machine, opened}
-use Rattle.book_record.specs.RecordText.{IsRecordOf, record_text}
+use Rattle.book_record.specs.RecordText.{IsRecordOf, entry_text}
 use Rattle.book_record.specs.Untold.{AreReplanned, told_entry}
 
 -- two legal histories of one text differ in plans alone, and lead to the same words
@@ -21,4 +22,4 @@ PlansAreUntold =
     (opening : Store) (es fs : List Entry) (a : Machine) → IsWhole opening
     → IsReplay (opened opening) es a → AreUnstopped es → AreReplanned es fs
     → (b : Machine) × IsReplay (opened opening) fs b × (b.store ≡ a.store)
-    × (record_text fs ≡ record_text es)
+    × (flat_map entry_text fs ≡ flat_map entry_text es)

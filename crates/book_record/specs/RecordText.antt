@@ -1,13 +1,12 @@
 -- The text of a record: an entry for each call of a history, with the session's number, the call in
 -- the words of a session's line, and its reply line. Plans aren't told: a call that settles one is
 -- told by the number of its batch. The form is this project's choice.
-use Rattle.std.specs.Prelude.{◌≡◌, ◌≢◌, ℕ, ◌≤◌, List, ◌++◌, length, All, codes}
+use Rattle.std.specs.Prelude.{◌≡◌, ◌≢◌, ℕ, List, ◌++◌, All, codes}
 use Rattle.std.specs.Fmt.{decimal}
 use Rattle.std.specs.List.{flat_map}
 use Rattle.batch.specs.Batches.{IsBatch}
-use Rattle.batch.specs.Text.{IsNumber, number, batch_text, space, line_feed}
+use Rattle.batch.specs.Text.{IsNumber, number, batch_text, space}
 use Rattle.line_words.specs.HexWords.{IsWord}
-use Rattle.batch_book.specs.declared.limits.TheConstants.{MAX_ENTRIES}
 use Rattle.batch_book.specs.declared.entry.Entry.{Entry}
 use Rattle.batch_book.specs.declared.told_call.ToldCall.{ToldCall}
 use Rattle.batch_book.specs.declared.told_call.ToldCall.TheVariants as told_call
@@ -55,14 +54,6 @@ entry_text e =
     number e.session space
     ++ (call_text (told e.call) ++ reply_text (id_of (told e.call)) e.reply)
 
--- `record N`
-abbrev pub record_head : ℕ → List ℕ
-record_head n = codes "record " ++ number n line_feed
-
--- and N entries
-abbrev pub record_text : List Entry → List ℕ
-record_text es = record_head (length es) ++ flat_map entry_text es
-
 -- what the writer wants of a reply: one to a call of a legal history has it
 abbrev pub CanBePut : Reply → Type 0
 CanBePut (Fetched batch) = Unit {0}
@@ -91,8 +82,7 @@ pub record CanTell (e : Entry) : Type 0 where
   pub call : CanSay (told e.call)
   pub reply : CanBeReplied e.reply
 
--- the text is a record of these entries
+-- the text is that of these entries, each of which a record can tell
 pub record IsRecordOf (es : List Entry) (text : List ℕ) : Type 0 where
-  pub spelled : text ≡ record_text es
-  pub few : length es ≤ MAX_ENTRIES
+  pub spelled : text ≡ flat_map entry_text es
   pub each : All CanTell es

@@ -4,10 +4,10 @@ ghost use Rattle.std.specs.Prelude.{◌≡◌, ◌≢◌, ℕ, ◌+◌, ◌≤�
 ghost use Rattle.batch.specs.Batches.{IsBatch};
 ghost use Rattle.batch.specs.Text.{IsNumber, number, batch_text, space, line_feed};
 ghost use Rattle.line_words.specs.HexWords.{IsWord, hex8, BeginsWithNoHex8};
-ghost use Rattle.book_record.specs.Reading.{behind_lines, BeginsWithNoneNamed, BeginsWithNoPeek, BeginsWithNoPoke, BeginsWithNoLine, BeginsWithNoBatch, BeginsWithNoCall, BeginsWithNoEntry};
-ghost use Rattle.book_record.specs.RecordText.{CanSay, call_text, record_head};
+ghost use Rattle.book_record.specs.Reading.{BeginsCall, behind_lines, BeginsWithNoneNamed, BeginsWithNoPeek, BeginsWithNoPoke, BeginsWithNoLine, BeginsWithNoBatch, BeginsWithNoCall, BeginsWithNoEntry, HasOneLine};
+ghost use Rattle.book_record.specs.RecordText.{CanSay, call_text};
 
-use batch::{Batch, BatchFault, Shape, number_before, position_of};
+use batch::{Batch, BatchFault, MAX_TRANSFERS, Shape, number_before, position_of};
 use batch_book::ToldCall;
 use line_words::{HEX_DIGITS, behind, hex8_and_rest, number_and_rest, word_from_hex8};
 use std::alloc::{AllocError, Global};
@@ -22,17 +22,8 @@ fn named<'a>(text: &'a [u8], word: &[u8]) -> Option<(usize, &'a [u8])>
     number_before(rest, b'\n')
 }
 
-/// How many entries a record has, and the rest.
-pub fn read_head(text: &[u8]) -> Option<(usize, &[u8])>
-    ensures some { IfSome result (λ x. IsNumber x.0 × (text.now ≡ record_head x.0 ++ x.1.now)) }
-    ensures none { IfNone result ((n : ℕ) (rest : List ℕ) → IsNumber n
-        → text.now ≢ record_head n ++ rest) }
-{
-    named(text, b"record ")
-}
-
 /// A word in eight hexadecimal digits with a line feed behind it, and the rest.
-pub fn hex8_and_line(text: &[u8]) -> Option<(u32, &[u8])>
+fn hex8_and_line(text: &[u8]) -> Option<(u32, &[u8])>
     ensures some { IfSome result (λ x. IsWord x.0 × (text.now ≡ hex8 x.0 ++ line_feed ∷ x.1.now)) }
     ensures none { IfNone result (BeginsWithNoHex8 text.now line_feed) }
 {
@@ -75,6 +66,7 @@ fn poke(text: &[u8]) -> Option<(usize, u32, u32, &[u8])>
 /// A call of one line that the text begins with, and the rest.
 fn short_call(text: &[u8]) -> Option<(ToldCall<Batch>, &[u8])>
     ensures some { IfSome result (λ x. CanSay x.0 × (text.now ≡ call_text x.0 ++ x.1.now)) }
+    ensures line { IfSome result (λ x. HasOneLine x.0) }
     ensures none { IfNone result (BeginsWithNoLine text.now) }
 {
     if let Some((id, rest)) = named(text, b"fetch ") {
@@ -97,6 +89,23 @@ fn short_call(text: &[u8]) -> Option<(ToldCall<Batch>, &[u8])>
     }
     let (module, address, word, rest) = poke(text)?;
     Some((ToldCall::Poke(module, address, word), rest))
+}
+
+/// How many lines more belong to the call whose first line the text begins with, and what stands
+/// behind that line: of a batch the lines of its transfers, of any other call none.
+pub fn first_line_of_call(text: &[u8]) -> Option<(usize, &[u8])>
+    ensures some { IfSome result (λ x. BeginsCall text.now x.0 x.1.now) }
+    ensures none { IfNone result
+        ((n : ℕ) (rest : List ℕ) → BeginsCall text.now n rest → ⊥) }
+{
+    if let Some((count, rest)) = named(text, b"batch ") {
+        if count > MAX_TRANSFERS {
+            return None;
+        }
+        return Some((count, rest));
+    }
+    let (_, rest) = short_call(text)?;
+    Some((0, rest))
 }
 
 /// Where so many lines of the text end.

@@ -1,18 +1,19 @@
 //! The writer of a record.
 
-ghost use Rattle.std.specs.Prelude.{◌≡◌, ◌++◌, ◌≤◌, ◌+◌, length, All, OnOk, IfOk};
+ghost use Rattle.std.specs.Prelude.{◌≡◌, ◌++◌, ◌≤◌, ◌+◌, length, All, OnOk};
 ghost use Rattle.std.specs.Fmt.{decimal};
+ghost use Rattle.std.specs.List.{flat_map};
 ghost use Rattle.batch.specs.Text.{number, space};
 ghost use Rattle.line_words.specs.declared.limits.TheConstants.{NUMBER_ROOM};
 ghost use Rattle.batch_book.specs.Told.{told};
 ghost use Rattle.client_session.specs.Replies.{with_feed};
-ghost use Rattle.book_record.specs.RecordText.{CanBePut, id_of, call_text, reply_text, entry_text, record_text};
+ghost use Rattle.book_record.specs.RecordText.{CanBePut, id_of, call_text, reply_text, entry_text};
 
 use batch_book::{Book, Call, Entry, LoggedReply, Reply, SharedBatch, ToldCall};
 use client_session::SessionCommand;
 use client_session::reply_line::ReplyLine;
 use line_words::Line;
-use std::alloc::{AllocError, Global};
+use std::alloc::AllocError;
 
 /// A word and the number behind it.
 fn named(word: &[u8], n: usize) -> Line
@@ -130,25 +131,24 @@ fn push_entry(text: &mut Vec<u8>, entry: &Entry) -> Result<(), AllocError>
     push_logged(text, id_of(call), &entry.reply)
 }
 
-/// The text of these entries.
-fn write_entries(alloc: Global, history: &[Entry]) -> Result<Vec<u8>, AllocError>
+/// Puts the lines of these entries.
+fn push_all(text: &mut Vec<u8>, history: &[Entry]) -> Result<(), AllocError>
     requires { All (λ e. CanBePut e.reply) history.now }
-    ensures { IfOk result (λ text. text.items ≡ record_text history.now) }
+    ensures { OnOk result (text.new.items ≡ text.old.items ++ flat_map entry_text history.now) }
 {
-    let count = history.len();
-    let mut text = format!(in alloc; "record {count}\n")?.into_bytes();
     for entry in history {
-        push_entry(&mut text, entry)?;
+        push_entry(text, entry)?;
     }
-    Ok(text)
+    Ok(())
 }
 
-/// The record of a book: the line `record N`, and then the lines of the N entries of its history.
-/// It takes memory, and time, by the history and the batches in it.
-pub fn write_record(alloc: Global, book: &Book) -> Result<Vec<u8>, AllocError>
-    ensures { IfOk result (λ text. text.items ≡ record_text book.now.history) }
+/// Puts the lines of a book's history. It takes memory, and time, by the history and the batches in
+/// it.
+pub fn push_history(text: &mut Vec<u8>, book: &Book) -> Result<(), AllocError>
+    ensures { OnOk result
+        (text.new.items ≡ text.old.items ++ flat_map entry_text book.now.history) }
 {
     // The shape is asked for only for its contract, which has the bounds of the rack.
     let _shape = book.opening().shape();
-    write_entries(alloc, book.history())
+    push_all(text, book.history())
 }

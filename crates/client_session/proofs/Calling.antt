@@ -1,5 +1,5 @@
 -- A call of the seat, as its session sees it.
-use Rattle.std.proofs.Common.{Result, Ok, Err, append-nil, refl, ◌∙◌}
+use Rattle.std.proofs.Common.{Result, Ok, Err, is_err, append-nil, refl, ◌∙◌}
 use Rattle.batch.specs.Extent.{Extent}
 use Rattle.batch_book.specs.declared.call.Call.{Call}
 use Rattle.batch_book.specs.declared.reply.Reply.{Reply}
@@ -8,8 +8,8 @@ use Rattle.batch_book.specs.Answering.{IsReplyTo}
 use Rattle.batch_book.specs.Seats.{IsAsked, SeatState}
 use Rattle.client_session.specs.Seats.{GoesOnFrom, IsCalled, IsUncalled, seat_view}
 
-goes_on : (shape : Extent) (old new : SeatState) (c : Call) (r : Result Reply Unrecorded) → IsAsked old c r new → GoesOnFrom (seat_view shape old) (seat_view shape new)
-goes_on shape old new c r is = record { exchange = is.seat.exchange; shape = refl; session = is.seat.session; parts = is.seat.parts; seen = is.later }
+goes_on : (shape : Extent) (old new : SeatState) (c : Call) (r : Result Reply Unrecorded) → IsAsked old c r new → GoesOnFrom (is_err r) (seat_view shape old) (seat_view shape new)
+goes_on shape old new c r is = record { exchange = is.seat.exchange; shape = refl; session = is.seat.session; parts = is.seat.parts; seen = is.later; broken = is.broken }
 
 pub called : (shape : Extent) (old new : SeatState) (c : Call) (r : Reply) → IsAsked old c (Ok r) new → IsReplyTo c r → IsCalled (seat_view shape old) c r (seat_view shape new)
 called shape old new c r is answers = record { goes_on = goes_on shape old new c (Ok r) is; log = is.log; answers = answers; seen = is.seen }

@@ -1,5 +1,5 @@
 -- What calls of the seat and readings do.
-use Rattle.std.proofs.Common.{◌≡◌, ◌≢◌, ℕ, ◌≤◌, List, [], ◌∷◌, ◌++◌, map, Option, Some, Result, Ok, Err, Bool, true, false, sym, ap, ◌∙◌, append_assoc, append-nil, refl, subst, arith, inl, inr}
+use Rattle.std.proofs.Common.{◌≡◌, ◌≢◌, ℕ, ◌≤◌, List, [], ◌∷◌, ◌++◌, map, Option, Some, Result, Ok, Err, Bool, true, false, ◌||◌, sym, ap, ◌∙◌, append_assoc, append-nil, refl, subst, arith, inl, inr}
 use Rattle.std.specs.List.{AllByRecursion}
 use Rattle.std.proofs.lemmas.List.{map-append}
 use Rattle.batch.specs.declared.fault.BatchFault.{BatchFault}
@@ -30,11 +30,18 @@ use Rattle.client_session.specs.Turns.{Answer, plain_answer, tells, settles, Tel
 use Rattle.client_session.specs.Steps.{CanBeTold, IsNoFetch, Did, Acts, Breaks, Does}
 use Rattle.client_session.proofs.Lists.{every_weaker, every_append}
 
-pub stays : (p : SeatView) → GoesOnFrom p p
-stays p = record { exchange = refl; shape = refl; session = refl; parts = refl; seen = omega arith }
+pub stays : (p : SeatView) → GoesOnFrom false p p
+stays p = record { exchange = refl; shape = refl; session = refl; parts = refl; seen = omega arith; broken = refl }
 
-pub goes_on : (a b c : SeatView) → GoesOnFrom a b → GoesOnFrom b c → GoesOnFrom a c
-goes_on a b c p q = record { exchange = q.exchange ∙ p.exchange; shape = q.shape ∙ p.shape; session = q.session ∙ p.session; parts = q.parts ∙ p.parts; seen = omega (arith, p.seen, q.seen) }
+pub goes_on : (breaks : Bool) (a b c : SeatView) → GoesOnFrom false a b → GoesOnFrom breaks b c → GoesOnFrom breaks a c
+goes_on breaks a b c p q = record {
+  exchange = q.exchange ∙ p.exchange;
+  shape = q.shape ∙ p.shape;
+  session = q.session ∙ p.session;
+  parts = q.parts ∙ p.parts;
+  seen = omega (arith, p.seen, q.seen);
+  broken = q.broken ∙ ap (λ (b : Bool). breaks || b) p.broken;
+}
 
 -- the reply to a call that is none of `Fetch` can be told
 pub can_be_told : (c : Call) (r : Reply) → IsNoFetch c → IsReplyTo c r → CanBeTold r
@@ -91,7 +98,7 @@ breaks old new fault HasBegun is un begun = record { fault_is = is; goes_on = un
 -- what was done first, and then without a reading
 did_more : (old mid new : SeatView) (a b : List Entry) (x y line : List ℕ) → Did old mid (plain_answer a x) → Did mid new (plain_answer b y) → Did old new (plain_answer (a ++ b) line)
 did_more old mid new a b x y line p q = record {
-  goes_on = goes_on old mid new p.goes_on q.goes_on;
+  goes_on = goes_on false old mid new p.goes_on q.goes_on;
   log = q.log ∙ ap (λ l. l ++ b) p.log ∙ append_assoc old.log a b;
   low = tt;
   high = rw (map-append (λ (e : Entry). value_of e.reply) a b) (every_append (λ v. v ≤ new.seen) _ _ (every_weaker (λ v. v ≤ mid.seen) (λ v. v ≤ new.seen) _ (λ v le. omega (arith, le, q.goes_on.seen)) p.high) q.high);
@@ -119,7 +126,7 @@ pub settled_or : {T : Type 0} (old mid new : SeatView) (id : ℕ) (batch : List 
 settled_or old mid new id batch plan line (Ok x) h shortest of does = settled old mid new id batch plan line h shortest of does
 settled_or old mid new id batch plan line (Err e) h shortest of b = record {
   fault_is = b.fault_is;
-  goes_on = goes_on old mid new h.goes_on b.goes_on;
+  goes_on = goes_on true old mid new h.goes_on b.goes_on;
   entries = entry old.session (call.Fetch id) (Fetched batch) ∷ [];
   log = b.log ∙ (ap (λ es. mid.log ++ es) b.begun ∙ (append-nil mid.log ∙ h.log));
   begun = inr (batch, refl);

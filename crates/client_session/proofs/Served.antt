@@ -24,7 +24,7 @@ use Rattle.client_session.proofs.Readings.{HaveShown, readings_later, readings_n
 -- the commands so far, and what is pending behind them
 pub record Going (from to : SeatView) (h : PendingInput) (bytes : List ℕ) (entries : List Entry) (written : List ℕ) : Type 0 where
   pub turns : List Turn
-  pub session : IsSession from to turns bytes h.pending entries written
+  pub session : IsSession false from to turns bytes h.pending entries written
   pub go_on : GoOn turns
   pub have_shown : HaveShown to.seen turns
   pub reads : h.reads ≤ length bytes
@@ -53,7 +53,7 @@ Serving-none a w p h e zero = record {
   };
 }
 
-session_read : (from to : SeatView) (turns : List Turn) (bytes more pending grown : List ℕ) (entries : List Entry) (written : List ℕ) → IsSession from to turns bytes pending entries written → pending ++ more ≡ grown → IsSession from to turns (bytes ++ more) grown entries written
+session_read : (from to : SeatView) (turns : List Turn) (bytes more pending grown : List ℕ) (entries : List Entry) (written : List ℕ) → IsSession false from to turns bytes pending entries written → pending ++ more ≡ grown → IsSession false from to turns (bytes ++ more) grown entries written
 session_read from to turns bytes more pending grown entries written s e = record {
   each = s.each;
   bytes_are = ap (λ l. l ++ more) s.bytes_are ∙ append_assoc (flat_map turn_text turns) pending more ∙ ap (λ l. flat_map turn_text turns ++ l) e;
@@ -92,14 +92,14 @@ more_of : {X : Type 0} (f : Turn → List X) (turns : List Turn) (t : Turn) (xs 
 more_of f turns t xs ys e h = ap (λ l. l ++ ys) e ∙ ap (λ l. flat_map f turns ++ l) (h ∙ sym (append-nil (f t))) ∙ sym (flat_map-append f turns (t ∷ []))
 
 session_more : (b c : Option (List ℕ)) (from to next : SeatView) (old new : PendingInput) (line bytes : List ℕ) (entries : List Entry) (written : List ℕ) (ends : Bool) (s : Going from to old bytes entries written) (t : TurnTaken b c old new to next line ends)
-    → IsSession from next (s.turns ++ t.turn ∷ []) (bytes ++ t.bytes) new.pending (entries ++ t.turn.did.entries) (written ++ line)
+    → IsSession false from next (s.turns ++ t.turn ∷ []) (bytes ++ t.bytes) new.pending (entries ++ t.turn.did.entries) (written ++ line)
 session_more b c from to next old new line bytes entries written ends s t = record {
   each = every-push (IsTurn from.shape from.session) s.turns t.turn s.session.each (subst (λ by. IsTurn from.shape by t.turn) s.session.seat.session (subst (λ (shape : Extent). IsTurn shape to.session t.turn) s.session.seat.shape t.is));
   bytes_are = more_text s.turns t.turn bytes old.pending t.bytes new.pending s.session.bytes_are t.kept;
   entries_are = more_of (λ (x : Turn). x.did.entries) s.turns t.turn entries t.turn.did.entries s.session.entries_are refl;
   text_is = more_of (λ (x : Turn). x.did.line) s.turns t.turn written line s.session.text_is t.line_is;
   readings = readings_push from to next s.turns t.turn s.session.seat.seen s.session.readings s.have_shown t.did;
-  seat = goes_on from to next s.session.seat t.did.goes_on;
+  seat = goes_on false from to next s.session.seat t.did.goes_on;
 }
 
 -- what has passed then, where so much of the line was written
@@ -146,7 +146,7 @@ ended_by_bye a b c w v u from to next old new line p t sent =
     (s.turns ++ t.turn ∷ [], new.pending, session_more b c from to next old new line p.bytes p.entries p.written true s t, inr (s.turns, t.turn, refl, s.go_on, t.last))
 
 -- what a fault says, where it isn't one of writing
-stopped_as : (e : ServeFault) (known : Option (List ℕ)) (from to : SeatView) (turns : List Turn) (bytes rest : List ℕ) (entries : List Entry) (written : List ℕ) → IsSession from to turns bytes rest entries written → GoOn turns → RestAt e known (length bytes) rest → HasEnded (Some e) known from to bytes entries written
+stopped_as : (e : ServeFault) (known : Option (List ℕ)) (from to : SeatView) (turns : List Turn) (bytes rest : List ℕ) (entries : List Entry) (written : List ℕ) → IsSession false from to turns bytes rest entries written → GoOn turns → RestAt e known (length bytes) rest → HasEnded (Some e) known from to bytes entries written
 stopped_as Read known from to turns bytes rest entries written s go at = (turns, rest, s, go, at)
 stopped_as LineTooLong known from to turns bytes rest entries written s go at = (turns, rest, s, go, at)
 stopped_as Cut known from to turns bytes rest entries written s go at = (turns, rest, s, go, at)
@@ -222,7 +222,7 @@ lost_turn a b c w v from to next h p t =
           entries_are = read.entries_are;
           text_is = read.text_is;
           readings = readings_later from to next p.is_so.turns t.goes_on.seen read.readings;
-          seat = goes_on from to next read.seat t.goes_on;
+          seat = goes_on true from to next read.seat t.goes_on;
         };
         go_on = p.is_so.go_on;
         lost = subst (λ by. IsLostTurn by t.turn) s.seat.session t.is;
@@ -257,7 +257,7 @@ stopped_writing e a b c w v u from to next old new line ends p t cut = subst (λ
       rest = new.pending;
       front = cut.front;
       missing = cut.missing;
-      session = subst (IsSession from next (p.is_so.turns ++ t.turn ∷ []) (p.bytes ++ t.bytes) new.pending (p.entries ++ t.turn.did.entries))
+      session = subst (IsSession false from next (p.is_so.turns ++ t.turn ∷ []) (p.bytes ++ t.bytes) new.pending (p.entries ++ t.turn.did.entries))
           (ap (λ l. p.written ++ l) cut.line_is ∙ sym (append_assoc p.written cut.front cut.missing)) (session_more b c from to next old new line p.bytes p.entries p.written ends p.is_so t);
       go_on = p.is_so.go_on;
       line = sym t.line_is ∙ cut.line_is;
@@ -269,7 +269,12 @@ none_of (Some x) h = absurd (h x refl)
 
 -- ---- the seat that comes back
 
-same_seat : (fault : Option ServeFault) (known : Option (List ℕ)) (from to : SeatView) (bytes : List ℕ) (entries : List Entry) (written : List ℕ) → HasEnded fault known from to bytes entries written → GoesOnFrom from to
+-- whether a session that ended so broke its record
+abbrev breaks_by : Option ServeFault → Bool
+breaks_by (Some Record) = true
+breaks_by fault = false
+
+same_seat : (fault : Option ServeFault) (known : Option (List ℕ)) (from to : SeatView) (bytes : List ℕ) (entries : List Entry) (written : List ℕ) → HasEnded fault known from to bytes entries written → GoesOnFrom (breaks_by fault) from to
 same_seat None known from to bytes entries written h = h.2.seat
 same_seat (Some Write) known from to bytes entries written h = h.session.seat
 same_seat (Some Record) known from to bytes entries written h = h.session.seat

@@ -1,5 +1,5 @@
 -- A seat of the exchange as its session sees it, and what it is answered.
-use Rattle.std.specs.Prelude.{◌≡◌, ℕ, ◌<◌, ◌≤◌, List, [], ◌∷◌, ◌++◌, Option, if◌then◌else◌}
+use Rattle.std.specs.Prelude.{◌≡◌, ℕ, ◌<◌, ◌≤◌, ◌||◌, Bool, true, false, List, [], ◌∷◌, ◌++◌, Option, if◌then◌else◌}
 use Rattle.atomic_table.specs.Seated.{TableId}
 use Rattle.batch.specs.Extent.{Extent}
 use Rattle.batch_book.specs.declared.entry.Entry.{Entry}
@@ -14,7 +14,7 @@ use Rattle.batch_book.specs.Seats.{SeatState}
 use Rattle.batch_book.specs.Values.{value_at, value_of}
 
 -- the word of the seat's exchange, the shape of its rack, the session's number, the seat's parts,
--- its list, and the greatest progress that it has seen
+-- its list, the greatest progress that it has seen, and whether the record of a call of it is broken
 pub record SeatView : Type 0 where
   pub exchange : Option TableId
   pub shape : Extent
@@ -22,6 +22,7 @@ pub record SeatView : Type 0 where
   pub parts : ℕ
   pub log : List Entry
   pub seen : ℕ
+  pub broken : Bool
 
 -- the seat, where the rack has this shape
 abbrev pub seat_view : Extent → SeatState → SeatView
@@ -33,6 +34,7 @@ seat_view shape seat =
       parts = seat.parts;
       log = seat.log;
       seen = seat.seen;
+      broken = seat.broken;
     }
 
 -- a reading as the progress word has it
@@ -43,29 +45,30 @@ reading_value r = value_at r.run r.done
 abbrev pub logged : ℕ → Call → Reply → List Entry
 logged session call reply = if is_logged reply then entry session call reply ∷ [] else []
 
--- the same seat, which has seen no less
-pub record GoesOnFrom (old new : SeatView) : Type 0 where
+-- the same seat, which has seen no less; its record was broken before, or this has broken it
+pub record GoesOnFrom (breaks : Bool) (old new : SeatView) : Type 0 where
   pub exchange : new.exchange ≡ old.exchange
   pub shape : new.shape ≡ old.shape
   pub session : new.session ≡ old.session
   pub parts : new.parts ≡ old.parts
   pub seen : old.seen ≤ new.seen
+  pub broken : new.broken ≡ breaks || old.broken
 
 -- a call was made
 pub record IsCalled (old : SeatView) (call : Call) (reply : Reply) (new : SeatView) : Type 0 where
-  pub goes_on : GoesOnFrom old new
+  pub goes_on : GoesOnFrom false old new
   pub log : new.log ≡ old.log ++ logged old.session call reply
   pub answers : IsReplyTo call reply
   pub seen : value_of reply ≤ new.seen
 
 -- a call wasn't made, or its reply is lost
 pub record IsUncalled (old new : SeatView) : Type 0 where
-  pub goes_on : GoesOnFrom old new
+  pub goes_on : GoesOnFrom true old new
   pub log : new.log ≡ old.log
 
 -- the progress word was read
 pub record IsProgressRead (old : SeatView) (r : Reading) (new : SeatView) : Type 0 where
-  pub goes_on : GoesOnFrom old new
+  pub goes_on : GoesOnFrom false old new
   pub log : new.log ≡ old.log
   pub seen : new.seen ≡ reading_value r
   pub done : r.done < RUN_STEP

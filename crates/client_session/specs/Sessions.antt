@@ -1,5 +1,5 @@
 -- A session: the bytes read, the entries added, the progress seen, and the bytes written.
-use Rattle.std.specs.Prelude.{◌≡◌, ℕ, ◌+◌, ◌<◌, ◌≤◌, ◌⊎◌, List, [], ◌∷◌, ◌++◌, length, flat_map, Option, Some, None, Result, Ok, Err}
+use Rattle.std.specs.Prelude.{◌≡◌, ℕ, ◌+◌, ◌<◌, ◌≤◌, ◌⊎◌, Bool, true, false, List, [], ◌∷◌, ◌++◌, length, flat_map, Option, Some, None, Result, Ok, Err}
 use Rattle.std.specs.List.{AllByRecursion}
 use Rattle.std.specs.Io.KnownBytes.{Consumes, Appends, IsAtEnd}
 use Rattle.batch.specs.Extent.{Extent}
@@ -25,15 +25,15 @@ added_entries turns = flat_map (λ (t : Turn). t.did.entries) turns
 
 -- These commands stand in the bytes, one after another, and the rest behind them. Just the entries
 -- of what they did are new in the list of the seat, which is the same one, and the text is their
--- reply lines.
-pub record IsSession (old new : SeatView) (turns : List Turn) (bytes rest : List ℕ)
-    (entries : List Entry) (text : List ℕ) : Type 0 where
+-- reply lines. The record of the seat's calls broke behind them, or it didn't.
+pub record IsSession (breaks : Bool) (old new : SeatView) (turns : List Turn)
+    (bytes rest : List ℕ) (entries : List Entry) (text : List ℕ) : Type 0 where
   pub each : AllByRecursion (IsTurn old.shape old.session) turns
   pub bytes_are : bytes ≡ flat_map turn_text turns ++ rest
   pub entries_are : entries ≡ added_entries turns
   pub text_is : text ≡ lines_of turns
   pub readings : AreReadings old.seen new.seen turns
-  pub seat : GoesOnFrom old new
+  pub seat : GoesOnFrom breaks old new
 
 -- none of them is `bye`
 abbrev pub GoOn : List Turn → Type 0
@@ -104,7 +104,8 @@ pub record IsCutOff (old new : SeatView) (bytes : List ℕ) (entries : List Entr
   pub rest : List ℕ
   pub front : List ℕ
   pub missing : List ℕ
-  pub session : IsSession old new (before ++ last ∷ []) bytes rest entries (written ++ missing)
+  pub session :
+      IsSession false old new (before ++ last ∷ []) bytes rest entries (written ++ missing)
   pub go_on : GoOn before
   pub line : last.did.line ≡ front ++ missing
 
@@ -116,7 +117,7 @@ pub record IsBroken (old new : SeatView) (bytes : List ℕ) (entries : List Entr
   pub last : LostTurn
   pub rest : List ℕ
   pub told : List Entry
-  pub session : IsSession old new turns bytes (lost_text last ++ rest) told written
+  pub session : IsSession true old new turns bytes (lost_text last ++ rest) told written
   pub go_on : GoOn turns
   pub lost : IsLostTurn old.session last
   pub entries_are : entries ≡ told ++ last.entries
@@ -125,12 +126,14 @@ pub record IsBroken (old new : SeatView) (bytes : List ℕ) (entries : List Entr
 abbrev pub HasEnded : Option ServeFault → Option (List ℕ) → SeatView → SeatView → List ℕ
     → List Entry → List ℕ → Type 0
 HasEnded None known old new bytes entries written =
-    (turns : List Turn) × (rest : List ℕ) × IsSession old new turns bytes rest entries written
+    (turns : List Turn) × (rest : List ℕ)
+    × IsSession false old new turns bytes rest entries written
     × IsWholeSession turns known rest
 HasEnded (Some Write) known old new bytes entries written = IsCutOff old new bytes entries written
 HasEnded (Some Record) known old new bytes entries written = IsBroken old new bytes entries written
 HasEnded (Some fault) known old new bytes entries written =
-    (turns : List Turn) × (rest : List ℕ) × IsSession old new turns bytes rest entries written
+    (turns : List Turn) × (rest : List ℕ)
+    × IsSession false old new turns bytes rest entries written
     × GoOn turns × RestAt fault known (length bytes) rest
 
 -- the fault of a result

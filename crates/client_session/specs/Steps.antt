@@ -1,5 +1,5 @@
 -- What the parts of a session do.
-use Rattle.std.specs.Prelude.{◌≡◌, ℕ, ◌+◌, ◌*◌, ◌<◌, ◌≤◌, Bool, List, ◌++◌, length, Option, Some, Result, Ok, Err, MatchBool}
+use Rattle.std.specs.Prelude.{◌≡◌, ℕ, ◌+◌, ◌*◌, ◌<◌, ◌≤◌, Bool, true, false, List, ◌++◌, length, Option, Some, Result, Ok, Err, MatchBool}
 use Rattle.std.specs.List.{AllByRecursion}
 use Rattle.std.specs.Io.KnownBytes.{Consumes, Appends, IsAtEnd}
 use Rattle.batch.specs.declared.limits.TheConstants.{MAX_TRANSFERS, MAX_WORDS}
@@ -44,7 +44,7 @@ StandsAlone command = Unit {0}
 
 -- the seat did this
 pub record Did (old new : SeatView) (a : Answer) : Type 0 where
-  pub goes_on : GoesOnFrom old new
+  pub goes_on : GoesOnFrom false old new
   pub log : new.log ≡ old.log ++ a.entries
   pub low : AllByRecursion (λ r. old.seen ≤ r) (readings_of a.reading)
   pub high : AllByRecursion (λ v. v ≤ new.seen) (shown a)
@@ -60,7 +60,7 @@ pub record Acts (old new : SeatView) (IsSo : Answer → Type 0) (line : List ℕ
 pub record Breaks (fault : ServeFault) (old new : SeatView)
     (HasBegun : List Entry → Type 0) : Type 0 where
   pub fault_is : fault ≡ Record
-  pub goes_on : GoesOnFrom old new
+  pub goes_on : GoesOnFrom true old new
   pub entries : List Entry
   pub log : new.log ≡ old.log ++ entries
   pub begun : HasBegun entries
@@ -132,7 +132,7 @@ pub record TurnLost (before after : Option (List ℕ)) (old : PendingInput)
   pub consumed : Consumes before after bytes
   pub rest : List ℕ
   pub kept : old.pending ++ bytes ≡ lost_text turn ++ rest
-  pub goes_on : GoesOnFrom from to
+  pub goes_on : GoesOnFrom true from to
   pub log : to.log ≡ from.log ++ turn.entries
 
 -- either, by the fault

@@ -1,6 +1,6 @@
 -- What the rows have of a job that arguments hold.
 use Rattle.std.proofs.Common.{◌≡◌, ◌∙◌, ◌↔◌, ap, sym, subst, not, List, [], ◌∷◌, Option, Some, None, Bool, true, false, IsTrue, codes, refl, Result, Ok, Err, IsErrAnd}
-use Rattle.std.specs.Prelude.{All, MatchOption, ◌++◌, find, flat_map, map, option_and_then, option_to_list, unwrap_or}
+use Rattle.std.specs.Prelude.{All, MatchOption, ◌++◌, find, flat_map, map, option_and_then, option_map, option_to_list, unwrap_or}
 use Rattle.std.specs.Str.{bytes_eq}
 use Rattle.clap.specs.Words.{Row, Text, all_of, first_of}
 use Rattle.clap.specs.declared.parser.matches.ValueSource.{ValueSource}
@@ -11,11 +11,12 @@ use Rattle.command_words.specs.declared.uses.Access.TheVariants.{Write}
 use Rattle.command_words.specs.declared.uses.FileUse.{FileUse}
 use Rattle.command_words.specs.declared.jobs.Job.{Job}
 use Rattle.command_words.specs.declared.jobs.Job.TheVariants.{Plan, Check, Draw, Switch, Orders, Drive, C004, Direct, Apply, Run, Serve, Host, Talk, Replay}
+use Rattle.command_words.specs.declared.jobs.RecordFile.{RecordFile}
 use Rattle.command_words.specs.declared.jobs.Request.{Request}
 use Rattle.plan_answers.specs.declared.source.Source.{Source}
 use Rattle.plan_answers.specs.declared.source.Source.TheVariants as source
 use Rattle.command_words.specs.Program.{command_word}
-use Rattle.command_words.specs.Jobs.{Files, HasJob, HasSome, HasSource, HaveNames, IsJob, IsReading, IsRequest, IsWithinLimits, HasWanted, IsClientName, MayBeDone, client_files, clients_of, file, file_uses, files_beside, files_of, hears_input, of_list, name_of, on_image, port_files, schedule_in, scripts_on}
+use Rattle.command_words.specs.Jobs.{Files, HasJob, HasRecord, HasSome, HasSource, HaveNames, IsJob, IsReading, IsRequest, IsWithinLimits, HasWanted, IsClientName, MayBeDone, client_files, clients_of, file, file_uses, files_beside, files_of, hears_input, of_list, name_of, on_image, port_files, schedule_in, scripts_on}
 use Rattle.command_words.specs.declared.faults.Lack.{Lack}
 use Rattle.command_words.specs.declared.faults.Lack.TheVariants.{Memory}
 use Rattle.command_words.proofs.CommandNames.{same_word}
@@ -41,7 +42,7 @@ wanted rows (Run shape batch source image workers) has = ((shape, has.0), (batch
 wanted rows (Serve rack scripts workers) has = ((rack, has.0), (scripts, has.1), (workers, has.2))
 wanted rows (Host rack clients workers) has = ((rack, has.0), (clients, has.1), (workers, has.2))
 wanted rows (Talk rack) has = (rack, has)
-wanted rows (Replay shape recorded image) has = ((shape, has.0), (recorded, has.1))
+wanted rows (Replay shape recorded image first) has = ((recorded, has.1), (first, has.3))
 
 -- and so of the command that the word calls
 pub wanted_by : (by : CommandName) (word : Text) (rows : List Row) (job : Job) → command_word by ≡ word → IsJob word rows job → HasWanted by rows
@@ -118,7 +119,7 @@ files_are rows (Run shape batch source image workers) has = rw (has.1, scheduled
 files_are rows (Serve rack scripts workers) has = rw (has.0.image, has.1.0) refl
 files_are rows (Host rack clients workers) has = rw has.0.image refl
 files_are rows (Talk rack) has = rw has.image refl
-files_are rows (Replay shape recorded image) has = rw (has.1, has.2) refl
+files_are rows (Replay shape recorded image first) has = rw (has.1, has.2) refl
 
 -- whether a command hears standard input itself
 abbrev hears_in : CommandName → List Row → Bool
@@ -152,11 +153,15 @@ beside_in name.Host rows = kept_in rows ++ flat_map client_files (clients_in nam
 beside_in name.Talk rows = kept_in rows
 beside_in other rows = []
 
+recorded : (rows : List Row) (out : Option RecordFile) → HasRecord rows out → option_map (λ r. r.name) out ≡ first_of (codes "record") rows
+recorded rows None has = sym has.0
+recorded rows (Some out) has = sym has.0
+
 beside_are : (rows : List Row) (job : Job) → HasJob rows job → files_beside job ≡ beside_in (name_of job) rows
 beside_are rows (Drive batch port port_b source wiring first goes_on workers) has = rw (has.1, has.2) refl
-beside_are rows (Serve rack scripts workers) has = rw (has.0.recorded, has.0.out) refl
-beside_are rows (Host rack clients workers) has = rw (has.0.recorded, has.0.out, has.1.0) refl
-beside_are rows (Talk rack) has = rw (has.recorded, has.out) refl
+beside_are rows (Serve rack scripts workers) has = rw (recorded rows rack.record_out has.0.recorded, has.0.out) refl
+beside_are rows (Host rack clients workers) has = rw (recorded rows rack.record_out has.0.recorded, has.0.out, has.1.0) refl
+beside_are rows (Talk rack) has = rw (recorded rows rack.record_out has.recorded, has.out) refl
 beside_are rows job has = refl
 
 -- two jobs that the same arguments hold have one command, so the same files and clients: both may

@@ -1,5 +1,5 @@
 -- The job that the arguments of the command line name.
-use Rattle.std.specs.Prelude.{◌≡◌, ◌≢◌, ◌⊎◌, ◌↔◌, ℕ, ◌≤◌, List, [], ◌∷◌, ◌++◌, Some, None, String, codes, length, map, find, flat_map, string_bytes, Option, All, AllPairs, IsTrue, Bool, true, false, not, if◌then◌else◌, option_and_then, option_to_list, MatchOption, Result, Ok, Err, ⊤}
+use Rattle.std.specs.Prelude.{◌≡◌, ◌≢◌, ◌⊎◌, ◌↔◌, ℕ, ◌≤◌, List, [], ◌∷◌, ◌++◌, Some, None, String, codes, length, map, find, flat_map, string_bytes, Option, All, AllPairs, IsTrue, Bool, true, false, not, if◌then◌else◌, option_and_then, option_map, option_to_list, MatchOption, Result, Ok, Err, ⊤}
 use Rattle.std.specs.Str.{bytes_eq}
 use Rattle.std.specs.Str.Parse.{IsNumeral, digits_value, without_leading_plus}
 use Rattle.clap.specs.Words.{Row, Text, Kinds, IsAmong, all_of, fault_of, first_of, found_of, one_of, rows_of, subcommand_of, subcommand_rows_of}
@@ -20,6 +20,7 @@ use Rattle.command_words.specs.declared.uses.FileUse.{FileUse}
 use Rattle.command_words.specs.declared.jobs.Job.{Job}
 use Rattle.command_words.specs.declared.jobs.Job.TheVariants.{Plan, Check, Draw, Switch, Orders, Drive, C004, Direct, Apply, Run, Serve, Host, Talk, Replay}
 use Rattle.command_words.specs.declared.jobs.Request.{Request}
+use Rattle.command_words.specs.declared.jobs.RecordFile.{RecordFile}
 use Rattle.command_words.specs.declared.jobs.SharedRack.{SharedRack}
 use Rattle.command_words.specs.declared.jobs.ArgumentsFault.{ArgumentsFault}
 use Rattle.command_words.specs.declared.jobs.ArgumentsFault.TheVariants.{Clap, NoMemory}
@@ -83,12 +84,22 @@ HasSource rows (source.Text file) =
     HasOption (codes "schedule") rows (Some file) × (IsGiven (codes "steady") rows → ⊥)
     × (IsGiven (codes "workers") rows → ⊥)
 
+-- the file for the record of sessions: `--resume` and `--sync` are for such a file
+abbrev pub HasRecord : List Row → Option RecordFile → Type 0
+HasRecord rows None =
+    HasOption (codes "record") rows None × (IsGiven (codes "resume") rows → ⊥)
+    × (IsGiven (codes "sync") rows → ⊥)
+HasRecord rows (Some out) =
+    HasOption (codes "record") rows (Some out.name)
+    × (IsTrue out.resumes ↔ IsGiven (codes "resume") rows)
+    × (IsTrue out.syncs ↔ IsGiven (codes "sync") rows)
+
 -- the rack of an exchange: its shape, the image with which it begins, and where the record of its
 -- sessions and its image go
 pub record HasRack (rows : List Row) (rack : SharedRack) : Type 0 where
   pub shape : HasText (codes "SHAPE") rows rack.shape
   pub image : HasOption (codes "image") rows rack.image
-  pub recorded : HasOption (codes "record") rows rack.record_out
+  pub recorded : HasRecord rows rack.record_out
   pub out : HasOption (codes "image-out") rows rack.image_out
 
 -- the command of a job
@@ -106,7 +117,7 @@ name_of (Run shape batch source image workers) = name.Run
 name_of (Serve rack scripts workers) = name.Serve
 name_of (Host rack clients workers) = name.Host
 name_of (Talk rack) = name.Talk
-name_of (Replay shape recorded image) = name.Replay
+name_of (Replay shape recorded image first) = name.Replay
 
 -- what the arguments and options of its command say of a job
 abbrev pub HasJob : List Row → Job → Type 0
@@ -141,9 +152,9 @@ HasJob rows (Serve rack scripts workers) =
 HasJob rows (Host rack clients workers) =
     HasRack rows rack × HasServed (codes "CLIENT") rows clients × HasWorkers rows workers
 HasJob rows (Talk rack) = HasRack rows rack
-HasJob rows (Replay shape recorded image) =
-    HasText (codes "SHAPE") rows shape × HasText (codes "RECORD") rows recorded
-    × HasOption (codes "image") rows image
+HasJob rows (Replay shape recorded image first) =
+    HasOption (codes "shape") rows shape × HasText (codes "RECORD") rows recorded
+    × HasOption (codes "image") rows image × HasNumeral (codes "first") MAX_NUMBER rows first
 
 -- the job of the command that this word calls
 abbrev pub IsJob : Text → List Row → Job → Type 0
@@ -239,7 +250,7 @@ files_of (Run shape batch source image workers) = on_image image batch (schedule
 files_of (Serve rack scripts workers) = scripts_on rack.image scripts
 files_of (Host rack clients workers) = scripts_on rack.image []
 files_of (Talk rack) = scripts_on rack.image []
-files_of (Replay shape recorded image) = on_image image recorded None
+files_of (Replay shape recorded image first) = on_image image recorded None
 
 -- a job hears standard input itself: `c004`, `talk`, and `drive` where it waits for lines
 abbrev pub hears_input : Job → Bool
@@ -252,10 +263,14 @@ hears_input job = false
 abbrev pub file : Access → Text → FileUse
 file access name = record { name = name; access = access }
 
+-- the name of the file for the record of the sessions on a rack
+abbrev pub recorded_in : SharedRack → Option Text
+recorded_in rack = option_map (λ out. out.name) rack.record_out
+
 -- the files to which go the record of the sessions on a rack, and the image that they leave
 abbrev pub kept_files : SharedRack → List FileUse
 kept_files rack =
-    map (file Write) (option_to_list rack.record_out ++ option_to_list rack.image_out)
+    map (file Write) (option_to_list (recorded_in rack) ++ option_to_list rack.image_out)
 
 -- a client's files: from the one it is heard, and by the other it is told
 abbrev pub client_files : Text → List FileUse
@@ -396,7 +411,7 @@ HasWanted name.Host rows =
     HasSome (HasRack rows) × HasSome (HasServed (codes "CLIENT") rows) × HasSome (HasWorkers rows)
 HasWanted name.Talk rows = HasSome (HasRack rows)
 HasWanted name.Replay rows =
-    HasSome (HasText (codes "SHAPE") rows) × HasSome (HasText (codes "RECORD") rows)
+    HasSome (HasText (codes "RECORD") rows) × HasSome (HasNumeral (codes "first") MAX_NUMBER rows)
 
 -- what is read of the rows: something of which this is so; or what is lacking, which is memory
 -- where there is something to read

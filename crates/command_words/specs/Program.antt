@@ -9,7 +9,7 @@ use Rattle.clap.specs.declared.builder.action.ArgAction.TheVariants.{SetTrue}
 use Rattle.clap.specs.declared.builder.value_parser.ValueParser.TheVariants as parser
 use Rattle.exchange_limits.specs.declared.limits.TheConstants.{MAX_WORKERS}
 use Rattle.command_words.specs.declared.commands.Argument.{Argument}
-use Rattle.command_words.specs.declared.commands.Argument.TheVariants.{Shape, File, Batch, Schedule, Port, PortB, Moves, Image, Record, Scripts, Clients, ImageIn, RecordOut, ImageOut, Settings, Scheduled, Wiring, First, Module, Steady, GoOn, Workers, Quiet}
+use Rattle.command_words.specs.declared.commands.Argument.TheVariants.{Shape, File, Batch, Schedule, Port, PortB, Moves, Image, Record, Scripts, Clients, Shaped, ImageIn, RecordOut, Resume, Sync, ImageOut, Settings, Scheduled, Wiring, First, Entries, Module, Steady, GoOn, Workers, Quiet}
 use Rattle.command_words.specs.declared.commands.CommandName.{CommandName}
 use Rattle.command_words.specs.declared.commands.CommandName.TheVariants.{Plan, Check, Draw, Switch, Orders, Drive, C004, Direct, Apply, Run, Serve, Host, Talk, Replay}
 use Rattle.command_words.specs.declared.limits.TheConstants.{LAST_MODULE, MAX_CLIENTS, MAX_NUMBER}
@@ -51,13 +51,17 @@ rule_for Image = one_argument (codes "IMAGE")
 rule_for Record = one_argument (codes "RECORD")
 rule_for Scripts = client_arguments (codes "SCRIPT")
 rule_for Clients = client_arguments (codes "CLIENT")
+rule_for Shaped = option (codes "shape")
 rule_for ImageIn = option (codes "image")
 rule_for RecordOut = option (codes "record")
+rule_for Resume = flag (codes "resume")
+rule_for Sync = flag (codes "sync")
 rule_for ImageOut = option (codes "image-out")
 rule_for Settings = option (codes "settings")
 rule_for Scheduled = option (codes "schedule")
 rule_for Wiring = option (codes "wiring")
 rule_for First = record (number_option (codes "from") 0 MAX_NUMBER) { defaults = codes "0" ∷ [] }
+rule_for Entries = number_option (codes "first") 0 MAX_NUMBER
 rule_for Module = number_option (codes "module") 0 LAST_MODULE
 rule_for Steady = flag (codes "steady")
 rule_for GoOn = flag (codes "go-on")
@@ -93,10 +97,13 @@ sheet_of Run =
     (codes "run", Shape ∷ Batch ∷ ImageIn ∷ Scheduled ∷ Steady ∷ Workers ∷ Quiet ∷ [])
 sheet_of Serve =
     (codes "serve", Shape ∷ Scripts ∷ ImageIn ∷ RecordOut ∷ ImageOut ∷ Workers ∷ Quiet ∷ [])
-sheet_of Host =
-    (codes "host", Shape ∷ Clients ∷ ImageIn ∷ RecordOut ∷ ImageOut ∷ Workers ∷ Quiet ∷ [])
-sheet_of Talk = (codes "talk", Shape ∷ ImageIn ∷ RecordOut ∷ ImageOut ∷ Quiet ∷ [])
-sheet_of Replay = (codes "replay", Shape ∷ Record ∷ ImageIn ∷ Quiet ∷ [])
+sheet_of Host = (
+  codes "host",
+  Shape ∷ Clients ∷ ImageIn ∷ RecordOut ∷ Resume ∷ Sync ∷ ImageOut ∷ Workers ∷ Quiet ∷ [],
+)
+sheet_of Talk =
+    (codes "talk", Shape ∷ ImageIn ∷ RecordOut ∷ Resume ∷ Sync ∷ ImageOut ∷ Quiet ∷ [])
+sheet_of Replay = (codes "replay", Record ∷ Shaped ∷ ImageIn ∷ Entries ∷ Quiet ∷ [])
 
 abbrev pub command_word : CommandName → List ℕ
 command_word name = (sheet_of name).0

@@ -54,10 +54,16 @@ pub(crate) enum Argument {
     Scripts,
     /// `CLIENT..`, as many.
     Clients,
+    /// `--shape SHAPE`.
+    Shaped,
     /// `--image FILE`.
     ImageIn,
     /// `--record FILE`.
     RecordOut,
+    /// `--resume`.
+    Resume,
+    /// `--sync`.
+    Sync,
     /// `--image-out FILE`.
     ImageOut,
     /// `--settings A..B`.
@@ -68,6 +74,8 @@ pub(crate) enum Argument {
     Wiring,
     /// `--from K`.
     First,
+    /// `--first E`.
+    Entries,
     /// `--module M`.
     Module,
     /// `--steady`.
@@ -118,9 +126,9 @@ impl CommandName {
         ensures arguments { result.1.now ≡ arguments_of self }
     {
         use Argument::{
-            Batch, Clients, File, First, GoOn, Image, ImageIn, ImageOut, Module, Moves, Port,
-            PortB, Quiet, Record, RecordOut, Schedule, Scheduled, Scripts, Settings, Shape, Steady,
-            Wiring, Workers,
+            Batch, Clients, Entries, File, First, GoOn, Image, ImageIn, ImageOut, Module, Moves,
+            Port, PortB, Quiet, Record, RecordOut, Resume, Schedule, Scheduled, Scripts, Settings,
+            Shape, Shaped, Steady, Sync, Wiring, Workers,
         };
         match self {
             Self::Plan => ("plan", &[File, Steady, Workers, Quiet], &PLAN),
@@ -158,11 +166,21 @@ impl CommandName {
             ),
             Self::Host => (
                 "host",
-                &[Shape, Clients, ImageIn, RecordOut, ImageOut, Workers, Quiet],
+                &[
+                    Shape, Clients, ImageIn, RecordOut, Resume, Sync, ImageOut, Workers, Quiet,
+                ],
                 &HOST,
             ),
-            Self::Talk => ("talk", &[Shape, ImageIn, RecordOut, ImageOut, Quiet], &TALK),
-            Self::Replay => ("replay", &[Shape, Record, ImageIn, Quiet], &REPLAY),
+            Self::Talk => (
+                "talk",
+                &[Shape, ImageIn, RecordOut, Resume, Sync, ImageOut, Quiet],
+                &TALK,
+            ),
+            Self::Replay => (
+                "replay",
+                &[Record, Shaped, ImageIn, Entries, Quiet],
+                &REPLAY,
+            ),
         }
     }
 }

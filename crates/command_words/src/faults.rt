@@ -21,6 +21,8 @@ pub(crate) enum Lack {
     Planning,
     /// A choice between a schedule's file and these.
     Source,
+    /// A record that `--resume` or `--sync` is for.
+    Record,
     /// A name for each client that is one.
     Clients,
     /// A file of its own for each use of standard input.
@@ -46,6 +48,7 @@ impl Lack {
             Lack::Word => "a word is missing",
             Lack::Planning => "`--steady` and `--workers` exclude each other",
             Lack::Source => "`--schedule` excludes `--steady` and `--workers`",
+            Lack::Record => "`--resume` and `--sync` are for `--record`",
             Lack::Clients => "a client's name is empty or has a line feed",
             Lack::Input =>
                 "standard input is read once: `-` can name one file, and none of `talk`, or of `drive` without `--go-on`",

@@ -2,7 +2,7 @@
 
 ghost use Rattle.std.specs.Prelude.{◌≡◌};
 ghost use Rattle.plan_answers.specs.Lent.{bytes_of};
-ghost use Rattle.command_words.specs.Jobs.{files_of, hears_input, of_list as list_files, schedule_in, scripts_on as script_files};
+ghost use Rattle.command_words.specs.Jobs.{files_of, hears_input, of_list as files_by, schedule_in, scripts_on as script_files};
 ghost use Rattle.command_words.specs.Files.{file_names};
 
 use crate::jobs::Job;
@@ -27,7 +27,7 @@ pub struct JobFiles<'a> {
 
 /// One text, what may be read with it, and a wiring.
 fn of_list<'a>(list: &'a Text, other: Option<&'a Text>, wiring: Option<&'a Text>) -> JobFiles<'a>
-    ensures { file_names result ≡ list_files list.now (bytes_of other.entry) (bytes_of wiring.entry) }
+    ensures { file_names result ≡ files_by list.now (bytes_of other.entry) (bytes_of wiring.entry) }
 {
     let list = Some(list);
     JobFiles {

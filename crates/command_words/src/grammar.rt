@@ -61,8 +61,11 @@ fn arg_of<'a>(alloc: Global, argument: Argument) -> Arg<'a>
         Argument::Record => one_argument(alloc, "RECORD", help),
         Argument::Scripts => client_arguments(alloc, "SCRIPT", help),
         Argument::Clients => client_arguments(alloc, "CLIENT", help),
+        Argument::Shaped => option(alloc, "shape", "SHAPE", help),
         Argument::ImageIn => option(alloc, "image", "FILE", help),
         Argument::RecordOut => option(alloc, "record", "FILE", help),
+        Argument::Resume => flag(alloc, "resume", help),
+        Argument::Sync => flag(alloc, "sync", help),
         Argument::ImageOut => option(alloc, "image-out", "FILE", help),
         Argument::Settings => option(alloc, "settings", "A..B", help),
         Argument::Scheduled => option(alloc, "schedule", "FILE", help),
@@ -70,6 +73,9 @@ fn arg_of<'a>(alloc: Global, argument: Argument) -> Arg<'a>
         Argument::First => option(alloc, "from", "K", help)
             .value_parser(value_parser!(u32).range(0..=MAX_NUMBER as i64))
             .default_value("0"),
+        Argument::Entries => option(alloc, "first", "E", help).value_parser(value_parser!(
+            u32
+        ).range(0..=MAX_NUMBER as i64)),
         Argument::Module => option(alloc, "module", "0..31", help).value_parser(value_parser!(
             u8
         ).range(0..=LAST_MODULE as i64)),

@@ -434,9 +434,8 @@ A session that doesn't end with its script or by `bye` has one line more:
 
 --record writes each call of all sessions with its reply when all have ended, in
 the form that `exchange replay --help` shows. --image-out then writes the words,
-in the form that `exchange apply --help` shows. Each FILE is opened before the
-first session, and emptied only then. It can't be `-`, nor one that is read or
-written too.
+in the form that `exchange apply --help` shows, to a new file that then takes
+the name FILE. FILE can't be `-`, nor one that is read or written too.
 
 Else nothing is served, and the answer is the first of these that is wrong:
   refused file               the image or a SCRIPT can't be read, the FILE of
@@ -487,15 +486,27 @@ shows, and here they mean:
   ended cut     the client went away within a line or within a batch
   ended read    CLIENT.in can't be read any further
   ended write   the client reads its replies no more
-Of --record and --image-out `exchange serve --help` tells.
+  ended record  the record couldn't be written: no call is made any more
 
-Else nobody is served and no pipe is opened, and the answer is the first of
-these that is wrong:
+--record writes each call with its reply, in the form that
+`exchange replay --help` shows, before the reply is told. FILE has to be empty,
+or not to be there. A host that is killed leaves all that was told, and no line
+`end`. With --resume FILE may have what such a host left, if that had the same
+SHAPE, image and CLIENT words: its calls are made again, what isn't whole is cut
+off, and the clients go on where it ends, each in the session of its place.
+With --sync a reply is told once its entry is on the disk; each call then waits
+for that. --image-out writes the words at the end, in the form that
+`exchange apply --help` shows, to a new file that then takes the name FILE.
+
+Else nobody is served and no pipe is opened, every FILE stays as it was, and the
+answer is the first of these that is wrong:
   refused file       the image can't be read, the FILE of --record or --image-out
                      can't be opened, or a file that is written leads to one
-                     that is read or written too
+                     that is read or written too, or FILE of --record has
+                     something, and --resume isn't there
   refused shape      SHAPE is no shape
   refused image L W  the image has L bytes, and the shape wants W
+  refused record ..  FILE can't be gone on with, as `exchange replay --help` shows
   refused threads    the system has no thread for each client
 
 Status: 0 each session ended with its CLIENT.in or by `bye`, 1 one of them
@@ -519,15 +530,11 @@ before the next is read. So the image can't be `-`. The lines are
 `exchange serve --help` says what each does, and what it is answered by.
 
 The session ends with the input or by `bye`; where it doesn't, its last line is
-`ended ..`, as `exchange serve --help` shows, which also tells of --record and
---image-out.
+`ended ..`, as `exchange serve --help` shows. Of --record, --resume, --sync and
+--image-out `exchange host --help` tells.
 
-Else nothing is read, and the answer is the first of these that is wrong:
-  refused file       the image can't be read, the FILE of --record or --image-out
-                     can't be opened, or a file that is written leads to one
-                     that is read or written too
-  refused shape      SHAPE is no shape
-  refused image L W  the image has L bytes, and the shape wants W
+Else nothing is read, every FILE stays as it was, and the answer is what is first
+wrong, as `exchange host --help` shows; but no threads are wanted.
 
 Status: 0 the session ended with its input or by `bye`, 1 it didn't, or it was
 refused, or there was no memory, 2 the words fit no command, 3 the answer, the
@@ -537,11 +544,14 @@ record or the image couldn't be written.",
 /// What help says of `replay`.
 pub(crate) const REPLAY: CommandHelp = CommandHelp {
     about: "Replays a record: makes its calls again, compares each reply, and prints the image left",
-    example: "Example:\n  ./exchange replay 2x2x2 examples/two-clients.record.txt > after.img",
+    example: "Example:\n  ./exchange replay examples/two-clients.record.txt > after.img",
     notes: "\
-SHAPE is MxKxW, in the form that `exchange run --help` shows. RECORD is what
---record of `exchange serve` wrote, or of `host` or `talk`: the line `record N`,
-with N up to 65536, and then N entries. An entry is
+RECORD is what --record of `exchange serve` wrote, or of `host` or `talk`: a
+head, entries, and the line `end`. The head is
+  record MxKxW SUM N   the rack's shape, and the Adler-32 of the image with which
+                       it begins, as eight hexadecimal digits
+  client NAME          N such lines: the clients of `host`, in their order
+An entry is
   S CALL   what session S, from 0, asked: a line of a session, as
            `exchange serve --help` shows, and behind `batch N` its N lines
   REPLY    the line that it was answered by
@@ -556,20 +566,22 @@ first 0, or those of the image where there is one. Each reply is compared with
 the record's. Where `settle ID` stands the batch is planned again: no plan is in
 a record, and no reply depends on which it was. The answer is the image of the
 words that are left, in the form that `exchange apply --help` shows, and it is
-what --image-out wrote beside RECORD.
+what --image-out wrote beside RECORD. A host may be writing it still, or was
+killed: then the last entry may be cut off, and there is no line `end`. What is
+whole is replayed, and a line on standard error tells how much that is. With
+--first E the first E entries are replayed, and no more is looked at.
 
 Else the answer is the first of these that is wrong. The files are read first:
   refused file            RECORD or the image can't be read
   refused shape           SHAPE is no shape
-  refused image L W       the image has L bytes, and the shape wants W
-  refused record head     the first line isn't `record N`
+  refused record head     there is no head, or it is cut off, or it has another
+                          shape than SHAPE, or the sum of another image
+  refused image L W       the image has L bytes, and the record's shape wants W
   refused record call E   E entries are right, and no call stands behind them
   refused record reply E  E entries are right, and the call behind them is
                           answered by another line
-  refused record more     something stands behind the N entries
-The line on standard error says what stands there, and what is due. The first E
-entries behind a line `record E` are a record too: cut one, and look at the
-words that it leaves.
+  refused record more     something stands behind the line `end`
+The line on standard error says what stands there, and what is due.
 
 Status: 0 the image was printed, 1 the record was refused or there was no
 memory, 2 the words fit no command, 3 the answer couldn't be written.",
@@ -606,6 +618,10 @@ pub(crate) fn help_on(argument: Argument) -> &'static str {
         Argument::Moves => "The file of the moves, or - for standard input",
         Argument::Image => "The file of the words before, or - for standard input",
         Argument::Record => "The file of the record, or - for standard input",
+        Argument::Shaped => "The shape that the record has to have",
+        Argument::Resume => "Go on where that file ends, if it has a record already",
+        Argument::Sync => "Tell a reply only once its entry is on the disk",
+        Argument::Entries => "How many of its entries to replay",
         Argument::Scripts => "A file of session lines, or - for standard input",
         Argument::Clients => "The name of a client, whose files are CLIENT.in and CLIENT.out",
         Argument::ImageIn =>

@@ -2,7 +2,8 @@
 
 ghost use Rattle.std.specs.Prelude.{◌≡◌};
 ghost use Rattle.command_words.specs.declared.jobs.ArgumentsFault.TheVariants.{NoMemory};
-ghost use Rattle.command_words.specs.Jobs.{IsFaultBy};
+ghost use Rattle.plan_answers.specs.Lent.{bytes_of};
+ghost use Rattle.command_words.specs.Jobs.{IsFaultBy, recorded_in};
 
 use crate::text::Text;
 use crate::text_list::TextList;
@@ -104,12 +105,14 @@ pub enum Job {
     Talk {
         rack: SharedRack,
     },
-    /// Make the calls of the record of a file again on a rack of the shape, which may begin with
-    /// the words of an image's file, and compare each reply.
+    /// Make the calls of the record of a file again, or its first ones, so many, on a rack that may
+    /// begin with the words of an image's file, and compare each reply. Where a shape is given it
+    /// has to be the record's.
     Replay {
-        shape: Text,
+        shape: Option<Text>,
         recorded: Text,
         image: Option<Text>,
+        first: Option<usize>,
     },
 }
 
@@ -120,10 +123,34 @@ pub struct SharedRack {
     pub shape: Text,
     /// The file of the image with whose words it begins; without one all are 0.
     pub image: Option<Text>,
-    /// The file to which the record of its sessions goes once all have ended.
-    pub record_out: Option<Text>,
+    /// The file to which the record of its sessions goes: each call as it is made, but that of
+    /// scripts once all sessions have ended.
+    pub record_out: Option<RecordFile>,
     /// The file to which its image goes once all sessions have ended.
     pub image_out: Option<Text>,
+}
+
+/// The file for a record of sessions.
+#[derive(Drop)]
+pub struct RecordFile {
+    /// Its name.
+    pub name: Text,
+    /// Whether sessions go on where it ends, if it has a record already. Scripts never do.
+    pub resumes: bool,
+    /// Whether each entry is to be on the disk before its reply is told. With scripts it isn't.
+    pub syncs: bool,
+}
+
+impl SharedRack {
+    /// The name of the file for its record, where it has one.
+    pub fn record_name(&self) -> Option<&Text>
+        ensures { bytes_of result ≡ recorded_in self.now }
+    {
+        match &self.record_out {
+            Some(record) => Some(&record.name),
+            None => None,
+        }
+    }
 }
 
 /// What the arguments of the command line ask for.

@@ -22,7 +22,7 @@ mod text_list;
 mod uses;
 
 pub use files::JobFiles;
-pub use jobs::{ArgumentsFault, Job, Request, SharedRack};
+pub use jobs::{ArgumentsFault, Job, RecordFile, Request, SharedRack};
 pub use limits::MAX_CLIENTS;
 pub use reading::read_arguments;
 pub use text::Text;

@@ -4,17 +4,17 @@ ghost use Rattle.std.specs.Prelude.{◌≡◌, ◌≢◌, ◌↔◌, IfErr, IfOk
 ghost use Rattle.command_words.specs.declared.jobs.Job.{Job};
 ghost use Rattle.command_words.specs.declared.jobs.Request.{Request};
 ghost use Rattle.command_words.specs.declared.faults.Lack.TheVariants.{Memory};
-ghost use Rattle.command_words.specs.Jobs.{AskFor, HasFirst, HasNumeral, HasOption, HasPlanning, HasServed, HasRack, HasSource, HasText, HasWorkers, GivesRequest, IsFaultIn, IsGiven, IsReading, IsReadJob, IsRequest, IsTaken, IsWithinLimits, MayBeDone, rows_in, texts_of};
+ghost use Rattle.command_words.specs.Jobs.{AskFor, HasFirst, HasNumeral, HasOption, HasPlanning, HasServed, HasRack, HasRecord, HasSource, HasText, HasWorkers, GivesRequest, IsFaultIn, IsGiven, IsReading, IsReadJob, IsRequest, IsTaken, IsWithinLimits, MayBeDone, rows_in, texts_of};
 
 use crate::commands::CommandName;
 use crate::faults::{Lack, fault_of};
 use crate::grammar::matches_of;
-use crate::jobs::{ArgumentsFault, Job, Request, SharedRack};
+use crate::jobs::{ArgumentsFault, Job, RecordFile, Request, SharedRack};
 use crate::limits::{LAST_MODULE, MAX_CLIENTS, MAX_NUMBER};
 use crate::outputs::{have_names, names_clients};
 use crate::text::Text;
 use crate::text_list::TextList;
-use crate::uses::file_uses;
+use crate::uses::{Access, FileUse, file_uses};
 use clap::ArgMatches;
 use clap::parser::ValueSource;
 use exchange_limits::{MAX_WORKERS, WorkerCount};
@@ -113,6 +113,26 @@ fn source_of(alloc: Global, matches: &ArgMatches<'_>) -> Result<Source<Text>, La
     Ok(Source::Text(file))
 }
 
+/// The file for a record of sessions, where there is one.
+fn record_of(alloc: Global, matches: &ArgMatches<'_>) -> Result<Option<RecordFile>, Lack>
+    ensures { IsReading (HasRecord (rows_in matches.now)) result }
+{
+    let resumes = is_given(matches, "resume");
+    let syncs = is_given(matches, "sync");
+    let Some(name) = option_of(alloc, matches, "record")? else {
+        return if resumes || syncs {
+            Err(Lack::Record)
+        } else {
+            Ok(None)
+        };
+    };
+    Ok(Some(RecordFile {
+        name,
+        resumes,
+        syncs,
+    }))
+}
+
 /// The rack of an exchange.
 fn rack_of(alloc: Global, matches: &ArgMatches<'_>) -> Result<SharedRack, Lack>
     ensures { IsReading (HasRack (rows_in matches.now)) result }
@@ -120,7 +140,7 @@ fn rack_of(alloc: Global, matches: &ArgMatches<'_>) -> Result<SharedRack, Lack>
     Ok(SharedRack {
         shape: text_of(alloc, matches, "SHAPE")?,
         image: option_of(alloc, matches, "image")?,
-        record_out: option_of(alloc, matches, "record")?,
+        record_out: record_of(alloc, matches)?,
         image_out: option_of(alloc, matches, "image-out")?,
     })
 }
@@ -197,9 +217,10 @@ fn job_of(alloc: Global, name: CommandName, found: &ArgMatches<'_>) -> Result<Jo
             rack: rack_of(alloc, found)?,
         }),
         CommandName::Replay => Ok(Job::Replay {
-            shape: text_of(alloc, found, "SHAPE")?,
+            shape: option_of(alloc, found, "shape")?,
             recorded: text_of(alloc, found, "RECORD")?,
             image: option_of(alloc, found, "image")?,
+            first: number_of(found, "first", MAX_NUMBER)?,
         }),
     }
 }
@@ -248,7 +269,8 @@ fn judge(alloc: Global, job: &Job) -> Result<(), Lack>
     if have_names(files.as_slice()) {
         return Ok(());
     }
-    let inputs = files.iter().filter(|file| file.name.is_input()).count();
+    let reads_input = |file: &&FileUse| !file.access.excludes(Access::Read) && file.name.is_input();
+    let inputs = files.iter().filter(reads_input).count();
     Err(if inputs > 1 { Lack::Input } else { Lack::Files })
 }
 
@@ -258,8 +280,9 @@ fn judge(alloc: Global, job: &Job) -> Result<(), Lack>
 /// texts and its number of workers, and whether it is quiet. Other arguments are clap's error of
 /// what is at fault in them, which holds the text to print; a demand for help or for the program's
 /// version is one. So are arguments that fit, but give two of `--workers`, `--steady` and
-/// `--schedule`, or name a job of which several files are `-`, standard input, clients whose names
-/// are no names, or a file to be written that is read or written too, or that is `-`.
+/// `--schedule`, or `--resume` or `--sync` without `--record`, or name a job of which several files
+/// are `-`, standard input, clients whose names are no names, or a file to be written that is read
+/// or written too, or that is `-`.
 /// Where there was no memory, nothing is said about the arguments: clap's error of that kind is
 /// [`ArgumentsFault::NoMemory`], too.
 pub fn read_arguments(alloc: Global, arguments: &[String]) -> Result<Request, ArgumentsFault>

@@ -116,7 +116,7 @@ impl Gathered {
     fn add_kept(&mut self, rack: &SharedRack) -> Result<(), AllocError>
         ensures { OnOk result (self.new ≡ self.old ++ kept_files rack.now) }
     {
-        self.add_option(Access::Write, lent(&rack.record_out))?;
+        self.add_option(Access::Write, rack.record_name())?;
         self.add_option(Access::Write, lent(&rack.image_out))
     }
 

@@ -1,99 +1,100 @@
 -- What goes to the files that sessions write.
-use Rattle.std.proofs.Common.{◌≡◌, ◌∙◌, ◌++◌, ℕ, List, Option, Some, None, [], Result, Ok, Err, OnOk, OnErr, IsOk, append-nil, ap, sym, subst, refl}
-use Rattle.std.specs.Prelude.{MatchOption, option_map}
+use Rattle.std.proofs.Common.{◌≡◌, ◌∙◌, ◌++◌, ℕ, Bool, not, List, [], Option, Some, None, Result, Ok, Err, OnOk, OnErr, IsErrAnd, false, true, is_ok, is_some, append-nil, append_assoc, ap, inl, sym, subst, refl}
+use Rattle.std.specs.Prelude.{option_map}
 use Rattle.std.specs.Io.KnownBytes.{Appends}
-use Rattle.batch_book.specs.History.{Account}
+use Rattle.byte_streams.specs.Writing.{IsCutShort}
+use Rattle.clap.specs.Words.{Text}
 use Rattle.command_words.specs.declared.jobs.Job.{Job}
-use Rattle.exchange.specs.Outcomes.{HasTold}
-use Rattle.exchange.specs.Outputs.{AreClosed, AreKept, AreKeptInPart, AreNamed, AreOpened, AreOutputsWritten, HasNothingGone, HaveGone, HaveGoneInPart, IsFileWritten, IsOpened, lost_none, name_of, output_of, record_of}
-use Rattle.exchange.specs.declared.lost.Lost.{Lost}
+use Rattle.command_words.specs.declared.jobs.Job.TheVariants.{Host, Talk}
+use Rattle.command_words.specs.declared.jobs.RecordFile.{RecordFile}
+use Rattle.exchange.specs.Outputs.{AreKept, AreOpened, HasNothingGone, IsFileWritten, IsOpened, begins_with, is_live, is_new, output_of, record_of}
+use Rattle.exchange.specs.Records.{Closed, IsAsBegun, IsFrontOf, IsWrittenBy, closed}
 use Rattle.exchange.specs.declared.lost.Reason.{Reason}
-use Rattle.exchange.specs.declared.notes.Answered.{Answered}
-use Rattle.exchange.specs.declared.notes.NoAnswer.{NoAnswer}
 use Rattle.exchange.specs.declared.outputs.OutFile.{OutFile}
 use Rattle.exchange.specs.declared.outputs.Outputs.{Outputs}
 use Rattle.exchange.specs.declared.outputs.Receipts.{Receipts}
 
 -- known bytes that grew
-grown : (old new : Option (List ℕ)) (front bytes : List ℕ) → old ≡ Some front → Appends old new bytes → new ≡ Some (front ++ bytes)
+pub grown : (old new : Option (List ℕ)) (front bytes : List ℕ) → old ≡ Some front → Appends old new bytes → new ≡ Some (front ++ bytes)
 grown None new front bytes is appended = absurd cc
 grown (Some xs) None front bytes is appended = absurd appended
 grown (Some xs) (Some ys) front bytes is appended =
     let same : xs ≡ front = cc in ap Some (appended ∙ ap (λ (f : List ℕ). f ++ bytes) same)
 
--- a file to which all went
-gone : {F C : Type 0} (contents : F → Option (List ℕ)) (received : C → Option (List ℕ)) (begins : List ℕ → List ℕ) (name : Option (List ℕ)) (bytes : List ℕ) (old new : Option (OutFile F)) (receipt : Option C)
-    → IsOpened contents begins name old → name_of old ≡ name → IsFileWritten contents bytes old new None → option_map received receipt ≡ option_map (λ out. contents out.file) new → HaveGone begins received name bytes receipt
-gone contents received begins None bytes None None None opened named written closed = refl
-gone contents received begins None bytes None None (Some r) opened named written closed = absurd cc
-gone contents received begins None bytes None (Some n) receipt opened named written closed = absurd (let bad : Some n ≡ None = written.0 in cc)
-gone contents received begins None bytes (Some o) new receipt opened named written closed = absurd cc
-gone contents received begins (Some name) bytes None new receipt opened named written closed = absurd cc
-gone contents received begins (Some name) bytes (Some o) None receipt opened named written closed = absurd written
-gone contents received begins (Some name) bytes (Some o) (Some n) None opened named written closed = absurd cc
-gone contents received begins (Some name) bytes (Some o) (Some n) (Some r) opened named written closed =
-    let same : o.name.now ≡ name = cc in
-    let has : received r ≡ contents n.file = cc in
-    has ∙ grown (contents o.file) (contents n.file) (begins o.name.now) bytes opened.1 written ∙ ap (λ (x : List ℕ). Some (begins x ++ bytes)) same
+-- what was written behind a text
+pub written_behind : {E : Type 0} (r : Result Unit E) (old new : Option (List ℕ)) (text bytes : List ℕ) → old ≡ Some text → OnOk r (Appends old new bytes) → OnErr r (IsCutShort old new bytes) → IsWrittenBy r (text ++ bytes) new
+written_behind (Ok u) old new text bytes is went cut = grown old new text bytes is went
+written_behind (Err e) old new text bytes is went cut =
+    (text ++ cut.front, cut.missing, ap (λ (x : List ℕ). text ++ x) cut.bytes_are ∙ sym (append_assoc text cut.front cut.missing), grown old new text cut.front is cut.appended)
 
--- one to which nothing went
-nothing_gone : {F C : Type 0} (contents : F → Option (List ℕ)) (received : C → Option (List ℕ)) (begins : List ℕ → List ℕ) (name : Option (List ℕ)) (old : Option (OutFile F)) (receipt : Option C)
-    → IsOpened contents begins name old → option_map received receipt ≡ option_map (λ out. contents out.file) old → HasNothingGone begins received name receipt
-nothing_gone contents received begins name old None opened closed = tt
-nothing_gone contents received begins name None (Some r) opened closed = absurd cc
-nothing_gone contents received begins name (Some o) (Some r) opened closed =
-    let has : received r ≡ contents o.file = cc in
-    subst (λ (n : Option (List ℕ)). MatchOption n ⊥ (λ name. received r ≡ Some (begins name))) (sym opened.0) (has ∙ opened.1)
+-- nothing was written behind it
+pub left_behind : (old : Option (List ℕ)) (text bytes : List ℕ) → IsFrontOf text old → IsFrontOf (text ++ bytes) old
+left_behind old text bytes t = (t.0, t.1 ++ bytes, ap (λ (x : List ℕ). x ++ bytes) t.2 ∙ append_assoc t.0 t.1 bytes, t.3)
 
--- nothing was written
-pub unkept : {F C : Type 0} (contents : F → Option (List ℕ)) (received : C → Option (List ℕ)) (begins : List ℕ → List ℕ) (job : Job) (old new : Outputs F) (receipts : Receipts C)
-    → AreOpened contents begins (record_of job) (output_of job) old → new ≡ old → AreClosed contents received new receipts → AreKept begins received job None receipts
-unkept {F = F} contents received begins job old new receipts opened same closed =
-    let shut : AreClosed contents received old receipts = subst (λ (o : Outputs F). AreClosed contents received o receipts) same closed in
-    (nothing_gone contents received begins (record_of job) old.recorded receipts.recorded opened.0 shut.0, nothing_gone contents received begins (output_of job) old.image receipts.image opened.1 shut.1)
+-- of no file, nothing is lost
+pub stands_where : {E : Type 0} (end : Result Unit E) (lost : Option Reason) → is_some lost ≡ not (is_ok end) → is_ok end ≡ not (is_some lost)
+stands_where (Ok u) None is = refl
+stands_where (Ok u) (Some why) is = absurd (let bad : true ≡ false = is in cc)
+stands_where (Err e) None is = absurd (let bad : false ≡ true = is in cc)
+stands_where (Err e) (Some why) is = refl
 
--- what the book that is left has went there
-kept : {F C : Type 0} (contents : F → Option (List ℕ)) (received : C → Option (List ℕ)) (begins : List ℕ → List ℕ) (job : Job) (left : Option Account) (old new : Outputs F) (receipts : Receipts C)
-    → AreOpened contents begins (record_of job) (output_of job) old → AreNamed (record_of job) (output_of job) old → AreOutputsWritten contents left old new lost_none → AreClosed contents received new receipts → AreKept begins received job left receipts
-kept contents received begins job None old new receipts opened named written closed =
-    unkept contents received begins job old new receipts opened written.0 closed
-kept contents received begins job (Some account) old new receipts opened named written closed =
-    (gone contents received begins (record_of job) _ old.recorded new.recorded receipts.recorded opened.0 named.0 written.0 closed.0, gone contents received begins (output_of job) _ old.image new.image receipts.image opened.1 named.1 written.1 closed.1)
+-- a file that was written and put in its place, or why not
+file_written : {C E : Type 0} (received : C → Closed) (name : Text) (bytes : List ℕ) (receipt : C) (lost : Option Reason) (first end : Result Unit E) (after : Option (List ℕ))
+    → IsWrittenBy first bytes after → received receipt ≡ closed after (is_ok end) → OnErr first (is_ok end ≡ false) → is_some lost ≡ not (is_ok end) → IsFileWritten received (Some name) bytes (Some receipt) lost
+file_written received name bytes receipt None (Ok u) end after wrote is cut lost_is =
+    (ap (λ (c : Closed). c.bytes) is ∙ wrote, ap (λ (c : Closed). c.stands) is ∙ stands_where end None lost_is)
+file_written received name bytes receipt (Some why) (Ok u) end after wrote is cut lost_is =
+    ((bytes, [], sym (append-nil bytes), ap (λ (c : Closed). c.bytes) is ∙ wrote), ap (λ (c : Closed). c.stands) is ∙ stands_where end (Some why) lost_is)
+file_written received name bytes receipt None (Err e) end after wrote is cut lost_is =
+    absurd (let one : is_ok end ≡ false = cut in let bad : false ≡ not (is_ok end) = lost_is in let no : false ≡ true = bad ∙ ap not one in cc)
+file_written received name bytes receipt (Some why) (Err e) end after wrote is cut lost_is =
+    ((wrote.0, wrote.1, wrote.2, ap (λ (c : Closed). c.bytes) is ∙ wrote.3), ap (λ (c : Closed). c.stands) is ∙ stands_where end (Some why) lost_is)
 
--- a file to which as much went as could be written
-gone_in_part : {F C : Type 0} (contents : F → Option (List ℕ)) (received : C → Option (List ℕ)) (begins : List ℕ → List ℕ) (name : Option (List ℕ)) (bytes : List ℕ) (old new : Option (OutFile F)) (lost : Option Reason) (receipt : Option C)
-    → IsOpened contents begins name old → name_of old ≡ name → IsFileWritten contents bytes old new lost → option_map received receipt ≡ option_map (λ out. contents out.file) new → HaveGoneInPart begins received name bytes receipt
-gone_in_part contents received begins name bytes old new None receipt opened named written closed =
-    (bytes, [], sym (append-nil bytes), gone contents received begins name bytes old new receipt opened named written closed)
-gone_in_part contents received begins name bytes None new (Some why) receipt opened named written closed = absurd (let bad : Some why ≡ None = written.1 in cc)
-gone_in_part contents received begins name bytes (Some o) None (Some why) receipt opened named written closed = absurd written
-gone_in_part contents received begins name bytes (Some o) (Some n) (Some why) receipt opened named written closed =
-    (written.front, written.missing, written.bytes_are, gone contents received begins name written.front (Some o) (Some n) receipt opened named written.appended closed)
+-- the same of a file that has a name
+pub named_written : {C E : Type 0} (received : C → Closed) (name : Option Text) (bytes : List ℕ) (receipt : C) (lost : Option Reason) (first end : Result Unit E) (after : Option (List ℕ))
+    → is_some name ≡ true → IsWrittenBy first bytes after → received receipt ≡ closed after (is_ok end) → OnErr first (is_ok end ≡ false) → is_some lost ≡ not (is_ok end) → IsFileWritten received name bytes (Some receipt) lost
+named_written received None bytes receipt lost first end after has wrote is cut lost_is = absurd (let bad : false ≡ true = has in cc)
+named_written received (Some name) bytes receipt lost first end after has wrote is cut lost_is = file_written received name bytes receipt lost first end after wrote is cut lost_is
 
-kept_in_part : {F C : Type 0} (contents : F → Option (List ℕ)) (received : C → Option (List ℕ)) (begins : List ℕ → List ℕ) (job : Job) (left : Option Account) (old new : Outputs F) (lost : Lost) (receipts : Receipts C)
-    → AreOpened contents begins (record_of job) (output_of job) old → AreNamed (record_of job) (output_of job) old → AreOutputsWritten contents left old new lost → AreClosed contents received new receipts → AreKeptInPart begins received job left receipts
-kept_in_part contents received begins job None old new lost receipts opened named written closed =
-    unkept contents received begins job old new receipts opened written.0 closed
-kept_in_part contents received begins job (Some account) old new lost receipts opened named written closed =
-    (gone_in_part contents received begins (record_of job) _ old.recorded new.recorded lost.recorded receipts.recorded opened.0 named.0 written.0 closed.0, gone_in_part contents received begins (output_of job) _ old.image new.image lost.image receipts.image opened.1 named.1 written.1 closed.1)
+-- a record has a name
+pub has_name : (record_out : Option RecordFile) (b : Bool) → b ≡ is_some record_out → b ≡ is_some (option_map (λ (out : RecordFile). out.name) record_out)
+has_name None b is = is
+has_name (Some out) b is = is
 
--- the same of what was answered
-pub kept_where_done : {F C : Type 0} (contents : F → Option (List ℕ)) (received : C → Option (List ℕ)) (begins : List ℕ → List ℕ) (job : Job) (r : Result Answered NoAnswer) (first : Result Unit NoAnswer) (before after : Option (List ℕ)) (is : List ℕ → Answered → Option Account → Type 0) (unanswered cut : List ℕ → Type 0) (old new : Outputs F) (receipts : Receipts C)
-    → OnOk r (IsOk first) → OnOk first (AreNamed (record_of job) (output_of job) old) → AreOpened contents begins (record_of job) (output_of job) old → AreClosed contents received new receipts
-    → HasTold before after (λ told done. (left : Option Account) × is told done left × AreOutputsWritten contents left old new done.lost) unanswered cut r
-    → HasTold before after (λ told done. (left : Option Account) × is told done left × (done.lost ≡ lost_none → AreKept begins received job left receipts) × AreKeptInPart begins received job left receipts) unanswered cut r
-kept_where_done contents received begins job (Ok done) (Ok u) before after is unanswered cut old new receipts ok named opened closed t =
-    (t.0, t.1, (t.2.0, t.2.1, (λ none. kept contents received begins job t.2.0 old new receipts opened named (subst (AreOutputsWritten contents t.2.0 old new) none t.2.2) closed), kept_in_part contents received begins job t.2.0 old new done.lost receipts opened named t.2.2 closed), tt)
-kept_where_done contents received begins job (Ok done) (Err e) before after is unanswered cut old new receipts ok named opened closed t = absurd (let bad = ok in cc)
-kept_where_done contents received begins job (Err missed) first before after is unanswered cut old new receipts ok named opened closed t = (t.0, t.1, tt, t.3)
+-- a new file that was closed as it was opened
+pub nothing_gone : {F C : Type 0} (contents : F → Option (List ℕ)) (received : C → Closed) (name : Option Text) (out : Option (OutFile F)) (receipt : Option C)
+    → IsOpened contents is_new name out → option_map received receipt ≡ option_map (λ (o : OutFile F). closed (contents o.file) false) out → HasNothingGone received name receipt
+nothing_gone contents received name out None opened same = tt
+nothing_gone contents received name None (Some r) opened same = absurd cc
+nothing_gone contents received name (Some o) (Some r) opened same =
+    let is : received r ≡ closed (contents o.file) false = cc in
+    (ap is_some opened.0, is ∙ ap (λ (b : Option (List ℕ)). closed b false) (opened.2 ∙ ap Some opened.1))
 
-pub unkept_where_missed : {F C : Type 0} (contents : F → Option (List ℕ)) (received : C → Option (List ℕ)) (begins : List ℕ → List ℕ) (job : Job) (r : Result Answered NoAnswer) (old new : Outputs F) (receipts : Receipts C)
-    → AreOpened contents begins (record_of job) (output_of job) old → OnErr r (new ≡ old) → AreClosed contents received new receipts → OnErr r (AreKept begins received job None receipts)
-unkept_where_missed contents received begins job (Ok done) old new receipts opened same closed = tt
-unkept_where_missed contents received begins job (Err missed) old new receipts opened same closed = unkept contents received begins job old new receipts opened same closed
+-- the file of a record that was closed as it was opened
+pub as_held : {F C : Type 0} (holds : List ℕ → List ℕ → Type 0) (contents : F → Option (List ℕ)) (received : C → Closed) (record_out : Option RecordFile) (names : List Text) (out : Option (OutFile F)) (receipt : Option C)
+    → IsOpened contents holds (option_map (λ (r : RecordFile). r.name) record_out) out → option_map received receipt ≡ option_map (λ (o : OutFile F). closed (contents o.file) false) out → IsAsBegun holds received record_out names receipt
+as_held holds contents received record_out names out None opened same = tt
+as_held holds contents received record_out names None (Some r) opened same = absurd cc
+as_held holds contents received None names (Some o) (Some r) opened same = absurd (let bad : None ≡ Some o.name.now = opened.0 in cc)
+as_held holds contents received (Some file) names (Some o) (Some r) opened same =
+    let is : received r ≡ closed (contents o.file) false = cc in
+    let name : o.name.now ≡ file.name = (let e : Some file.name ≡ Some o.name.now = opened.0 in cc) in
+    (o.held.items, o.held.items, subst (λ (n : Text). holds n o.held.items) name opened.1, is ∙ ap (λ (b : Option (List ℕ)). closed b false) opened.2, inl refl)
 
--- what was answered had its files opened
-pub apart_where_done : {X E F U : Type 0} (r : Result X E) (first : Result U F) (P : Type 0) → OnOk r (IsOk first) → OnOk first P → OnOk r P
-apart_where_done (Ok x) (Ok u) P ok so = so
-apart_where_done (Ok x) (Err e) P ok so = absurd (let bad = ok in cc)
-apart_where_done (Err e) first P ok so = tt
+-- nothing was written of what was opened for a job
+pub kept_none : {F C : Type 0} (holds : List ℕ → List ℕ → Type 0) (contents : F → Option (List ℕ)) (received : C → Closed) (job : Job) (outputs : Outputs F) (receipts : Receipts C)
+    → AreOpened contents (begins_with holds (is_live job)) (record_of job) (output_of job) outputs
+    → option_map received receipts.recorded ≡ option_map (λ (o : OutFile F). closed (contents o.file) false) outputs.recorded
+    → option_map received receipts.image ≡ option_map (λ (o : OutFile F). closed (contents o.file) false) outputs.image
+    → AreKept holds received job None receipts
+kept_none holds contents received (Host rack clients workers) outputs receipts opened one two =
+    (as_held holds contents received rack.record_out clients outputs.recorded receipts.recorded opened.0 one, nothing_gone contents received rack.image_out outputs.image receipts.image opened.1 two, refl)
+kept_none holds contents received (Talk rack) outputs receipts opened one two =
+    (as_held holds contents received rack.record_out [] outputs.recorded receipts.recorded opened.0 one, nothing_gone contents received rack.image_out outputs.image receipts.image opened.1 two, refl)
+kept_none holds contents received job outputs receipts opened one two =
+    (nothing_gone contents received (record_of job) outputs.recorded receipts.recorded opened.0 one, nothing_gone contents received (output_of job) outputs.image receipts.image opened.1 two, refl)
+
+-- where something failed before, nothing was written
+pub unwritten : {E : Type 0} (r : Result Unit E) (P : E → Type 0) (bytes : List ℕ) (after : Option (List ℕ)) → IsErrAnd r P → after ≡ Some [] → IsWrittenBy r bytes after
+unwritten (Ok u) P bytes after err is = absurd err
+unwritten (Err e) P bytes after err is = ([], bytes, refl, is)

@@ -1,5 +1,5 @@
 -- What is printed behind what a session was told, and what is told beside it.
-use Rattle.std.proofs.Common.{ℕ, Bool, ◌++◌, ◌∷◌, List, Option, Some, None, Result, Ok, Err, IfOk, IfErr, IsErrAnd, OnOk, OnErr, ap, ◌∙◌, append_assoc, append-nil, IfSome, ◌⊎◌, inl, inr, refl, subst, sym, ◌≡◌, []}
+use Rattle.std.proofs.Common.{ℕ, Bool, ◌++◌, ◌∷◌, List, Option, Some, None, Result, Ok, Err, IfOk, IfErr, OnOk, OnErr, ap, ◌∙◌, append_assoc, append-nil, IfSome, ◌⊎◌, inl, inr, refl, subst, sym, ◌≡◌, []}
 use Rattle.std.specs.Prelude.{String, option_map, string_bytes}
 use Rattle.std.specs.Global.{Global}
 use Rattle.std.specs.Io.KnownBytes.{Appends}
@@ -7,7 +7,6 @@ use Rattle.byte_streams.specs.Writing.{IsCutShort}
 use Rattle.std.proofs.KnownBytes.{Appends-nil, Appends-trans}
 use Rattle.plan_answers.specs.Refusals.{Printed}
 use Rattle.command_words.specs.declared.jobs.Job.{Job}
-use Rattle.command_words.specs.declared.jobs.Job.TheVariants.{Talk}
 use Rattle.exchange.specs.declared.notes.NoAnswer.TheVariants as missed
 use Rattle.command_words.specs.declared.jobs.Request.{Request}
 use Rattle.batch_book.specs.History.{Account}
@@ -24,12 +23,11 @@ use Rattle.drive_answers.specs.Ways.{Ways}
 use Rattle.session_answers.specs.HostAnswers.{SessionEnd}
 use Rattle.session_answers.specs.declared.ended_session.Ending.{Ending}
 use Rattle.exchange.specs.Clients.{ends_of}
-use Rattle.exchange.specs.Responses.{Given, IsAlone, IsJobAnswer, IsJobInVain, IsToldInVain, Named, Response, unanswered}
+use Rattle.exchange.specs.Responses.{Given, IsJobAnswer, Named, Response, unanswered}
 use Rattle.exchange.specs.Notes.{AreToldLines, HasJobOverlap, IsToldInPart, IsBeside, IsNoteOn, IsNoted, IsToldUnless, IsWholeLine}
-use Rattle.exchange.specs.Outcomes.{HasTold, IsAnswered, IsMissed, IsNothing, IsRefused, IsUnanswered, response_of}
-use Rattle.exchange.specs.declared.found.Found.{Found}
+use Rattle.exchange.specs.Outcomes.{HasTold, IsAnswered, IsRefused}
 use Rattle.command_words.specs.declared.jobs.ArgumentsFault.TheVariants as arguments_fault
-use Rattle.command_words.specs.Jobs.{AskFor, Files, file_uses}
+use Rattle.command_words.specs.Jobs.{AskFor, file_uses}
 use Rattle.exchange.specs.declared.limits.TheConstants.{UNWRITTEN}
 use Rattle.exchange.specs.Ends.{Leaving, Streams, IsDone, IsEndForArguments, IsCutFor, IsFaultEnd, IsPrinted, IsUnwrittenOf, streams_of}
 
@@ -39,58 +37,9 @@ told_nothing (Ok x) before is behind cut none refused so = ([], Appends-nil befo
 told_nothing (Err (missed.Refused why line)) before is behind cut none refused so = ([], Appends-nil before, tt, none)
 told_nothing (Err (missed.Unwritten what)) before is behind cut none refused so = absurd refused
 
--- no job has anything to be told before a refusal
-none_told : (job : Job) (files : Files (List ℕ)) (given : Given) → IsToldInVain job files given []
-none_told (Talk rack) files given = (given.input, inl (refl, refl))
-none_told job files given = refl
-
-pub none_asked : (job : Job) (files : Files (List ℕ)) (given : Given) (ports : Ways) (ends : List SessionEnd) → ends ≡ [] → IsUnanswered (IsToldInVain job files given) ports ports ends []
-none_asked job files given ports ends none = (none_told job files given, refl, none)
-
--- what was told before there was no memory
-pub told_vainly : {X : Type 0} (r : Result X NoAnswer) (before after : Option (List ℕ)) (is : List ℕ → X → Type 0) (behind cut : List ℕ → Type 0) (told : List ℕ) → IsErrAnd r (λ e. e ≡ missed.Refused NoMemory None) → Appends before after told → behind told → HasTold before after is behind cut r
-told_vainly (Ok x) before after is behind cut told same first so = absurd same
-told_vainly (Err e) before after is behind cut told same first so = (told, first, tt, subst (IsMissed behind cut told) (sym same) so)
-
 -- no session of a live client ended
 pub none_served : (endings : List (Ending (List ℕ))) → endings ≡ [] → ends_of endings ≡ []
 none_served endings none = rw none refl
-
--- the same, where that is said of the answer
-pub nothing_before : {X : Type 0} (r : Result X NoAnswer) (before : Option (List ℕ)) (P : X → Type 0) (cut : List ℕ → Type 0) → IfErr r IsRefused → IfOk r P → HasTold before before (λ told x. (told ≡ []) × P x) IsNothing cut r
-nothing_before (Ok x) before P cut refused so = ([], Appends-nil before, (refl, so), tt)
-nothing_before (Err (missed.Refused why line)) before P cut refused so = ([], Appends-nil before, tt, refl)
-nothing_before (Err (missed.Unwritten what)) before P cut refused so = absurd refused
-
--- no port was asked for
-pub unasked : {X : Type 0} (r : Result X NoAnswer) (before after : Option (List ℕ)) (is : List ℕ → X → Type 0) (behind cut : List ℕ → Type 0) (ports : Ways) (ends : List SessionEnd) → OnErr r (ends ≡ []) → HasTold before after is behind cut r → HasTold before after is (λ told. behind told × (ports ≡ ports) × (ends ≡ [])) cut r
-unasked (Ok x) before after is behind cut ports ends none t = (t.0, t.1, t.2, tt)
-unasked (Err (missed.Refused why line)) before after is behind cut ports ends none t = (t.0, t.1, tt, (t.3, refl, none))
-unasked (Err (missed.Unwritten what)) before after is behind cut ports ends none t = (t.0, t.1, tt, t.3)
-
--- nor was a client served
-pub served_none : {X : Type 0} (r : Result X NoAnswer) (before after : Option (List ℕ)) (is : List ℕ → X → Type 0) (cut : List ℕ → Type 0) (was opens : Ways) (ends : List SessionEnd) → ends ≡ [] → HasTold before after is (λ told. (told ≡ []) × (opens ≡ was)) cut r → HasTold before after is (λ told. (told ≡ []) × (opens ≡ was) × (ends ≡ [])) cut r
-served_none (Ok x) before after is cut was opens ends none t = (t.0, t.1, t.2, tt)
-served_none (Err (missed.Refused why line)) before after is cut was opens ends none t = (t.0, t.1, tt, (t.3.0, t.3.1, none))
-served_none (Err (missed.Unwritten what)) before after is cut was opens ends none t = (t.0, t.1, tt, t.3)
-
--- what is so of a job's texts is so of the job
-lifted : (missed : NoAnswer) (behind cut more_behind more_cut : List ℕ → Type 0) (told : List ℕ) → (behind told → more_behind told) → (cut told → more_cut told) → IsMissed behind cut told missed → IsMissed more_behind more_cut told missed
-lifted (missed.Refused why line) behind cut more_behind more_cut told b f is = b is
-lifted (missed.Unwritten what) behind cut more_behind more_cut told b f is = f is
-
-pub missed_of : {X : Type 0} (r : Result X NoAnswer) (what : NoAnswer) (before after : Option (List ℕ)) (is : List ℕ → X → Type 0) (behind cut more_behind more_cut : List ℕ → Type 0) (told : List ℕ) → IsErrAnd r (λ e. e ≡ what) → Appends before after told → (behind told → more_behind told) → (cut told → more_cut told) → IsMissed behind cut told what → HasTold before after is more_behind more_cut r
-missed_of (Ok x) what before after is behind cut more_behind more_cut told same first b f so = absurd same
-missed_of (Err e) what before after is behind cut more_behind more_cut told same first b f so = (told, first, tt, lifted e behind cut more_behind more_cut told b f (subst (IsMissed behind cut told) (sym same) so))
-
--- so it is of whatever comes of it
-pub if_not : {X E : Type 0} (r : Result X E) (P : Type 0) → P → OnErr r P
-if_not (Ok x) P so = tt
-if_not (Err e) P so = so
-
--- an answer alone
-pub alone : (P : Printed → Type 0) (ports : Ways) (ends : List SessionEnd) (found : Found) (answer : Printed) → (found.answer ≡ answer) × (found.book ≡ None) → P answer → IsAlone (response_of [] found ports ends) × P found.answer
-alone P ports ends found answer is so = ((refl, is.1), subst P (sym is.0) so)
 
 -- what is told beside, where an overlap is known of more
 pub beside_of : (P Q : Type 0) (request : Request) (before after : Option (List ℕ)) → (P → Q) → IsBeside P request before after → IsBeside Q request before after
@@ -139,7 +88,7 @@ answered (Err e) named keeps given request told left ports ends done out_before 
 
 -- and why there is none
 pub not_answered : {E : Type 0} (r : Result ℕ E) (named : Named) (keeps : Job → Response → Type 0) (given : Given) (request : Request) (told : List ℕ) (why : Unanswered) (line : Option (String Global)) (out_before out_after has eb em ea : Option (List ℕ))
-    → Appends out_before out_after told → IsJobInVain named.holds given request.job told → keeps request.job (record { told = told; end = unanswered why; left = None; ports = given.ports; ends = [] }) → IsNoteOn (unanswered why) (bytes_of_line line)
+    → Appends out_before out_after told → (told ≡ []) → keeps request.job (record { told = told; end = unanswered why; left = None; ports = given.ports; ends = [] }) → IsNoteOn (unanswered why) (bytes_of_line line)
     → IsBeside (HasJobOverlap named.holds given request.job) request eb em → IfOk r (IsPrinted out_after has (unanswered why)) → IsToldUnless request.is_quiet (bytes_of_line line) em ea
     → IfOk r (IsDone named keeps given request (streams_of out_before has eb ea))
 not_answered (Ok status) named keeps given request told why line out_before out_after has eb em ea first none kept note beside then said = (
@@ -186,7 +135,7 @@ answered_in_part (Err what) named leaves arguments given request told left done 
     (Ok request, ask, tt, inl (response, inl (apart, is), keeps, printed_in_part before mid after told done.answer.text first (of_answer done what mid after cut)))
 
 pub refused_in_part : {E : Type 0} (r : Result ℕ E) (named : Named) (leaves : Leaving) (arguments : List (List ℕ)) (given : Given) (request : Request) (told : List ℕ) (why : Unanswered) (before mid after : Option (List ℕ))
-    → AskFor arguments request → Appends before mid told → IsJobInVain named.holds given request.job told → leaves.keeps request.job (record { told = told; end = unanswered why; left = None; ports = given.ports; ends = [] })
+    → AskFor arguments request → Appends before mid told → (told ≡ []) → leaves.keeps request.job (record { told = told; end = unanswered why; left = None; ports = given.ports; ends = [] })
     → OnErr r (IsToldInPart mid after (unanswered why).text) → OnErr r (IsCutFor named leaves arguments given before after)
 refused_in_part (Ok status) named leaves arguments given request told why before mid after ask first none keeps cut = tt
 refused_in_part (Err e) named leaves arguments given request told why before mid after ask first none keeps cut =

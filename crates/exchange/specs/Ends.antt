@@ -14,7 +14,9 @@ use Rattle.exchange.specs.declared.unanswered.Unanswered.TheVariants.{NoMemory}
 use Rattle.session_answers.specs.HostAnswers.{SessionEnd}
 use Rattle.exchange.specs.Responses.{Given, IsJobCut, IsResponseTo, Named, Response, unanswered}
 use Rattle.exchange.specs.Notes.{HasJobOverlap, IsNoted, IsToldInPart}
-use Rattle.exchange.specs.Outputs.{AreKept, AreKeptInPart, Beginning, IsLostTold, lost_none, none_opened}
+use Rattle.exchange.specs.Contents.{Holding}
+use Rattle.exchange.specs.Outputs.{AreKept, AreKeptInPart, IsLostTold, lost_none, none_opened}
+use Rattle.exchange.specs.Records.{Closed}
 use Rattle.exchange.specs.declared.outputs.Receipts.{Receipts}
 use Rattle.exchange.specs.declared.notes.Answered.{Answered}
 use Rattle.exchange.specs.declared.unwritten.Unwritten.{Unwritten}
@@ -25,10 +27,10 @@ abbrev pub Keeping : Type 1
 Keeping = Job → Response → Type 0
 
 -- these files were kept, and ports and clients are left so
-abbrev pub IsLeft : {C : Type 0} → Beginning → (C → Option (List ℕ)) → Receipts C → Ways
+abbrev pub IsLeft : {C : Type 0} → Holding → (C → Closed) → Receipts C → Ways
     → List SessionEnd → Job → Response → Type 0
-IsLeft begins received receipts ports ends job response =
-    AreKept begins received job response.left receipts × (response.ports ≡ ports)
+IsLeft holds received receipts ports ends job response =
+    AreKept holds received job response.left receipts × (response.ports ≡ ports)
     × (response.ends ≡ ends)
 
 -- no file was opened to be written, no port, and no client's
@@ -127,17 +129,17 @@ pub record Leaving : Type 1 where
   pub cut : Job → Type 0
   pub none : Type 0
 
--- so it is of these files: fronts of what belongs there went to them; nothing, where a job has no
--- answer; and where nothing is asked for none was opened
-abbrev pub leaving : {C : Type 0} → Beginning → (C → Option (List ℕ)) → Receipts C → Ways → Ways
+-- so it is of these files: what belongs there went to them, but for what is lost of it; nothing,
+-- where a job has no answer; and where nothing is asked for none was opened
+abbrev pub leaving : {C : Type 0} → Holding → (C → Closed) → Receipts C → Ways → Ways
     → List SessionEnd → Leaving
-leaving begins received receipts was ports ends =
+leaving holds received receipts was ports ends =
     record {
       ports = ports;
       ends = ends;
-      keeps = λ job response. AreKeptInPart begins received job response.left receipts
+      keeps = λ job response. AreKeptInPart holds received job response.left receipts
           × (response.ports ≡ ports) × (response.ends ≡ ends);
-      cut = λ job. AreKept begins received job None receipts;
+      cut = λ job. AreKept holds received job None receipts;
       none = IsNoneLeft receipts was ports ends;
     }
 

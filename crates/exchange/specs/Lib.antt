@@ -2,8 +2,10 @@ pub mod Apart
 pub mod Contents
 pub mod Clients
 pub mod Drives
+pub mod Records
 pub mod Responses
 pub mod Outputs
 pub mod Notes
 pub mod Outcomes
+pub mod Live
 pub mod Ends

@@ -5,7 +5,7 @@ use Rattle.client_session.specs.Listening.{Told, TellsOfRefusals}
 use Rattle.plan_answers.specs.Refusals.{Printed}
 use Rattle.plan_answers.specs.declared.limits.TheConstants.{REFUSED}
 use Rattle.command_words.specs.declared.jobs.Job.{Job}
-use Rattle.command_words.specs.declared.jobs.Job.TheVariants.{Switch, Drive, C004, Host}
+use Rattle.command_words.specs.declared.jobs.Job.TheVariants.{Switch, Drive, C004, Host, Replay}
 use Rattle.command_words.specs.declared.jobs.Request.{Request}
 use Rattle.refusals.specs.declared.refusal.Refusal.{Refusal}
 use Rattle.refusals.specs.declared.refusal.Refusal.TheVariants.{NoMemory}
@@ -88,10 +88,11 @@ HasJobOverlap holds given job =
     (files : Files (List ℕ)) × (rest : Option (List ℕ))
     × AreContents holds given.input (files_of job) files rest × HasOverlap (text_in files.list)
 
--- the job is `host`
-abbrev pub IsHost : Job → Type 0
-IsHost (Host rack clients workers) = ⊤
-IsHost job = ⊥
+-- the job is `host` or `replay`
+abbrev pub TellsLines : Job → Type 0
+TellsLines (Host rack clients workers) = ⊤
+TellsLines (Replay shape recorded image first) = ⊤
+TellsLines job = ⊥
 
 -- whole lines were told, one after another, each as far as it could be written
 abbrev pub AreToldLines : Option (List ℕ) → Option (List ℕ) → List (List ℕ) → Type 0
@@ -109,7 +110,7 @@ HasToldLines quiet before after =
 -- What was told beside what is replied, where the arguments don't ask for silence, and else
 -- nothing: by `talk` what may be told of some refusals, one after another, behind what stood there;
 -- by `c004` what it drops; by `switch` and `drive` at most a whole line, and that only where
--- transfers overlap; and by `host` some whole lines.
+-- transfers overlap; and by `host` and `replay` some whole lines.
 abbrev pub IsBeside : Type 0 → Request → Option (List ℕ) → Option (List ℕ) → Type 0
 IsBeside overlap request before after =
     (after ≡ before)
@@ -119,7 +120,7 @@ IsBeside overlap request before after =
     × ((told : List ℕ) × Appends before after told))
     ⊎ ((request.is_quiet ≡ false) × SetsSwitches request.job × overlap
     × ((line : List ℕ) × IsWholeLine line × IsToldInPart before after line))
-    ⊎ ((request.is_quiet ≡ false) × IsHost request.job
+    ⊎ ((request.is_quiet ≡ false) × TellsLines request.job
     × ((lines : List (List ℕ)) × AreToldLines before after lines))
 
 -- what was told on standard error of an answer, behind what was told beside it: nothing, or one

@@ -1,13 +1,15 @@
 -- The files to which go the record of sessions and the image that they leave.
-use Rattle.std.specs.Prelude.{◌≡◌, ◌++◌, ℕ, List, [], Option, Some, None, IfSome, MatchOption, option_map, string_bytes, unwrap_or}
-use Rattle.std.specs.Io.KnownBytes.{Appends}
-use Rattle.byte_streams.specs.Writing.{IsCutShort}
+use Rattle.std.specs.Prelude.{◌≡◌, ℕ, Bool, true, false, List, [], Option, Some, None, IfSome, is_some, not, option_map, string_bytes, unwrap_or}
+use Rattle.clap.specs.Words.{Text}
 use Rattle.module_memory.specs.Images.{image_of}
 use Rattle.batch_book.specs.History.{Account}
-use Rattle.book_record.specs.RecordText.{record_text}
+use Rattle.command_words.specs.Jobs.{recorded_in}
 use Rattle.command_words.specs.declared.jobs.Job.{Job}
 use Rattle.command_words.specs.declared.jobs.Job.TheVariants.{Serve, Host, Talk}
+use Rattle.command_words.specs.declared.jobs.SharedRack.{SharedRack}
+use Rattle.exchange.specs.Contents.{Holding}
 use Rattle.exchange.specs.Notes.{IsToldInPart}
+use Rattle.exchange.specs.Records.{Closed, IsAsBegun, IsFrontOf, closed, whole_record}
 use Rattle.exchange.specs.declared.lost.Lost.{Lost}
 use Rattle.exchange.specs.declared.lost.Reason.{Reason}
 use Rattle.exchange.specs.declared.outputs.OutFile.{OutFile}
@@ -33,47 +35,54 @@ IsLostTold lost before after =
     (mid : Option (List ℕ)) × IsWhyTold lost.recorded before mid × IsWhyTold lost.image mid after
 
 -- the name of the file that is open, if one is
-abbrev pub name_of : {F : Type 0} → Option (OutFile F) → Option (List ℕ)
+abbrev pub name_of : {F : Type 0} → Option (OutFile F) → Option Text
 name_of out = option_map (λ out. out.name.now) out
 
 -- the file to which the record of a job's sessions goes, where it goes to one
-abbrev pub record_of : Job → Option (List ℕ)
-record_of (Serve rack scripts workers) = rack.record_out
-record_of (Host rack clients workers) = rack.record_out
-record_of (Talk rack) = rack.record_out
+abbrev pub record_of : Job → Option Text
+record_of (Serve rack scripts workers) = recorded_in rack
+record_of (Host rack clients workers) = recorded_in rack
+record_of (Talk rack) = recorded_in rack
 record_of job = None
 
 -- the file to which the image goes that a job leaves, where it goes to one
-abbrev pub output_of : Job → Option (List ℕ)
+abbrev pub output_of : Job → Option Text
 output_of (Serve rack scripts workers) = rack.image_out
 output_of (Host rack clients workers) = rack.image_out
 output_of (Talk rack) = rack.image_out
 output_of job = None
 
--- what has gone to what has a name before it is opened
-abbrev pub Beginning : Type 0
-Beginning = List ℕ → List ℕ
+-- the record of a job's sessions goes on behind what its file holds
+abbrev pub is_live : Job → Bool
+is_live (Host rack clients workers) = true
+is_live (Talk rack) = true
+is_live job = false
 
--- nothing has gone to the file that is open, if one is
-abbrev pub IsFresh : {F : Type 0} → (F → Option (List ℕ)) → Beginning → Option (OutFile F) → Type 0
-IsFresh contents begins out =
-    IfSome out (λ out. contents out.file ≡ Some (begins out.name.now))
+-- a new file holds nothing
+abbrev pub is_new : Holding
+is_new name held = held ≡ []
 
--- the file that is open, if one is, has this name, and nothing has gone to it
-abbrev pub IsOpened : {F : Type 0} → (F → Option (List ℕ)) → Beginning → Option (List ℕ)
+-- what holds of a file as it is opened: it has these bytes, or is new
+abbrev pub begins_with : Holding → Bool → Holding
+begins_with holds true = holds
+begins_with holds false = is_new
+
+-- the file that is open, if one is, has this name, and holds what it held as it was opened
+abbrev pub IsOpened : {F : Type 0} → (F → Option (List ℕ)) → Holding → Option Text
     → Option (OutFile F) → Type 0
 IsOpened contents begins name out =
-    IfSome out (λ out. (name ≡ Some out.name.now)
-    × (contents out.file ≡ Some (begins out.name.now)))
+    IfSome out (λ out. (name ≡ Some out.name.now) × begins out.name.now out.held.items
+    × (contents out.file ≡ Some out.held.items))
 
-abbrev pub AreOpened : {F : Type 0} → (F → Option (List ℕ)) → Beginning → Option (List ℕ)
-    → Option (List ℕ) → Outputs F → Type 0
+-- the file of the record is open so, and for the image a new file is
+abbrev pub AreOpened : {F : Type 0} → (F → Option (List ℕ)) → Holding → Option Text → Option Text
+    → Outputs F → Type 0
 AreOpened contents begins record_out image_out outputs =
     IsOpened contents begins record_out outputs.recorded
-    × IsOpened contents begins image_out outputs.image
+    × IsOpened contents is_new image_out outputs.image
 
 -- the files that are open have these names, each where there is one
-abbrev pub AreNamed : {F : Type 0} → Option (List ℕ) → Option (List ℕ) → Outputs F → Type 0
+abbrev pub AreNamed : {F : Type 0} → Option Text → Option Text → Outputs F → Type 0
 AreNamed record_out image_out outputs =
     (name_of outputs.recorded ≡ record_out) × (name_of outputs.image ≡ image_out)
 
@@ -85,70 +94,79 @@ none_open = record { recorded = None; image = None }
 abbrev pub none_opened : {C : Type 0} → Receipts C
 none_opened = record { recorded = None; image = None }
 
--- these are left of the files that were open
-abbrev pub AreClosed : {F C : Type 0} → (F → Option (List ℕ)) → (C → Option (List ℕ)) → Outputs F
+-- nothing went to the new file for this name, if one was opened, and it was put nowhere; and no
+-- other was opened
+abbrev pub HasNothingGone : {C : Type 0} → (C → Closed) → Option Text → Option C → Type 0
+HasNothingGone received name receipt =
+    IfSome receipt (λ receipt. (is_some name ≡ true)
+    × (received receipt ≡ closed (Some []) false))
+
+-- these bytes are what a file holds; or a front of them, where it is told why not all stand there
+abbrev pub IsWritten : List ℕ → Option (List ℕ) → Option Reason → Type 0
+IsWritten bytes after None = after ≡ Some bytes
+IsWritten bytes after (Some lost) = IsFrontOf bytes after
+
+-- So it is of the file of this name, and it was put in its place where all stands there, and only
+-- then. Where there is no name, none was opened.
+abbrev pub IsFileWritten : {C : Type 0} → (C → Closed) → Option Text → List ℕ → Option C
+    → Option Reason → Type 0
+IsFileWritten received None bytes receipt lost = (receipt ≡ None) × (lost ≡ None)
+IsFileWritten received (Some name) bytes None lost = ⊥
+IsFileWritten received (Some name) bytes (Some receipt) lost =
+    IsWritten bytes (received receipt).bytes lost
+    × ((received receipt).stands ≡ not (is_some lost))
+
+-- The files of the record and of the image that this book leaves were written and closed, so far as
+-- nothing of them is lost. All of the image stands in its file, or that is as it was.
+abbrev pub AreWritten : {C : Type 0} → (C → Closed) → Option Text → Option Text → List Text
+    → Account → Receipts C → Lost → Type 0
+AreWritten received record_out image_out names left receipts lost =
+    IsFileWritten received record_out (whole_record names left) receipts.recorded lost.recorded
+    × IsFileWritten received image_out (image_of left.machine.store) receipts.image lost.image
+
+-- a new file, if one was opened, was put nowhere
+abbrev pub IsUnput : {C : Type 0} → (C → Closed) → Option C → Type 0
+IsUnput received receipt = IfSome receipt (λ receipt. (received receipt).stands ≡ false)
+
+-- The same of live sessions. Where an entry couldn't be recorded the image is put nowhere: it would
+-- have more than the record tells. Where no book is left, the file of the record is as it was, or
+-- has a front of the record with which sessions begin, and nothing is lost.
+abbrev pub AreLiveKept : {C : Type 0} → Holding → (C → Closed) → SharedRack → List Text
+    → Option Account → Receipts C → Lost → Type 0
+AreLiveKept holds received rack names None receipts lost =
+    IsAsBegun holds received rack.record_out names receipts.recorded
+    × HasNothingGone received rack.image_out receipts.image × (lost ≡ lost_none)
+AreLiveKept holds received rack names (Some left) receipts lost =
+    AreWritten received (recorded_in rack) rack.image_out names left receipts lost
+    × (left.whole ≡ false → IsUnput received receipts.image)
+
+-- The same of scripts. Where no book is left, nothing was written.
+abbrev pub AreScriptsKept : {C : Type 0} → (C → Closed) → Option Text → Option Text
+    → Option Account → Receipts C → Lost → Type 0
+AreScriptsKept received record_out image_out None receipts lost =
+    HasNothingGone received record_out receipts.recorded
+    × HasNothingGone received image_out receipts.image × (lost ≡ lost_none)
+AreScriptsKept received record_out image_out (Some left) receipts lost =
+    AreWritten received record_out image_out [] left receipts lost
+
+-- What went to the files that a job names for its record and for its image, where this is lost of
+-- it: of the book that is left, its record and the image of its rack.
+abbrev pub AreKeptBut : {C : Type 0} → Holding → (C → Closed) → Job → Option Account → Receipts C
+    → Lost → Type 0
+AreKeptBut holds received (Host rack clients workers) left receipts lost =
+    AreLiveKept holds received rack clients left receipts lost
+AreKeptBut holds received (Talk rack) left receipts lost =
+    AreLiveKept holds received rack [] left receipts lost
+AreKeptBut holds received job left receipts lost =
+    AreScriptsKept received (record_of job) (output_of job) left receipts lost
+
+-- all of it went there
+abbrev pub AreKept : {C : Type 0} → Holding → (C → Closed) → Job → Option Account → Receipts C
+    → Type 0
+AreKept holds received job left receipts = AreKeptBut holds received job left receipts lost_none
+
+-- all of it, or fronts
+abbrev pub AreKeptInPart : {C : Type 0} → Holding → (C → Closed) → Job → Option Account
     → Receipts C → Type 0
-AreClosed contents received outputs receipts =
-    (option_map received receipts.recorded
-    ≡ option_map (λ out. contents out.file) outputs.recorded)
-    × (option_map received receipts.image ≡ option_map (λ out. contents out.file) outputs.image)
-
--- behind what had gone to the file of this name before, these bytes went there, and no others;
--- where there is no name, no file was opened
-abbrev pub HaveGone : {C : Type 0} → Beginning → (C → Option (List ℕ)) → Option (List ℕ) → List ℕ
-    → Option C → Type 0
-HaveGone begins received None bytes receipt = receipt ≡ None
-HaveGone begins received (Some name) bytes None = ⊥
-HaveGone begins received (Some name) bytes (Some receipt) =
-    received receipt ≡ Some (begins name ++ bytes)
-
--- nothing went to the file of this name, if it was opened; and no other was
-abbrev pub HasNothingGone : {C : Type 0} → Beginning → (C → Option (List ℕ)) → Option (List ℕ)
-    → Option C → Type 0
-HasNothingGone begins received name receipt =
-    IfSome receipt (λ receipt. MatchOption name ⊥ (λ name. received receipt ≡ Some (begins name)))
-
--- What went to the files that a job names for its record and for its image: of the book that is
--- left, its history and the image of its rack; and where none is left, nothing.
-abbrev pub AreKept : {C : Type 0} → Beginning → (C → Option (List ℕ)) → Job → Option Account
-    → Receipts C → Type 0
-AreKept begins received job None receipts =
-    HasNothingGone begins received (record_of job) receipts.recorded
-    × HasNothingGone begins received (output_of job) receipts.image
-AreKept begins received job (Some left) receipts =
-    HaveGone begins received (record_of job) (record_text left.history) receipts.recorded
-    × HaveGone begins received (output_of job) (image_of left.machine.store) receipts.image
-
--- the same of a front of these bytes, which may be all
-abbrev pub HaveGoneInPart : {C : Type 0} → Beginning → (C → Option (List ℕ)) → Option (List ℕ)
-    → List ℕ → Option C → Type 0
-HaveGoneInPart begins received name bytes receipt =
-    (front rest : List ℕ) × (bytes ≡ front ++ rest) × HaveGone begins received name front receipt
-
--- fronts of what belongs there went to these files; where no book is left, nothing
-abbrev pub AreKeptInPart : {C : Type 0} → Beginning → (C → Option (List ℕ)) → Job
-    → Option Account → Receipts C → Type 0
-AreKeptInPart begins received job None receipts = AreKept begins received job None receipts
-AreKeptInPart begins received job (Some left) receipts =
-    HaveGoneInPart begins received (record_of job) (record_text left.history) receipts.recorded
-    × HaveGoneInPart begins received (output_of job) (image_of left.machine.store) receipts.image
-
--- these bytes were written to the file for them, if there is one; or a front of them, where it is
--- told why not all
-abbrev pub IsFileWritten : {F : Type 0} → (F → Option (List ℕ)) → List ℕ → Option (OutFile F)
-    → Option (OutFile F) → Option Reason → Type 0
-IsFileWritten contents bytes None new lost = (new ≡ None) × (lost ≡ None)
-IsFileWritten contents bytes (Some old) None lost = ⊥
-IsFileWritten contents bytes (Some old) (Some new) None =
-    Appends (contents old.file) (contents new.file) bytes
-IsFileWritten contents bytes (Some old) (Some new) (Some lost) =
-    IsCutShort (contents old.file) (contents new.file) bytes
-
--- Where a book is left, the record of its history was written, and then the image of its rack.
--- Where none is left, the files are as they were.
-abbrev pub AreOutputsWritten : {F : Type 0} → (F → Option (List ℕ)) → Option Account → Outputs F
-    → Outputs F → Lost → Type 0
-AreOutputsWritten contents None old new lost = (new ≡ old) × (lost ≡ lost_none)
-AreOutputsWritten contents (Some left) old new lost =
-    IsFileWritten contents (record_text left.history) old.recorded new.recorded lost.recorded
-    × IsFileWritten contents (image_of left.machine.store) old.image new.image lost.image
+AreKeptInPart holds received job left receipts =
+    (lost : Lost) × AreKeptBut holds received job left receipts lost

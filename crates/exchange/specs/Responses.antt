@@ -1,5 +1,5 @@
 -- What the program prints for a job.
-use Rattle.std.specs.Prelude.{◌≡◌, ◌⊎◌, ◌++◌, ℕ, List, [], Option, None, ⊤, unwrap_or}
+use Rattle.std.specs.Prelude.{◌≡◌, ◌⊎◌, ◌++◌, ℕ, Bool, List, [], Option, Some, None, ⊤, is_some, unwrap_or}
 use Rattle.std.specs.Io.KnownBytes.{Consumes, IsAtEnd}
 use Rattle.batch.specs.Extent.{widest}
 use Rattle.plan_answers.specs.Answers.{IsPlanned, IsChecked}
@@ -12,16 +12,21 @@ use Rattle.plan_answers.specs.Schedules.{source_map}
 use Rattle.plan_answers.specs.declared.source.Source.{Source}
 use Rattle.crossbar.specs.Switch.{idle}
 use Rattle.batch_book.specs.History.{Account}
-use Rattle.session_answers.specs.HostAnswers.{KnownClients, SessionEnd, IsHostAnswer}
+use Rattle.module_memory.specs.Store.{Store}
+use Rattle.clap.specs.Words.{Text}
+use Rattle.session_answers.specs.HostAnswers.{KnownClients, SessionEnd, AreHosted}
 use Rattle.switch_end.specs.End.{EndState}
 use Rattle.switch_end.specs.Answering.{HasRun}
-use Rattle.plan_answers.specs.Refusals.{Printed}
+use Rattle.plan_answers.specs.Refusals.{Printed, Refuses}
 use Rattle.session_answers.specs.Serving.{IsServeAnswer}
-use Rattle.session_answers.specs.Talking.{IsTalkAnswer, IsTalkInVain}
-use Rattle.replay_answers.specs.Replays.{IsReplayPrinted}
+use Rattle.session_answers.specs.Talking.{HasTalked, IsUntouched}
+use Rattle.rack_answers.specs.Openings.{IsRackOf, IsWrongRack}
+use Rattle.record_replay.specs.declared.fault.RecordFault.{RecordFault}
+use Rattle.replay_answers.specs.Replays.{IsReplayPrinted, of_record}
 use Rattle.plan_answers.specs.declared.limits.TheConstants.{DONE, REFUSED}
 use Rattle.command_words.specs.Jobs.{Files, file_uses, files_of}
 use Rattle.command_words.specs.declared.jobs.Job.{Job}
+use Rattle.command_words.specs.declared.jobs.SharedRack.{SharedRack}
 use Rattle.command_words.specs.declared.jobs.Job.TheVariants.{Plan, Check, Draw, Switch, Orders, Drive, C004, Direct, Apply, Run, Serve, Host, Talk, Replay}
 use Rattle.refusals.specs.declared.refusal.Refusal.{Refusal}
 use Rattle.refusals.specs.declared.refusal.Refusal.TheVariants as refusal
@@ -29,6 +34,7 @@ use Rattle.refusals.specs.Refusals.{refusal_line}
 use Rattle.exchange.specs.Apart.{AreSeenApart, Leading}
 use Rattle.exchange.specs.Contents.{AreContents, Holding}
 use Rattle.drive_answers.specs.Ways.{Ways}
+use Rattle.exchange.specs.Records.{BeginsFor, IsWrongFor}
 use Rattle.exchange.specs.Drives.{IsDriveBy, IsDriveCut, names_in}
 use Rattle.exchange.specs.declared.unanswered.Unanswered.{Unanswered}
 use Rattle.exchange.specs.declared.unanswered.Unanswered.TheVariants.{File, NoMemory}
@@ -52,10 +58,6 @@ pub record Response : Type 0 where
   pub ports : Ways
   pub ends : List SessionEnd
 
--- an answer alone: nothing is told before it, and no book is left
-abbrev pub IsAlone : Response → Type 0
-IsAlone response = (response.told ≡ []) × (response.left ≡ None)
-
 -- the bytes of a file; none where none was read
 abbrev pub text_in : Option (List ℕ) → List ℕ
 text_in file = unwrap_or file []
@@ -77,65 +79,119 @@ IsC004By input replies end =
 abbrev pub IsC004Cut : Option (List ℕ) → List ℕ → Type 0
 IsC004Cut input told = (rest : List ℕ) × (end : Printed) × IsC004By input (told ++ rest) end
 
+-- the answer to a job whose files are all that it asks for, and contain this
+abbrev pub IsTextAnswer : Job → Files (List ℕ) → Printed → Type 0
+IsTextAnswer (Plan file planning workers) files end =
+    IsPlanned planning widest (text_in files.list) end
+IsTextAnswer (Check batch schedule) files end =
+    IsChecked widest (text_in files.list) (text_in files.other) end
+IsTextAnswer (Draw batch schedule settings) files end =
+    IsDrawn widest (text_in files.list) (text_in files.other) settings end
+IsTextAnswer (Switch batch source wiring workers) files end =
+    IsOn (λ board. IsSwitched (source_in source (text_in files.other)) board
+    (text_in files.list)) files.wiring end
+IsTextAnswer (Orders batch source of_module workers) files end =
+    IsOrdered (source_in source (text_in files.other)) of_module (text_in files.list) end
+IsTextAnswer (Direct moves) files end = IsDirected (text_in files.list) end
+IsTextAnswer (Apply shape batch image workers) files end =
+    IsApplied shape (text_in files.list) (text_in files.other) end
+IsTextAnswer (Run shape batch source image workers) files end =
+    IsRunAnswer (source_in source (text_in files.other)) shape (text_in files.list) files.image end
+IsTextAnswer (Replay shape recorded image first) files end =
+    IsReplayPrinted shape (text_in files.list) files.image first end
+IsTextAnswer job files end = ⊥
+
+-- how sessions go on from one book to another, what is so where none begins, and why none may where
+-- rack and record are right
+pub record Sessions : Type 1 where
+  pub served : Account → Account → Type 0
+  pub unserved : Type 0
+  pub may_refuse : Refusal → Type 0
+
+-- why no session begins: the rack is wrong, or else its record
+abbrev pub IsWrongStart : Holding → SharedRack → List Text → Option (List ℕ) → Refusal → Type 0
+IsWrongStart holds rack names image refusal =
+    IsWrongRack rack.shape image refusal
+    ⊎ ((opening : Store) × IsRackOf rack.shape image opening
+    × (fault : RecordFault) × IsWrongFor holds rack.record_out opening names fault
+    × (refusal ≡ of_record fault))
+
+-- Sessions on the rack of the shape and the image, by clients of these names, began with the book
+-- of their record, and leave this book; or there is a refusal, and none is left.
+abbrev pub IsLiveAnswer : Holding → SharedRack → List Text → Option (List ℕ) → Sessions → Printed
+    → Option Account → Type 0
+IsLiveAnswer holds rack names image sessions end None =
+    sessions.unserved × ((refusal : Refusal) × Refuses refusal end
+    × (IsWrongStart holds rack names image refusal
+    ⊎ ((opening : Store) × IsRackOf rack.shape image opening × sessions.may_refuse refusal)))
+IsLiveAnswer holds rack names image sessions end (Some book) =
+    (opening : Store) × IsRackOf rack.shape image opening
+    × (was : Account) × BeginsFor holds rack.record_out opening names was
+    × sessions.served was book
+
+-- an entry of such a record may be lost
+abbrev pub loses : SharedRack → Bool
+loses rack = is_some rack.record_out
+
+-- the sessions of a host's clients, which ended so
+abbrev pub hosting : SharedRack → KnownClients → List SessionEnd → Printed → Sessions
+hosting rack clients ends end =
+    record {
+      served = λ was book. AreHosted (loses rack) was clients ends end book;
+      unserved = ends ≡ [];
+      may_refuse = λ why. why ≡ refusal.Threads;
+    }
+
+-- the session of one client, which was told this
+abbrev pub talking : SharedRack → Option (List ℕ) → Option (List ℕ) → List ℕ → Printed → Sessions
+talking rack before after told end =
+    record {
+      served = λ was book. HasTalked (loses rack) was before after told end book;
+      unserved = IsUntouched before after told;
+      may_refuse = λ why. ⊥;
+    }
+
+-- the answer to a job that has no sessions, where this is left of standard input, and the ports are
+-- left so; it was told this before
+abbrev pub IsPlainAnswer : Job → Files (List ℕ) → Option (List ℕ) → (was opens : Ways) → List ℕ
+    → Printed → Type 0
+IsPlainAnswer (Drive batch port port_b source wiring first goes_on workers) files input was opens
+    told end =
+    IsDriveBy (source_in source (text_in files.other)) (text_in files.list) files.wiring first
+    goes_on (names_in port port_b) input was opens told end
+IsPlainAnswer C004 files input was opens told end = IsC004By input told end
+IsPlainAnswer job files input was opens told end = (told ≡ []) × IsTextAnswer job files end
+
 -- the answer to a job whose files contain this
-abbrev pub IsAnswerTo : Job → Files (List ℕ) → Given → Response → Type 0
-IsAnswerTo (Plan file planning workers) files given response =
-    IsAlone response × IsPlanned planning widest (text_in files.list) response.end
-IsAnswerTo (Check batch schedule) files given response =
-    IsAlone response
-    × IsChecked widest (text_in files.list) (text_in files.other) response.end
-IsAnswerTo (Draw batch schedule settings) files given response =
-    IsAlone response
-    × IsDrawn widest (text_in files.list) (text_in files.other) settings response.end
-IsAnswerTo (Switch batch source wiring workers) files given response =
-    IsAlone response
-    × IsOn (λ board. IsSwitched (source_in source (text_in files.other)) board
-    (text_in files.list)) files.wiring response.end
-IsAnswerTo (Orders batch source of_module workers) files given response =
-    IsAlone response
-    × IsOrdered (source_in source (text_in files.other)) of_module (text_in files.list) response.end
-IsAnswerTo (Drive batch port port_b source wiring first goes_on workers) files given response =
-    (response.left ≡ None)
-    × IsDriveBy (source_in source (text_in files.other)) (text_in files.list) files.wiring first goes_on
-    (names_in port port_b) given.input given.ports response.ports response.told response.end
-IsAnswerTo C004 files given response =
-    (response.left ≡ None) × IsC004By given.input response.told response.end
-IsAnswerTo (Direct moves) files given response =
-    IsAlone response × IsDirected (text_in files.list) response.end
-IsAnswerTo (Apply shape batch image workers) files given response =
-    IsAlone response
-    × IsApplied shape (text_in files.list) (text_in files.other) response.end
-IsAnswerTo (Run shape batch source image workers) files given response =
-    IsAlone response
-    × IsRunAnswer (source_in source (text_in files.other)) shape (text_in files.list) files.image
-    response.end
-IsAnswerTo (Serve rack scripts workers) files given response =
+abbrev pub IsAnswerTo : Holding → Job → Files (List ℕ) → Given → Response → Type 0
+IsAnswerTo holds (Serve rack scripts workers) files given response =
     (response.told ≡ [])
     × IsServeAnswer rack.shape files.image files.scripts response.end response.left
-IsAnswerTo (Host rack clients workers) files given response =
+IsAnswerTo holds (Host rack clients workers) files given response =
     (response.told ≡ [])
-    × IsHostAnswer rack.shape files.image (given.clients clients) response.ends response.end
-    response.left
-IsAnswerTo (Talk rack) files given response =
+    × IsLiveAnswer holds rack clients files.image
+    (hosting rack (given.clients clients) response.ends response.end) response.end response.left
+IsAnswerTo holds (Talk rack) files given response =
     (after : Option (List ℕ))
-    × IsTalkAnswer rack.shape files.image given.input after response.told response.end response.left
-IsAnswerTo (Replay shape recorded image) files given response =
-    IsAlone response × IsReplayPrinted shape (text_in files.list) files.image response.end
+    × IsLiveAnswer holds rack [] files.image
+    (talking rack given.input after response.told response.end) response.end response.left
+IsAnswerTo holds job files given response =
+    (response.left ≡ None)
+    × IsPlainAnswer job files given.input given.ports response.ports response.told response.end
 
 -- what was told before an answer where not all of it could be written
-abbrev pub IsToldCut : Job → Files (List ℕ) → Given → Ways → List ℕ → Type 0
-IsToldCut (Drive batch port port_b source wiring first goes_on workers) files given ports told =
-    IsDriveCut (source_in source (text_in files.other)) (text_in files.list) files.wiring first goes_on
-    (names_in port port_b) given.input given.ports ports told
-IsToldCut C004 files given ports told = IsC004Cut given.input told
-IsToldCut job files given ports told = ⊥
+abbrev pub IsToldCut : Job → Files (List ℕ) → Option (List ℕ) → (was opens : Ways) → List ℕ
+    → Type 0
+IsToldCut (Drive batch port port_b source wiring first goes_on workers) files input was opens told =
+    IsDriveCut (source_in source (text_in files.other)) (text_in files.list) files.wiring first
+    goes_on (names_in port port_b) input was opens told
+IsToldCut C004 files input was opens told = IsC004Cut input told
+IsToldCut job files input was opens told = ⊥
 
--- what was told before it was found that there is no memory for an answer: what a session of `talk`
--- is told; else nothing
-abbrev pub IsToldInVain : Job → Files (List ℕ) → Given → List ℕ → Type 0
-IsToldInVain (Talk rack) files given told =
-    (after : Option (List ℕ)) × IsTalkInVain rack.shape files.image given.input after told
-IsToldInVain job files given told = told ≡ []
+-- only `drive` asks for ports
+abbrev pub KeepsPorts : Job → (was opens : Ways) → Type 0
+KeepsPorts (Drive batch port port_b source wiring first goes_on workers) was opens = ⊤
+KeepsPorts job was opens = opens ≡ was
 
 -- only `drive` asks for ports, and only `host` has live clients
 abbrev pub LeavesRest : Job → Ways → Ways → List SessionEnd → Type 0
@@ -152,12 +208,19 @@ IsOfTexts (Host rack clients workers) = ⊥
 IsOfTexts (Talk rack) = ⊥
 IsOfTexts job = ⊤
 
+-- a job has no sessions
+abbrev pub HasNoSessions : Job → Type 0
+HasNoSessions (Serve rack scripts workers) = ⊥
+HasNoSessions (Host rack clients workers) = ⊥
+HasNoSessions (Talk rack) = ⊥
+HasNoSessions job = ⊤
+
 -- the answer to a job, where its files have been read
 abbrev pub IsJobAnswer : Holding → Given → Job → Response → Type 0
 IsJobAnswer holds given job response =
     (files : Files (List ℕ)) × (rest : Option (List ℕ))
     × AreContents holds given.input (files_of job) files rest
-    × IsAnswerTo job files (given_by rest given.ports given.clients) response
+    × IsAnswerTo holds job files (given_by rest given.ports given.clients) response
     × LeavesRest job given.ports response.ports response.ends
 
 -- the same of what was told where not all of it could be written
@@ -165,16 +228,8 @@ abbrev pub IsJobCut : Holding → Given → Job → Ways → List SessionEnd →
 IsJobCut holds given job ports ends told =
     (files : Files (List ℕ)) × (rest : Option (List ℕ))
     × AreContents holds given.input (files_of job) files rest
-    × IsToldCut job files (given_by rest given.ports given.clients) ports told
+    × IsToldCut job files rest given.ports ports told
     × LeavesRest job given.ports ports ends
-
--- what was told where a job has no answer: nothing, or so much behind its files
-abbrev pub IsJobInVain : Holding → Given → Job → List ℕ → Type 0
-IsJobInVain holds given job told =
-    (told ≡ [])
-    ⊎ ((files : Files (List ℕ)) × (rest : Option (List ℕ))
-    × AreContents holds given.input (files_of job) files rest
-    × IsToldInVain job files (given_by rest given.ports given.clients) told)
 
 -- the job is `talk`
 abbrev pub IsTalk : Job → Type 0
@@ -199,11 +254,11 @@ abbrev pub named_by : Holding → Leading → Named
 named_by holds leads = record { holds = holds; leads = leads }
 
 -- The answer to a job, and then what it writes was seen to be apart from what it reads; or why
--- there is none, behind what was told before, and then no port was opened, no end of a session is
--- known, and no book is left.
+-- there is none, and then nothing was told, no port was opened, no end of a session is known, and
+-- no book is left.
 abbrev pub IsResponseTo : Named → Given → Job → Response → Type 0
 IsResponseTo named given job response =
     (AreSeenApart named.leads (file_uses job) × IsJobAnswer named.holds given job response)
-    ⊎ (IsJobInVain named.holds given job response.told × (response.ports ≡ given.ports)
+    ⊎ ((response.told ≡ []) × (response.ports ≡ given.ports)
     × (response.ends ≡ []) × (response.left ≡ None)
     × ((why : Unanswered) × (response.end ≡ unanswered why)))

@@ -53,7 +53,7 @@ impl Places for HostRuntime {
         let name = if name == "-" { "/dev/stdin" } else { name };
         match look(self, name)? {
             Some(metadata) => Ok(Some(place_of(&metadata, String::new(self.alloc())))),
-            None => place_unmade(self, name),
+            None => place_in_folder(self, followed(self, name)?.as_path()),
         }
     }
 }
@@ -61,16 +61,16 @@ impl Places for HostRuntime {
 /// How many links are followed, one behind another.
 const MAX_LINKS: usize = 40;
 
-/// The place of a file that isn't there yet: its name in its folder. A link leads to what it names.
-fn place_unmade(rt: &HostRuntime, name: &str) -> Result<Option<Place>, AllocError> {
+/// Where a name leads, by links too.
+pub(crate) fn followed(rt: &HostRuntime, name: &str) -> Result<PathBuf, AllocError> {
     let mut path = PathBuf::from_str(rt.alloc(), name)?;
     for _ in 0..MAX_LINKS {
         match target_of(rt, path.as_path())? {
             Some(target) => path = target,
-            None => return place_in_folder(rt, path.as_path()),
+            None => break,
         }
     }
-    Ok(None)
+    Ok(path)
 }
 
 /// What a link names, where there is a link.
@@ -86,7 +86,7 @@ fn target_of(rt: &HostRuntime, path: Path<'_>) -> Result<Option<PathBuf>, AllocE
     }
 }
 
-/// The place that a name in a folder is.
+/// The place of a file that isn't there yet: its name in its folder.
 fn place_in_folder(rt: &HostRuntime, path: Path<'_>) -> Result<Option<Place>, AllocError> {
     let (Some(folder), Some(name)) = (path.parent(), path.file_name()) else {
         return Ok(None);

@@ -1,6 +1,6 @@
 //! The command `drive`.
 
-ghost use Rattle.std.specs.Prelude.{◌≡◌, [], List, ℕ, IfOk, IfErr, None};
+ghost use Rattle.std.specs.Prelude.{◌≡◌, [], List, ℕ, IfOk, IfErr};
 ghost use Rattle.std.specs.Io.KnownBytes.{Appends};
 ghost use Rattle.drive_answers.specs.Ways.{names_of};
 ghost use Rattle.drive_answers.specs.declared.fault.DriveFault.TheVariants.{NoMemory, Untold};
@@ -90,8 +90,8 @@ pub(crate) fn drive<R: AllocGlobal + Threads + Sync, P: Ports, I: Read, O: Write
     out: &mut O,
 ) -> Result<Found, NoAnswer>
     ensures answer { HasTold (O.contents out.old) (O.contents out.new)
-        (λ told found. let files = contents_in contents.now in (found.book ≡ None)
-        × IsDriveBy (source_in source.now (text_in files.other)) (text_in files.list) files.wiring
+        (λ told found. let files = contents_in contents.now in
+        IsDriveBy (source_in source.now (text_in files.other)) (text_in files.list) files.wiring
         first goes_on (names_of names.entry) (I.remaining input.old) (P.ways ports.old)
         (P.ways ports.new) told found.answer)
         (λ told. (told ≡ []) × (P.ways ports.new ≡ P.ways ports.old))

@@ -1,21 +1,21 @@
 //! What comes of a job.
 
-ghost use Rattle.std.specs.Prelude.{◌≡◌, None};
+ghost use Rattle.std.specs.Prelude.{◌≡◌};
 
-use batch_book::Book;
 use plan_answers::Answer;
 use record_replay::RecordError;
-use replay_answers::Replayed;
-use session_answers::Closing;
+use replay_answers::{Replayed, Torn};
 
 /// The answer to a job, and what is known beside it.
 #[derive(Drop)]
 pub(crate) struct Found {
     pub(crate) answer: Answer,
-    /// The book that sessions leave, where they leave one.
-    pub(crate) book: Option<Book>,
     /// Where a record is wrong, and what is due there, where it is refused.
     pub(crate) error: Option<RecordError>,
+    /// What the file of that held, where sessions were to go on with it.
+    pub(crate) held: Option<Vec<u8>>,
+    /// How far a record goes that hasn't ended.
+    pub(crate) torn: Option<Torn>,
     /// What stopped a drive, where something did, or why a port can't be opened.
     pub(crate) lack: Option<Lack>,
 }
@@ -31,34 +31,29 @@ pub(crate) struct Lack {
 impl Found {
     /// An answer alone.
     pub(crate) fn alone(answer: Answer) -> Found
-        ensures { (result.answer ≡ answer) × (result.book ≡ None) }
+        ensures { result.answer ≡ answer }
     {
         Found {
             answer,
-            book: None,
             error: None,
+            held: None,
+            torn: None,
             lack: None,
         }
     }
 
     /// What a replay answers.
     pub(crate) fn replayed(replayed: Replayed) -> Found
-        ensures { (result.answer ≡ replayed.answer) × (result.book ≡ None) }
+        ensures { result.answer ≡ replayed.answer }
     {
-        let Replayed { answer, error } = replayed;
+        let Replayed {
+            answer,
+            error,
+            torn,
+        } = replayed;
         Found {
             error,
-            ..Found::alone(answer)
-        }
-    }
-
-    /// What sessions leave.
-    pub(crate) fn closed(closing: Closing) -> Found
-        ensures { (result.answer ≡ closing.answer) × (result.book ≡ closing.book) }
-    {
-        let Closing { answer, book } = closing;
-        Found {
-            book,
+            torn,
             ..Found::alone(answer)
         }
     }

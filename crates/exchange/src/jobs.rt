@@ -3,45 +3,41 @@
 ghost use Rattle.std.specs.Prelude.{◌≡◌, [], List, ℕ, IfErr, IfOk, IsOk, OnErr, OnOk, Option, None, length};
 ghost use Rattle.std.specs.Io.KnownBytes.{Appends};
 ghost use Rattle.batch_book.specs.History.{Account};
-ghost use Rattle.client_session.specs.Listening.{TellsOfRefusals};
 ghost use Rattle.plan_answers.specs.Lent.{bytes_of};
-ghost use Rattle.command_words.specs.Jobs.{CanBeServed, IsWithinLimits, file_uses, files_of};
-ghost use Rattle.session_answers.specs.HostAnswers.{IsHostAnswer, SessionEnd};
-ghost use Rattle.session_answers.specs.Serving.{IsServeAnswer};
-ghost use Rattle.session_answers.specs.Talking.{IsTalkAnswer, IsTalkInVain};
+ghost use Rattle.command_words.specs.Jobs.{IsWithinLimits, file_uses, files_of};
 ghost use Rattle.exchange.specs.Apart.{AreSeenApart};
-ghost use Rattle.exchange.specs.Contents.{contents_in};
+ghost use Rattle.exchange.specs.Contents.{AreContents, contents_in};
 ghost use Rattle.exchange.specs.Clients.{clients_by, ends_of};
-ghost use Rattle.exchange.specs.Responses.{Given, IsJobAnswer, IsAnswerTo, IsC004By, IsC004Cut, IsJobCut, IsJobInVain, IsOfTexts, IsToldCut, IsToldInVain, LeavesRest, given_by, text_in as the_text};
+ghost use Rattle.exchange.specs.Responses.{IsAnswerTo, IsC004By, IsC004Cut, IsJobAnswer, HasNoSessions, IsJobCut, IsOfTexts, IsPlainAnswer, IsTextAnswer, IsToldCut, KeepsPorts, LeavesRest, given_by, text_in as the_text};
 ghost use Rattle.exchange.specs.Notes.{HasJobOverlap, HasOverlap, IsBeside};
-ghost use Rattle.exchange.specs.Outputs.{AreKept, AreKeptInPart, AreOutputsWritten, lost_none};
-ghost use Rattle.exchange.specs.Outcomes.{HasNote, HasTold, IsNoAnswer, IsNever, IsNothing, IsRefused, IsUnanswered, response_of};
+ghost use Rattle.exchange.specs.Outputs.{AreKept, AreKeptBut, AreNamed, AreOpened, begins_with, is_live, lost_none, output_of, record_of};
+ghost use Rattle.exchange.specs.Outcomes.{HasNote, HasTold, IsNoAnswer, IsNothing, IsRefused, IsUnanswered, response_of};
 
 use crate::beside::Beside;
-use crate::client_streams::{ClientFiles, FileStreams};
 use crate::contents::{Contents, read_contents, slice_of, source_with, text_of};
 use crate::driving::drive;
-use crate::found::{Found, Lack};
+use crate::found::Found;
+use crate::live::Kept;
+use crate::lost::Lost;
 use crate::notes::{Answered, NoAnswer, finished, reason_line, tell_note};
 use crate::outputs::{Outputs, Receipts, close_outputs, open_apart};
 use crate::overlaps::{tell_overlap, tell_overlap_beside};
 use crate::peers::Peers;
+use crate::sessions::{host, serve, talk};
 use crate::system::{Runtime, System};
+use crate::torn::tell_torn;
 use crate::unopened::{no_lacks, tell_lacks};
 use crate::unwritten::Unwritten;
-use client_session::{Listener, NoListener};
-use command_words::{Job, Request, SharedRack, Text};
-use contract_data::PassedBytes;
+use client_session::NoListener;
+use command_words::{Job, Request, Text};
 use drive_answers::{PortNames, Ports};
 use exchange_limits::WorkerCount;
 use plan_answers::{Answer, answer_check, answer_direct, answer_draw, answer_plan};
 use rack_answers::{answer_apply, answer_orders, answer_run, answer_switch};
 use replay_answers::answer_replay;
-use session_answers::{Ending, answer_host, answer_serve, answer_talk};
 use std::alloc::{AllocError, Global};
 use std::io;
 use std::io::{Read, Write};
-use std::sync::{OnceLock, Wait};
 use std::thread::Threads;
 use switch_end::{EndFault, SwitchEnd, answer_commands};
 
@@ -55,10 +51,10 @@ pub(crate) struct Ended<C> {
 /// told its replies on `out` before, and a line on `err` beside each that is a refusal, but for
 /// lack of memory. `drive` tells its settings on `out` before, and `c004` writes its answers to
 /// enquiries there, and tells on `err` what it drops. `switch` and `drive` tell on `err` where two
-/// transfers write one block, and `host` which files of clients couldn't be opened. It is looked
-/// first where names lead. Then the files for the record of sessions and for the image that they
-/// leave are opened, before any other is read, and all that are read are read before anything is
-/// answered.
+/// transfers write one block, `host` which files of clients couldn't be opened, and `replay` how
+/// far a record goes that hasn't ended. It is looked first where names lead. Then the files for the
+/// record of sessions and for the image that they leave are opened, before any other is read, and
+/// all that are read are read before anything is answered.
 pub(crate) fn answer_to<R: Runtime, S: System, P: Ports, I: Read, O: Write, E: Write>(
     rt: &R,
     system: &S,
@@ -81,124 +77,210 @@ pub(crate) fn answer_to<R: Runtime, S: System, P: Ports, I: Read, O: Write, E: W
           ports = P.ways peers.new.ports;
           ends = ends_of peers.new.endings.items;
         })
-        × (done.lost ≡ lost_none → AreKept (S.begins system.now) S.received request.now.job left
-        result.receipts)
-        × AreKeptInPart (S.begins system.now) S.received request.now.job left result.receipts)
-        (IsUnanswered (IsJobInVain (S.holds system.now) (given_by (I.remaining input.old)
-        (P.ways peers.old.ports) (clients_by (S.had system.now))) request.now.job)
-        (P.ways peers.old.ports) (P.ways peers.new.ports)
+        × AreKeptBut (S.holds system.now) S.received request.now.job left result.receipts
+        done.lost)
+        (IsUnanswered (P.ways peers.old.ports) (P.ways peers.new.ports)
         (ends_of peers.new.endings.items))
         (IsJobCut (S.holds system.now) (given_by (I.remaining input.old) (P.ways peers.old.ports)
         (clients_by (S.had system.now))) request.now.job (P.ways peers.new.ports)
         (ends_of peers.new.endings.items)) result.end }
     ensures note { HasNote result.end }
-    ensures beside { IsBeside (HasJobOverlap (S.holds system.now) (given_by (I.remaining input.old)
-        (P.ways peers.old.ports) (clients_by (S.had system.now))) request.now.job) request.now
+    ensures beside { IsBeside (HasJobOverlap (S.holds system.now)
+        (given_by (I.remaining input.old) (P.ways peers.old.ports)
+        (clients_by (S.had system.now))) request.now.job) request.now
         (E.contents err.old) (E.contents err.new) }
     ensures apart { OnOk result.end
         (AreSeenApart (S.leads system.now) (file_uses request.now.job)) }
     ensures unkept { OnErr result.end
-        (AreKept (S.begins system.now) S.received request.now.job None result.receipts) }
+        (AreKept (S.holds system.now) S.received request.now.job None result.receipts) }
 {
-    let (mut outputs, opened) = open_apart(system, rt.alloc(), &request.job);
-    let end = answer_opened(
-        rt,
-        system,
-        peers,
-        request,
-        opened,
-        &mut outputs,
-        input,
-        out,
-        err,
+    let (alloc, job) = (rt.alloc(), &request.job);
+    let (outputs, opened) = open_apart(system, alloc, job);
+    let contents = match read_opened(system, alloc, job, opened, input) {
+        Ok(contents) => contents,
+        Err(missed) => {
+            return Ended {
+                end: Err(missed),
+                receipts: close_outputs(system, job, outputs),
+            };
+        }
+    };
+    let Kept {
+        end,
+        receipts,
+        lost,
+    } = answer_job(
+        rt, system, peers, request, &contents, outputs, input, out, err,
     );
     Ended {
-        end,
-        receipts: close_outputs(system, outputs),
+        end: finished(alloc, end, lost, job, &contents),
+        receipts,
     }
 }
 
-/// The same, with the files that could be opened to be written, or why they aren't open.
-fn answer_opened<R: Runtime, S: System, P: Ports, I: Read, O: Write, E: Write>(
-    rt: &R,
+/// What the files of a job contain, where those that it writes are open.
+fn read_opened<S: System, I: Read>(
     system: &S,
-    peers: &mut Peers<P>,
-    request: &Request,
+    alloc: Global,
+    job: &Job,
     opened: Result<(), NoAnswer>,
-    outputs: &mut Outputs<'_, S::Stream>,
     input: &mut I,
-    out: &mut O,
-    err: &mut E,
-) -> Result<Answered, NoAnswer>
-    requires limits { IsWithinLimits request.now.job }
-    requires unserved { peers.old.endings.items ≡ [] }
-    requires note { IfErr opened (λ missed. IsRefused missed) }
-    ensures response { HasTold (O.contents out.old) (O.contents out.new)
-        (λ told done. (left : Option Account) × IsJobAnswer (S.holds system.now)
-        (given_by (I.remaining input.old) (P.ways peers.old.ports)
-        (clients_by (S.had system.now))) request.now.job
-        (record {
-          told = told;
-          end = done.answer;
-          left = left;
-          ports = P.ways peers.new.ports;
-          ends = ends_of peers.new.endings.items;
-        })
-        × AreOutputsWritten S.Stream.contents left outputs.old outputs.new done.lost)
-        (IsUnanswered (IsJobInVain (S.holds system.now) (given_by (I.remaining input.old)
-        (P.ways peers.old.ports) (clients_by (S.had system.now))) request.now.job)
-        (P.ways peers.old.ports) (P.ways peers.new.ports)
-        (ends_of peers.new.endings.items))
-        (IsJobCut (S.holds system.now) (given_by (I.remaining input.old) (P.ways peers.old.ports)
-        (clients_by (S.had system.now))) request.now.job (P.ways peers.new.ports)
-        (ends_of peers.new.endings.items)) result }
-    ensures note { HasNote result }
-    ensures beside { IsBeside (HasJobOverlap (S.holds system.now) (given_by (I.remaining input.old)
-        (P.ways peers.old.ports) (clients_by (S.had system.now))) request.now.job) request.now
-        (E.contents err.old) (E.contents err.new) }
-    ensures unkept { OnErr result (outputs.new ≡ outputs.old) }
+) -> Result<Contents, NoAnswer>
+    requires { IfErr opened (λ missed. IsRefused missed) }
+    ensures contents { IfOk result (λ contents. AreContents (S.holds system.now)
+        (I.remaining input.old) (files_of job.now) (contents_in contents)
+        (I.remaining input.new)) }
+    ensures scripts { IfOk result (λ contents. length (contents_in contents).scripts
+        ≡ length (files_of job.now).scripts) }
+    ensures note { IfErr result (λ missed. IsRefused missed) }
     ensures opened { OnOk result (IsOk opened) }
 {
     opened?;
-    let job = &request.job;
-    let contents = read_contents(system, rt.alloc(), job.files(), input)?;
-    let found = answer_job(rt, system, peers, request, &contents, input, out, err)?;
-    Ok(finished(system, rt.alloc(), found, job, &contents, outputs))
+    read_contents(system, alloc, job.files(), input)
 }
 
-/// The answer to a job whose files contain this.
+/// What comes of a job by whose sessions nothing is written.
+fn without_sessions<S: System>(
+    system: &S,
+    job: &Job,
+    end: Result<Found, NoAnswer>,
+    outputs: Outputs<'_, S::Stream>,
+) -> Kept<S::Receipt>
+    requires { AreOpened S.Stream.contents (begins_with (S.holds system.now) (is_live job.now))
+        (record_of job.now) (output_of job.now) outputs }
+    ensures end { result.end ≡ end }
+    ensures lost { result.lost ≡ lost_none }
+    ensures unkept { AreKept (S.holds system.now) S.received job.now None result.receipts }
+{
+    Kept {
+        end,
+        receipts: close_outputs(system, job, outputs),
+        lost: Lost::none(),
+    }
+}
+
+/// What comes of a job whose files contain this, and of the files that are open for it.
 fn answer_job<R: Runtime, S: System, P: Ports, I: Read, O: Write, E: Write>(
     rt: &R,
     system: &S,
     peers: &mut Peers<P>,
     request: &Request,
     contents: &Contents,
+    outputs: Outputs<'_, S::Stream>,
     input: &mut I,
     out: &mut O,
     err: &mut E,
-) -> Result<Found, NoAnswer>
+) -> Kept<S::Receipt>
     requires limits { IsWithinLimits request.now.job }
     requires unserved { peers.old.endings.items ≡ [] }
     requires scripts { length (contents_in contents.now).scripts
         ≡ length (files_of request.now.job).scripts }
+    requires opened { AreOpened S.Stream.contents
+        (begins_with (S.holds system.now) (is_live request.now.job)) (record_of request.now.job)
+        (output_of request.now.job) outputs }
+    requires named { AreNamed (record_of request.now.job) (output_of request.now.job) outputs }
     ensures response { HasTold (O.contents out.old) (O.contents out.new)
-        (λ told found. IsAnswerTo request.now.job (contents_in contents.now)
+        (λ told found. (left : Option Account) × IsAnswerTo (S.holds system.now) request.now.job
+        (contents_in contents.now)
         (given_by (I.remaining input.old) (P.ways peers.old.ports)
         (clients_by (S.had system.now)))
-        (response_of told found (P.ways peers.new.ports)
-        (ends_of peers.new.endings.items)))
-        (IsUnanswered (IsToldInVain request.now.job (contents_in contents.now)
-        (given_by (I.remaining input.old) (P.ways peers.old.ports) (clients_by (S.had system.now))))
-        (P.ways peers.old.ports) (P.ways peers.new.ports)
+        (response_of told found left (P.ways peers.new.ports)
         (ends_of peers.new.endings.items))
-        (IsToldCut request.now.job (contents_in contents.now) (given_by (I.remaining input.old)
-        (P.ways peers.old.ports) (clients_by (S.had system.now))) (P.ways peers.new.ports)) result }
-    ensures note { IfErr result (λ missed. IsNoAnswer missed) }
+        × AreKeptBut (S.holds system.now) S.received request.now.job left result.receipts
+        result.lost)
+        (IsUnanswered (P.ways peers.old.ports) (P.ways peers.new.ports)
+        (ends_of peers.new.endings.items))
+        (IsToldCut request.now.job (contents_in contents.now) (I.remaining input.old)
+        (P.ways peers.old.ports) (P.ways peers.new.ports)) result.end }
+    ensures note { IfErr result.end (λ missed. IsNoAnswer missed) }
     ensures beside { IsBeside (HasOverlap (the_text (contents_in contents.now).list)) request.now
         (E.contents err.old) (E.contents err.new) }
     ensures rest { LeavesRest request.now.job (P.ways peers.old.ports) (P.ways peers.new.ports)
         (ends_of peers.new.endings.items) }
+    ensures unkept { OnErr result.end
+        (AreKept (S.holds system.now) S.received request.now.job None result.receipts) }
 {
+    let (alloc, job) = (rt.alloc(), &request.job);
+    match job {
+        Job::Serve { rack, workers, .. } => serve(rt, system, rack, *workers, contents, outputs),
+        Job::Host {
+            rack,
+            clients,
+            workers,
+        } => {
+            let clients = clients.as_slice();
+            let lacks = match no_lacks(alloc, clients.len()) {
+                Ok(lacks) => lacks,
+                Err(error) => return without_sessions(
+                    system,
+                    job,
+                    Err(NoAnswer::from(error)),
+                    outputs,
+                ),
+            };
+            let lacks = lacks.as_slice();
+            let kept = host(
+                rt,
+                system,
+                rack,
+                clients,
+                *workers,
+                contents,
+                lacks,
+                outputs,
+                &mut peers.endings,
+            );
+            tell_lacks(alloc, lacks, request.is_quiet, err);
+            kept
+        }
+        Job::Talk { rack } if request.is_quiet => talk(
+            rt,
+            system,
+            rack,
+            contents,
+            outputs,
+            input,
+            out,
+            &mut NoListener,
+        ),
+        Job::Talk { rack } => {
+            let mut beside = Beside::new(alloc, rack.shape.as_str(), err);
+            let kept = talk(rt, system, rack, contents, outputs, input, out, &mut beside);
+            // It does nothing when the program runs: the proof reads from it what `err` holds.
+            beside.into_stream();
+            kept
+        }
+        _ => {
+            let end = answer_other(rt, &mut peers.ports, request, contents, input, out, err);
+            without_sessions(system, job, end, outputs)
+        }
+    }
+}
+
+/// The answer to a job that has no sessions, and whose files contain this. It waits for nobody but
+/// for a line of `input`.
+fn answer_other<R: AllocGlobal + Threads + Sync, P: Ports, I: Read, O: Write, E: Write>(
+    rt: &R,
+    ports: &mut P,
+    request: &Request,
+    contents: &Contents,
+    input: &mut I,
+    out: &mut O,
+    err: &mut E,
+) -> Result<Found, NoAnswer>
+    requires { HasNoSessions request.now.job }
+    ensures response { HasTold (O.contents out.old) (O.contents out.new)
+        (λ told found. IsPlainAnswer request.now.job (contents_in contents.now)
+        (I.remaining input.old) (P.ways ports.old) (P.ways ports.new) told found.answer)
+        (λ told. (told ≡ []) × (P.ways ports.new ≡ P.ways ports.old))
+        (IsToldCut request.now.job (contents_in contents.now) (I.remaining input.old)
+        (P.ways ports.old) (P.ways ports.new)) result }
+    ensures note { IfErr result (λ missed. IsNoAnswer missed) }
+    ensures beside { IsBeside (HasOverlap (the_text (contents_in contents.now).list)) request.now
+        (E.contents err.old) (E.contents err.new) }
+    ensures ports { KeepsPorts request.now.job (P.ways ports.old) (P.ways ports.new) }
+{
+    let alloc = rt.alloc();
     match &request.job {
         Job::Drive {
             port,
@@ -213,63 +295,26 @@ fn answer_job<R: Runtime, S: System, P: Ports, I: Read, O: Write, E: Write>(
                 port: port.as_str(),
                 port_b: text_in(port_b),
             };
-            tell_overlap(rt.alloc(), request, contents, err);
+            tell_overlap(alloc, request, contents, err);
             drive(
-                rt,
-                *workers,
-                source,
-                contents,
-                *first,
-                names,
-                *goes_on,
-                &mut peers.ports,
-                input,
-                out,
+                rt, *workers, source, contents, *first, names, *goes_on, ports, input, out,
             )
         }
-        Job::C004 if request.is_quiet => c004(rt.alloc(), input, out, &mut io::sink()),
-        Job::C004 => c004(rt.alloc(), input, out, err),
-        Job::Serve { rack, workers, .. } => serve(rt, rack, *workers, contents),
-        Job::Host {
-            rack,
-            clients,
-            workers,
-        } => {
-            let clients = clients.as_slice();
-            let lacks = no_lacks(rt.alloc(), clients.len())?;
-            let lacks = lacks.as_slice();
-            let end = host(
-                rt,
-                system,
-                rack,
-                clients,
-                *workers,
-                contents,
-                lacks,
-                &mut peers.endings,
-            );
-            tell_lacks(rt.alloc(), lacks, request.is_quiet, err);
-            end
-        }
-        Job::Talk { rack } if request.is_quiet => {
-            talk(rt, rack, contents, input, out, &mut NoListener)
-        }
-        Job::Talk { rack } => {
-            let mut beside = Beside::new(rt.alloc(), rack.shape.as_str(), err);
-            let end = talk(rt, rack, contents, input, out, &mut beside);
-            // It does nothing when the program runs: the proof reads from it what `err` holds.
-            beside.into_stream();
-            end
-        }
+        Job::C004 if request.is_quiet => c004(alloc, input, out, &mut io::sink()),
+        Job::C004 => c004(alloc, input, out, err),
         Job::Switch { .. } => {
             let found = answer_texts(rt, &request.job, contents)?;
-            tell_overlap_beside(rt.alloc(), request, contents, &found.answer, err);
+            tell_overlap_beside(alloc, request, contents, &found.answer, err);
+            Ok(found)
+        }
+        Job::Replay { recorded, .. } => {
+            let found = answer_texts(rt, &request.job, contents)?;
+            tell_torn(alloc, recorded, found.torn, request.is_quiet, err);
             Ok(found)
         }
         job => Ok(answer_texts(rt, job, contents)?),
     }
 }
-
 /// The answer to a job whose files are all that it asks for. It waits for nobody.
 fn answer_texts<R: AllocGlobal + Threads + Sync>(
     rt: &R,
@@ -277,9 +322,8 @@ fn answer_texts<R: AllocGlobal + Threads + Sync>(
     contents: &Contents,
 ) -> Result<Found, AllocError>
     requires { IsOfTexts job.now }
-    ensures { (given : Given) → (ends : List SessionEnd) → IfOk result (λ found.
-        IsAnswerTo job.now (contents_in contents.now) given
-        (response_of [] found given.ports ends)) }
+    ensures { IfOk result (λ found.
+        IsTextAnswer job.now (contents_in contents.now) found.answer) }
 {
     let alloc = rt.alloc();
     let (list, other) = (text_of(&contents.list), text_of(&contents.other));
@@ -332,10 +376,10 @@ fn answer_texts<R: AllocGlobal + Threads + Sync>(
             let answer = answer_run(rt, alloc, shape, list, source, image, *workers)?;
             Ok(Found::alone(answer))
         }
-        Job::Replay { shape, .. } => {
-            let shape = shape.as_str().as_bytes();
+        Job::Replay { shape, first, .. } => {
+            let shape = bytes_in(shape);
             let workers = WorkerCount::ONE;
-            let replayed = answer_replay(rt, alloc, shape, list, image, workers)?;
+            let replayed = answer_replay(rt, alloc, shape, list, image, *first, workers)?;
             Ok(Found::replayed(replayed))
         }
         _ => unreachable!(),
@@ -371,7 +415,7 @@ fn c004<I: Read, O: Write, E: Write>(
     err: &mut E,
 ) -> Result<Found, NoAnswer>
     ensures answer { HasTold (O.contents out.old) (O.contents out.new)
-        (λ told found. (found.book ≡ None) × IsC004By (I.remaining input.old) told found.answer)
+        (λ told found. IsC004By (I.remaining input.old) told found.answer)
         IsNothing (IsC004Cut (I.remaining input.old)) result }
     ensures note { IfErr result (λ missed. IsNoAnswer missed) }
     ensures beside { (told : List ℕ) × Appends (E.contents err.old) (E.contents err.new) told }
@@ -385,82 +429,4 @@ fn c004<I: Read, O: Write, E: Write>(
         }
         Err(EndFault::Write(error)) => Err(NoAnswer::Unwritten(Unwritten::from(error))),
     }
-}
-
-/// The answer of `exchange serve SHAPE SCRIPT..`.
-fn serve<R: AllocGlobal + Threads + Wait + Sync>(
-    rt: &R,
-    rack: &SharedRack,
-    workers: WorkerCount,
-    contents: &Contents,
-) -> Result<Found, NoAnswer>
-    requires { CanBeServed (contents_in contents.now).scripts }
-    ensures answer { IfOk result (λ found. let files = contents_in contents.now in
-        IsServeAnswer rack.now.shape files.image files.scripts found.answer found.book) }
-    ensures note { IfErr result (λ missed. IsRefused missed) }
-{
-    let shape = rack.shape.as_str().as_bytes();
-    let image = slice_of(&contents.image);
-    let scripts = contents.scripts.as_slice();
-    let closing = answer_serve(rt, rt.alloc(), shape, image, workers, scripts)?;
-    Ok(Found::closed(closing))
-}
-
-/// The answer of `exchange host SHAPE CLIENT..`, behind the sessions of the clients, of whose ends
-/// it is told. Which of their files couldn't be opened is kept.
-fn host<R: AllocGlobal + Threads + Wait + Sync, S: ClientFiles>(
-    rt: &R,
-    system: &S,
-    rack: &SharedRack,
-    clients: &[Text],
-    workers: WorkerCount,
-    contents: &Contents,
-    unopened: &[OnceLock<Lack>],
-    endings: &mut Vec<Ending<PassedBytes>>,
-) -> Result<Found, NoAnswer>
-    requires { CanBeServed clients.now }
-    ensures answer { IfOk result (λ found. IsHostAnswer rack.now.shape
-        (contents_in contents.now).image
-        (clients_by (S.had system.now) clients.now)
-        (ends_of endings.new.items) found.answer found.book) }
-    ensures none { OnErr result (endings.new ≡ endings.old) }
-    ensures note { IfErr result (λ missed. IsRefused missed) }
-{
-    let shape = rack.shape.as_str().as_bytes();
-    let image = slice_of(&contents.image);
-    let alloc = rt.alloc();
-    let streams = FileStreams {
-        system,
-        alloc,
-        clients,
-        unopened,
-    };
-    let hosted = answer_host(rt, alloc, shape, image, workers, &streams)?;
-    *endings = hosted.endings;
-    Ok(Found::closed(hosted.closing))
-}
-
-/// The answer of `exchange talk SHAPE`, behind a session over `input` and `out`, of whose refusals
-/// the listener is told.
-fn talk<R: AllocGlobal + Threads + Wait + Sync, I: Read, O: Write, H: Listener>(
-    rt: &R,
-    rack: &SharedRack,
-    contents: &Contents,
-    input: &mut I,
-    out: &mut O,
-    listener: &mut H,
-) -> Result<Found, NoAnswer>
-    ensures answer { HasTold (O.contents out.old) (O.contents out.new)
-        (λ told found. (after : Option (List ℕ)) × IsTalkAnswer rack.now.shape
-        (contents_in contents.now).image (I.remaining input.old) after told found.answer
-        found.book)
-        (λ told. (after : Option (List ℕ)) × IsTalkInVain rack.now.shape
-        (contents_in contents.now).image (I.remaining input.old) after told) IsNever result }
-    ensures note { IfErr result (λ missed. IsRefused missed) }
-    ensures beside { TellsOfRefusals H.may_tell (H.told listener.old) (H.told listener.new) }
-{
-    let shape = rack.shape.as_str().as_bytes();
-    let image = slice_of(&contents.image);
-    let closing = answer_talk(rt, rt.alloc(), shape, image, input, out, listener)?;
-    Ok(Found::closed(closing))
 }

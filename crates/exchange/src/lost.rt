@@ -1,6 +1,6 @@
 //! What couldn't be written of what sessions leave.
 
-ghost use Rattle.std.specs.Prelude.{◌≡◌, ◌↔◌, IfSome, IsTrue, string_bytes};
+ghost use Rattle.std.specs.Prelude.{◌≡◌, ◌↔◌, IfSome, IsTrue, is_ok, is_some, not, string_bytes};
 ghost use Rattle.exchange.specs.Notes.{IsWholeLine};
 ghost use Rattle.exchange.specs.Outputs.{IsLostTold, IsWhyTold, lost_none};
 
@@ -33,6 +33,17 @@ impl Reason {
     {
         Reason {
             line: reason_line(alloc, name.as_str(), error),
+        }
+    }
+
+    /// The same where that failed; where no name is known, there is nothing to tell.
+    pub(crate) fn why(alloc: Global, name: Option<&Text>, end: &io::Result<()>) -> Option<Reason>
+        ensures { is_some result ≡ not (is_ok end.now) }
+    {
+        match (end, name) {
+            (Ok(()), _) => None,
+            (Err(error), Some(name)) => Some(Reason::of(alloc, name, error)),
+            (Err(_), None) => Some(Reason { line: None }),
         }
     }
 }

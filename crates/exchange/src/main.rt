@@ -9,14 +9,15 @@
 //! `specs/Responses.antt`). Where it ends with status 3, a front of that stands there, or of what is
 //! told before it, and fronts of what sessions leave went to the files for that (`IsCutFor`). Else
 //! what sessions leave went to the files that `--record` and `--image-out` name, and nothing else
-//! did (`AreKept` of `specs/Outputs.antt`). What a live client was told went to the file of its name
-//! (`clients_by` of `specs/Clients.antt`). No port was opened but by `drive`, once, by the names of
-//! its words (`Ways` of `drive_answers`).
-//! Which bytes a file holds, where names lead, and what had gone to a file before, the
-//! [`System`](system::System) tells: of the real one contracts know none but the bytes of standard
-//! input. Beside what it prints for a job, standard error gets at most a front of one text of a
-//! refusal, and what is told beside `talk`, `c004` and `host`, and beside `switch` and `drive`
-//! where transfers overlap (`IsNoted` of `specs/Notes.antt`).
+//! did (`AreKept` of `specs/Outputs.antt`). The record of live sessions goes on from what its file
+//! held (`BeginsAs` of `specs/Records.antt`), and has each entry before its reply is told. What a
+//! live client was told went to the file of its name (`clients_by` of `specs/Clients.antt`). No
+//! port was opened but by `drive`, once, by the names of its words (`Ways` of `drive_answers`).
+//! Which bytes a file holds, and where names lead, the [`System`](system::System) tells: of the
+//! real one contracts know none but the bytes of standard input. Beside what it prints for a job,
+//! standard error gets at most a front of one text of a refusal, and what is told beside `talk`,
+//! `c004`, `host` and `replay`, and beside `switch` and `drive` where transfers overlap (`IsNoted`
+//! of `specs/Notes.antt`).
 #![tactic(auto)]
 
 mod apart;
@@ -28,16 +29,21 @@ mod found;
 mod host_system;
 mod jobs;
 mod limits;
+mod live;
 mod lost;
 mod notes;
+mod output_file;
 mod outputs;
 mod overlaps;
 mod peers;
 mod ports;
+mod recording;
 mod responding;
 mod sent_file;
+mod sessions;
 mod system;
 mod texts;
+mod torn;
 mod unanswered;
 mod unopened;
 mod unwritten;

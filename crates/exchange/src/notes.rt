@@ -1,16 +1,13 @@
 //! What is told beside an answer.
 
-ghost use Rattle.std.specs.Prelude.{◌≡◌, IfSome, IsTrue, option_map, string_bytes};
+ghost use Rattle.std.specs.Prelude.{◌≡◌, IfErr, IfSome, IsTrue, option_map, string_bytes};
 ghost use Rattle.plan_answers.specs.declared.limits.TheConstants.{REFUSED as FAILED};
-ghost use Rattle.exchange.specs.Outputs.{AreOutputsWritten};
-ghost use Rattle.exchange.specs.Notes.{IsToldInPart, IsNoteOn, IsToldUnless, IsWholeLine, SaysStop};
-ghost use Rattle.exchange.specs.Outcomes.{IsRefused};
+ghost use Rattle.exchange.specs.Notes.{IsNoteOn, IsToldInPart, IsToldUnless, IsWholeLine, SaysStop};
+ghost use Rattle.exchange.specs.Outcomes.{HasNote, IsFinished, IsNoAnswer, IsRefused};
 
 use crate::contents::Contents;
 use crate::found::{Found, Lack};
 use crate::lost::Lost;
-use crate::outputs::{Outputs, keep};
-use crate::system::System;
 use crate::texts::texts_of;
 use crate::unanswered::Unanswered;
 use crate::unwritten::Unwritten;
@@ -59,30 +56,27 @@ impl From<AllocError> for NoAnswer {
     }
 }
 
-/// The answer to a job whose files contain this, with what is told beside it where it is a refusal.
-/// The record of sessions, and the image of the rack that they leave, go to the files for them.
-pub(crate) fn finished<S: System>(
-    system: &S,
+/// The answer to a job whose files contain this, with what is told beside it where it is a refusal,
+/// and what is lost of what its sessions leave.
+pub(crate) fn finished(
     alloc: Global,
-    found: Found,
+    end: Result<Found, NoAnswer>,
+    lost: Lost,
     job: &Job,
     contents: &Contents,
-    outputs: &mut Outputs<'_, S::Stream>,
-) -> Answered
-    ensures answer { result.answer ≡ found.answer }
-    ensures note { IsNoteOn result.answer (option_map (λ line. string_bytes line) result.note) }
-    ensures kept { AreOutputsWritten S.Stream.contents found.book outputs.old outputs.new result.lost }
+) -> Result<Answered, NoAnswer>
+    requires { IfErr end (λ missed. IsNoAnswer missed) }
+    ensures answer { IsFinished end lost result }
+    ensures note { HasNote result }
 {
-    let Found {
-        answer,
-        book,
-        error,
-        lack,
-    } = found;
-    let texts = texts_of(job, contents, &answer, &error);
-    let note = note_on(alloc, &answer, texts, &lack);
-    let lost = keep(system, alloc, &book, outputs);
-    Answered { answer, note, lost }
+    let found = end?;
+    let texts = texts_of(job, contents, &found);
+    let note = note_on(alloc, &found.answer, texts, &found.lack);
+    Ok(Answered {
+        answer: found.answer,
+        note,
+        lost,
+    })
 }
 
 /// What is told beside an answer to these texts, or of what lacks where a port can't be opened or a

@@ -1,31 +1,29 @@
 //! The files to which go the record of sessions and the image that they leave.
 
-ghost use Rattle.std.specs.Prelude.{◌≡◌, IfErr, IfOk, None, OnErr, OnOk, option_map};
-ghost use Rattle.std.specs.Io.KnownBytes.{Appends};
-ghost use Rattle.byte_streams.specs.Writing.{IsCutShort};
-ghost use Rattle.module_memory.specs.Images.{image_of};
-ghost use Rattle.book_record.specs.RecordText.{record_text};
+ghost use Rattle.std.specs.Prelude.{◌≡◌, ℕ, List, [], Some, IfErr, IfOk, None, OnErr, OnOk, false, is_ok, option_map};
+ghost use Rattle.command_words.specs.Jobs.{file_uses as the_uses, recorded_in};
 ghost use Rattle.exchange.specs.Apart.{AreSeenApart};
-ghost use Rattle.exchange.specs.Outputs.{AreClosed, AreNamed, AreOpened, AreOutputsWritten, IsFileWritten, IsFresh, name_of, none_open, none_opened, output_of, record_of};
-ghost use Rattle.command_words.specs.Jobs.{file_uses as the_uses};
 ghost use Rattle.exchange.specs.Outcomes.{IsRefused};
+ghost use Rattle.exchange.specs.Outputs.{AreKept, AreNamed, AreOpened, IsFileWritten, IsOpened, IsUnput, begins_with, is_live as live, is_new, name_of, none_open, none_opened, output_of, record_of};
+ghost use Rattle.exchange.specs.Records.{IsWrittenBy, closed};
 
 use crate::apart::look_apart;
-use crate::lost::{Lost, Reason};
+use crate::lost::Reason;
 use crate::notes::{NoAnswer, unread};
 use crate::system::System;
-use batch_book::Book;
-use book_record::write_record;
 use byte_streams::write_bytes;
-use command_words::{Job, Text};
-use module_memory::Rack;
-use std::alloc::Global;
+use command_words::{Job, SharedRack, Text};
+use std::alloc::{AllocError, Global};
 use std::io;
+use std::io::Write;
 
-/// A file that is open to be written, and its name.
+/// A file that is open to be written.
 pub(crate) struct OutFile<'a, F> {
+    /// Its name, or that of the place where it goes.
     pub(crate) name: &'a Text,
     pub(crate) file: F,
+    /// What it held as it was opened.
+    pub(crate) held: Vec<u8>,
 }
 
 /// The files to which go what sessions leave, where they are named.
@@ -69,22 +67,78 @@ impl<C> Receipts<C> {
     }
 }
 
-/// Opens a file to be written, where one is named.
-fn open_file<'a, S: System>(
+/// Opens a new file for this name.
+fn open_new<'a, S: System>(
+    system: &S,
+    alloc: Global,
+    name: &'a Text,
+) -> Result<OutFile<'a, S::Stream>, NoAnswer>
+    ensures opened { IfOk result (λ out.
+        IsOpened S.Stream.contents is_new (Some name.entry.now) (Some out)) }
+    ensures note { IfErr result (λ missed. IsRefused missed) }
+{
+    match system.open_new(name.as_str()) {
+        Ok(file) => Ok(OutFile {
+            name,
+            file,
+            held: Vec::new(alloc),
+        }),
+        Err(error) => Err(unread(alloc, name, &error)),
+    }
+}
+
+/// Opens the file of this name to go on with it.
+fn open_held<'a, S: System>(
+    system: &S,
+    alloc: Global,
+    name: &'a Text,
+    syncs: bool,
+) -> Result<OutFile<'a, S::Stream>, NoAnswer>
+    ensures opened { IfOk result (λ out.
+        IsOpened S.Stream.contents (S.holds system.now) (Some name.entry.now) (Some out)) }
+    ensures note { IfErr result (λ missed. IsRefused missed) }
+{
+    match system.open_record(name.as_str(), syncs) {
+        Ok((file, held)) => Ok(OutFile { name, file, held }),
+        Err(error) => Err(unread(alloc, name, &error)),
+    }
+}
+
+/// Opens the file for a record, where one is named: that of live sessions to go on with it.
+fn open_record<'a, S: System>(
+    system: &S,
+    alloc: Global,
+    rack: &'a SharedRack,
+    is_live: bool,
+) -> Result<Option<OutFile<'a, S::Stream>>, NoAnswer>
+    ensures named { IfOk result (λ out. name_of out ≡ recorded_in rack.entry.now) }
+    ensures opened { IfOk result (IsOpened S.Stream.contents
+        (begins_with (S.holds system.now) is_live) (recorded_in rack.entry.now)) }
+    ensures note { IfErr result (λ missed. IsRefused missed) }
+{
+    let Some(record) = &rack.record_out else {
+        return Ok(None);
+    };
+    if is_live {
+        Ok(Some(open_held(system, alloc, &record.name, record.syncs)?))
+    } else {
+        Ok(Some(open_new(system, alloc, &record.name)?))
+    }
+}
+
+/// Opens a new file for an image, where its file is named.
+fn open_image<'a, S: System>(
     system: &S,
     alloc: Global,
     name: &'a Option<Text>,
 ) -> Result<Option<OutFile<'a, S::Stream>>, NoAnswer>
     ensures named { IfOk result (λ out. name_of out ≡ name.entry.now) }
-    ensures fresh { IfOk result (IsFresh S.Stream.contents (S.begins system.now)) }
+    ensures opened { IfOk result (IsOpened S.Stream.contents is_new name.entry.now) }
     ensures note { IfErr result (λ missed. IsRefused missed) }
 {
-    let Some(name) = name else {
-        return Ok(None);
-    };
-    match system.open_output(name.as_str()) {
-        Ok(file) => Ok(Some(OutFile { name, file })),
-        Err(error) => Err(unread(alloc, name, &error)),
+    match name {
+        Some(name) => Ok(Some(open_new(system, alloc, name)?)),
+        None => Ok(None),
     }
 }
 
@@ -93,19 +147,20 @@ fn open_file<'a, S: System>(
 fn open_both<'a, S: System>(
     system: &S,
     alloc: Global,
-    record_out: &'a Option<Text>,
-    image_out: &'a Option<Text>,
+    rack: &'a SharedRack,
+    is_live: bool,
 ) -> (Outputs<'a, S::Stream>, Result<(), NoAnswer>)
-    ensures opened { AreOpened S.Stream.contents (S.begins system.now) record_out.entry.now
-        image_out.entry.now result.0 }
-    ensures named { OnOk result.1 (AreNamed record_out.entry.now image_out.entry.now result.0) }
+    ensures opened { AreOpened S.Stream.contents (begins_with (S.holds system.now) is_live)
+        (recorded_in rack.entry.now) rack.entry.now.image_out result.0 }
+    ensures named { OnOk result.1
+        (AreNamed (recorded_in rack.entry.now) rack.entry.now.image_out result.0) }
     ensures note { IfErr result.1 (λ missed. IsRefused missed) }
 {
-    let recorded = match open_file(system, alloc, record_out) {
+    let recorded = match open_record(system, alloc, rack, is_live) {
         Ok(recorded) => recorded,
         Err(missed) => return (Outputs::none(), Err(missed)),
     };
-    match open_file(system, alloc, image_out) {
+    match open_image(system, alloc, &rack.image_out) {
         Ok(image) => (Outputs { recorded, image }, Ok(())),
         Err(missed) => {
             let outputs = Outputs {
@@ -124,16 +179,16 @@ fn open_outputs<'a, S: System>(
     alloc: Global,
     job: &'a Job,
 ) -> (Outputs<'a, S::Stream>, Result<(), NoAnswer>)
-    ensures opened { AreOpened S.Stream.contents (S.begins system.now) (record_of job.entry.now)
+    ensures opened { AreOpened S.Stream.contents
+        (begins_with (S.holds system.now) (live job.entry.now)) (record_of job.entry.now)
         (output_of job.entry.now) result.0 }
     ensures named { OnOk result.1
         (AreNamed (record_of job.entry.now) (output_of job.entry.now) result.0) }
     ensures note { IfErr result.1 (λ missed. IsRefused missed) }
 {
     match job {
-        Job::Serve { rack, .. } | Job::Host { rack, .. } | Job::Talk { rack } => {
-            open_both(system, alloc, &rack.record_out, &rack.image_out)
-        }
+        Job::Serve { rack, .. } => open_both(system, alloc, rack, false),
+        Job::Host { rack, .. } | Job::Talk { rack } => open_both(system, alloc, rack, true),
         _ => (Outputs::none(), Ok(())),
     }
 }
@@ -145,7 +200,8 @@ pub(crate) fn open_apart<'a, S: System>(
     alloc: Global,
     job: &'a Job,
 ) -> (Outputs<'a, S::Stream>, Result<(), NoAnswer>)
-    ensures opened { AreOpened S.Stream.contents (S.begins system.now) (record_of job.entry.now)
+    ensures opened { AreOpened S.Stream.contents
+        (begins_with (S.holds system.now) (live job.entry.now)) (record_of job.entry.now)
         (output_of job.entry.now) result.0 }
     ensures named { OnOk result.1
         (AreNamed (record_of job.entry.now) (output_of job.entry.now) result.0) }
@@ -158,23 +214,46 @@ pub(crate) fn open_apart<'a, S: System>(
     }
 }
 
-/// Closes a file, where one is open.
-fn close_file<S: System>(system: &S, out: Option<OutFile<'_, S::Stream>>) -> Option<S::Receipt>
+/// Closes a stream, where there is one.
+pub(crate) fn close_stream<S: System>(system: &S, stream: Option<S::Stream>) -> Option<S::Receipt>
     ensures { option_map S.received result
-        ≡ option_map (λ out. S.Stream.contents out.file) out.entry }
+        ≡ option_map (λ file. closed (S.Stream.contents file) false) stream }
 {
-    match out {
-        Some(OutFile { name: _, file }) => Some(system.close(file)),
+    match stream {
+        Some(file) => Some(system.close(file)),
         None => None,
     }
 }
 
-/// Closes the files that are open.
+/// Closes a file, where one is open.
+pub(crate) fn close_file<S: System>(
+    system: &S,
+    out: Option<OutFile<'_, S::Stream>>,
+) -> Option<S::Receipt>
+    ensures { option_map S.received result
+        ≡ option_map (λ out. closed (S.Stream.contents out.file) false) out.entry }
+{
+    match out {
+        Some(
+            OutFile {
+                name: _,
+                file,
+                held: _,
+            },
+        ) => Some(system.close(file)),
+        None => None,
+    }
+}
+
+/// Closes the files that are open, where nothing went to them.
 pub(crate) fn close_outputs<S: System>(
     system: &S,
+    job: &Job,
     outputs: Outputs<'_, S::Stream>,
 ) -> Receipts<S::Receipt>
-    ensures { AreClosed S.Stream.contents S.received outputs.entry result }
+    requires { AreOpened S.Stream.contents (begins_with (S.holds system.now) (live job.now))
+        (record_of job.now) (output_of job.now) outputs }
+    ensures { AreKept (S.holds system.now) S.received job.now None result }
 {
     let Outputs { recorded, image } = outputs;
     Receipts {
@@ -183,98 +262,77 @@ pub(crate) fn close_outputs<S: System>(
     }
 }
 
-/// Writes bytes to a file, which is emptied first where it isn't a device or a pipe.
-fn write_over<S: System>(system: &S, file: &mut S::Stream, bytes: &[u8]) -> io::Result<()>
-    ensures written { OnOk result
-        (Appends (S.Stream.contents file.old) (S.Stream.contents file.new) bytes.now) }
-    ensures cut { OnErr result
-        (IsCutShort (S.Stream.contents file.old) (S.Stream.contents file.new) bytes.now) }
-{
-    system.empty(file)?;
-    write_bytes(file, bytes)
-}
-
-/// Writes the record of a book.
-fn write_history<S: System>(
+/// Closes a file, and puts it in its place where all was written; or says why not all stands there.
+pub(crate) fn put_written<S: System>(
     system: &S,
-    alloc: Global,
-    book: &Book,
-    file: &mut S::Stream,
-) -> io::Result<()>
-    ensures written { OnOk result
-        (Appends (S.Stream.contents file.old) (S.Stream.contents file.new)
-        (record_text book.now.history)) }
-    ensures cut { OnErr result
-        (IsCutShort (S.Stream.contents file.old) (S.Stream.contents file.new)
-        (record_text book.now.history)) }
+    file: S::Stream,
+    end: io::Result<()>,
+) -> (S::Receipt, io::Result<()>)
+    ensures received { S.received result.0
+        ≡ closed (S.Stream.contents file) (is_ok result.1) }
+    ensures cut { OnErr end (is_ok result.1 ≡ false) }
 {
-    let text = write_record(alloc, book)?;
-    write_over(system, file, text.as_slice())
-}
-
-/// Writes the image of a rack.
-fn write_image<S: System>(system: &S, rack: &Rack, file: &mut S::Stream) -> io::Result<()>
-    ensures written { OnOk result
-        (Appends (S.Stream.contents file.old) (S.Stream.contents file.new) (image_of rack.now)) }
-    ensures cut { OnErr result
-        (IsCutShort (S.Stream.contents file.old) (S.Stream.contents file.new) (image_of rack.now)) }
-{
-    let image = rack.image()?;
-    write_over(system, file, image.as_slice())
-}
-
-/// Writes the record of a book to the file for it, where there is one. Where that fails, a front of
-/// it stands there, and it is given what there is to tell.
-fn keep_record<S: System>(
-    system: &S,
-    alloc: Global,
-    book: &Book,
-    out: &mut Option<OutFile<'_, S::Stream>>,
-) -> Option<Reason>
-    ensures { IsFileWritten S.Stream.contents (record_text book.now.history) out.old out.new result }
-{
-    let Some(out) = out else {
-        return None;
-    };
-    match write_history(system, alloc, book, &mut out.file) {
-        Ok(()) => None,
-        Err(error) => Some(Reason::of(alloc, out.name, &error)),
+    match end {
+        Ok(()) => system.put(file),
+        Err(error) => (system.close(file), Err(error)),
     }
 }
 
-/// The same of the image of a book's rack.
-fn keep_image<S: System>(
-    system: &S,
-    alloc: Global,
-    book: &Book,
-    out: &mut Option<OutFile<'_, S::Stream>>,
-) -> Option<Reason>
-    ensures { IsFileWritten S.Stream.contents (image_of book.now.machine.store) out.old out.new result }
+/// Writes these bytes to a file that is empty. Where they couldn't be had, nothing is written.
+fn write_new<W: Write>(file: &mut W, bytes: Result<Vec<u8>, AllocError>) -> io::Result<()>
+    requires { W.contents file.old ≡ Some [] }
+    ensures { (wanted : List ℕ) → IfOk bytes (λ bytes. bytes.items ≡ wanted)
+        → IsWrittenBy result wanted (W.contents file.new) }
 {
-    let Some(out) = out else {
-        return None;
-    };
-    match write_image(system, book.rack(), &mut out.file) {
-        Ok(()) => None,
-        Err(error) => Some(Reason::of(alloc, out.name, &error)),
-    }
+    let bytes = bytes?;
+    write_bytes(file, bytes.as_slice())
 }
 
-/// Writes the record of the book that is left, where one is, and then the image of its rack, each
-/// to the file for it, where there is one. It is given what couldn't be written: the image is
-/// written too where the record couldn't be.
-pub(crate) fn keep<S: System>(
+/// Writes these bytes to a new file, where one is open, and puts it in its place. Where the bytes
+/// couldn't be had, nothing is written.
+pub(crate) fn keep_file<S: System>(
     system: &S,
     alloc: Global,
-    left: &Option<Book>,
-    outputs: &mut Outputs<'_, S::Stream>,
-) -> Lost
-    ensures { AreOutputsWritten S.Stream.contents left.now outputs.old outputs.new result }
+    bytes: Result<Vec<u8>, AllocError>,
+    out: Option<OutFile<'_, S::Stream>>,
+) -> (Option<S::Receipt>, Option<Reason>)
+    requires { IsOpened S.Stream.contents is_new (name_of out) out }
+    ensures { (wanted : List ℕ) → IfOk bytes (λ bytes. bytes.items ≡ wanted)
+        → IsFileWritten S.received (name_of out.entry) wanted result.0 result.1 }
 {
-    let Some(book) = left else {
-        return Lost::none();
+    let Some(
+        OutFile {
+            name,
+            mut file,
+            held: _,
+        },
+    ) = out
+    else {
+        return (None, None);
     };
-    let recorded = keep_record(system, alloc, book, &mut outputs.recorded);
-    let image = keep_image(system, alloc, book, &mut outputs.image);
-    Lost { recorded, image }
+    let end = write_new(&mut file, bytes);
+    let (receipt, end) = put_written(system, file, end);
+    (Some(receipt), Reason::why(alloc, Some(name), &end))
+}
+
+/// Leaves a new file unwritten, where one is open: it is lost, and another line says why.
+pub(crate) fn leave_file<S: System>(
+    system: &S,
+    out: Option<OutFile<'_, S::Stream>>,
+) -> (Option<S::Receipt>, Option<Reason>)
+    requires { IsOpened S.Stream.contents is_new (name_of out) out }
+    ensures written { (wanted : List ℕ)
+        → IsFileWritten S.received (name_of out.entry) wanted result.0 result.1 }
+    ensures unput { IsUnput S.received result.0 }
+{
+    match out {
+        Some(
+            OutFile {
+                name: _,
+                file,
+                held: _,
+            },
+        ) => (Some(system.close(file)), Some(Reason { line: None })),
+        None => (None, None),
+    }
 }

@@ -55,12 +55,12 @@ pub fn respond<R: Runtime, S: System, P: Ports, I: Read, O: Write, E: Write>(
     ensures arguments { IfOk arguments (λ w.
         ((exit_status result.code ≡ UNWRITTEN)
         × IsCutFor (named_by (S.holds system.now) (S.leads system.now))
-        (leaving (S.begins system.now) S.received result.receipts (P.ways peers.old.ports)
+        (leaving (S.holds system.now) S.received result.receipts (P.ways peers.old.ports)
         (P.ways peers.new.ports) (ends_of peers.new.endings.items)) (texts_of w.items)
         (given_by (I.remaining input.old) (P.ways peers.old.ports) (clients_by (S.had system.now)))
         (O.contents out.old) (O.contents out.new))
         ⊎ IsEndForArguments (named_by (S.holds system.now) (S.leads system.now))
-        (IsLeft (S.begins system.now) S.received result.receipts (P.ways peers.new.ports)
+        (IsLeft (S.holds system.now) S.received result.receipts (P.ways peers.new.ports)
         (ends_of peers.new.endings.items))
         (IsNoneLeft result.receipts (P.ways peers.old.ports) (P.ways peers.new.ports)
         (ends_of peers.new.endings.items))
@@ -68,9 +68,11 @@ pub fn respond<R: Runtime, S: System, P: Ports, I: Read, O: Write, E: Write>(
         (clients_by (S.had system.now)))
         (streams_of (O.contents out.old) (O.contents out.new) (E.contents err.old)
         (E.contents err.new)) (exit_status result.code)) }
-    ensures none { OnErr arguments ((exit_status result.code ≡ UNWRITTEN)
+    ensures none { OnErr arguments (IsNoneLeft result.receipts (P.ways peers.old.ports)
+        (P.ways peers.new.ports) (ends_of peers.new.endings.items)
+        × ((exit_status result.code ≡ UNWRITTEN)
         ⊎ IsEndWithoutArguments (O.contents out.old) (O.contents out.new)
-        (exit_status result.code)) }
+        (exit_status result.code))) }
 {
     match arguments {
         Ok(arguments) => {
@@ -140,7 +142,7 @@ fn print_response<R: Runtime, S: System, P: Ports, I: Read, O: Write, E: Write>(
     requires { peers.old.endings.items ≡ [] }
     ensures done { IfOk result.0 (IsEndForArguments
         (named_by (S.holds system.now) (S.leads system.now))
-        (IsLeft (S.begins system.now) S.received result.1 (P.ways peers.new.ports)
+        (IsLeft (S.holds system.now) S.received result.1 (P.ways peers.new.ports)
         (ends_of peers.new.endings.items))
         (IsNoneLeft result.1 (P.ways peers.old.ports) (P.ways peers.new.ports)
         (ends_of peers.new.endings.items))
@@ -150,7 +152,7 @@ fn print_response<R: Runtime, S: System, P: Ports, I: Read, O: Write, E: Write>(
         (E.contents err.new))) }
     ensures cut { OnErr result.0 (IsCutFor
         (named_by (S.holds system.now) (S.leads system.now))
-        (leaving (S.begins system.now) S.received result.1 (P.ways peers.old.ports)
+        (leaving (S.holds system.now) S.received result.1 (P.ways peers.old.ports)
         (P.ways peers.new.ports) (ends_of peers.new.endings.items)) (texts_of arguments.now)
         (given_by (I.remaining input.old) (P.ways peers.old.ports) (clients_by (S.had system.now)))
         (O.contents out.old) (O.contents out.new)) }

@@ -7,11 +7,11 @@ use std::fs::File;
 use std::io;
 use std::io::Write;
 
-/// A file that is open to be written, and what has gone to it since.
+/// A file that is open to be written, and what has gone to it.
 #[derive(Drop)]
 pub struct SentFile {
-    file: File,
-    sent: PassedBytes,
+    pub(crate) file: File,
+    pub(crate) sent: PassedBytes,
 }
 
 /// These bytes have passed too.
@@ -23,6 +23,15 @@ fn add_all(sent: &mut PassedBytes, bytes: &[u8])
     }
 }
 
+/// These bytes have passed.
+pub(crate) fn passed(bytes: &[u8]) -> PassedBytes
+    ensures { result ≡ bytes.now }
+{
+    let mut sent = PassedBytes::none();
+    add_all(&mut sent, bytes);
+    sent
+}
+
 impl SentFile {
     /// A file to which nothing has gone as yet.
     pub(crate) fn of(file: File) -> SentFile
@@ -32,16 +41,6 @@ impl SentFile {
             file,
             sent: PassedBytes::none(),
         }
-    }
-
-    /// Empties it, where it isn't a device or a pipe.
-    pub(crate) fn empty(&mut self) -> io::Result<()>
-        ensures { self.new.sent ≡ self.old.sent }
-    {
-        if self.file.metadata()?.is_file() {
-            self.file.set_len(0)?;
-        }
-        Ok(())
     }
 
     /// What has gone to it. It is let go.

@@ -1,6 +1,7 @@
 //! What the program asks of the system by name.
 
-ghost use Rattle.std.specs.Prelude.{◌≡◌, ℕ, List, Option, Some, IfOk};
+ghost use Rattle.std.specs.Prelude.{◌≡◌, ◌≤◌, ℕ, false, is_ok, length, take, List, [], Some, IfOk, OnOk, OnErr};
+ghost use Rattle.exchange.specs.Records.{Closed, closed};
 
 use crate::apart::Places;
 use crate::client_streams::ClientFiles;
@@ -19,34 +20,49 @@ impl<R: AllocGlobal + Threads + Wait + Sync> Runtime for R {}
 /// any system can let neither go, so each is closed, and its receipt handed out.
 pub trait System: Places + ClientFiles + Sync {
     /// What was opened to be written.
-    type Stream: Write;
+    type Stream: Write + Send;
     /// What is left of a stream that was closed.
     type Receipt;
 
     /// The file of this name holds these bytes.
     ghost holds: { Self → List ℕ → List ℕ → Type 0 };
 
-    /// What has gone to what has this name before it is opened.
-    ghost begins: { Self → List ℕ → List ℕ };
-
-    /// All that has gone to the stream of which this is left.
-    ghost received: { Self.Receipt → Option (List ℕ) };
+    /// What is known of the stream of which this is left.
+    ghost received: { Self.Receipt → Closed };
 
     /// Reads the file of this name to its end.
     fn read(&self, name: &str) -> io::Result<Vec<u8>>
         ensures { IfOk result (λ bytes. holds self.now name.now bytes.items) };
 
-    /// Opens the file of this name to be written. It is made where it isn't there, and what it holds
-    /// stays as yet.
-    fn open_output(&self, name: &str) -> io::Result<Self::Stream>
-        ensures { IfOk result (λ stream.
-            Self.Stream.contents stream ≡ Some (begins self.now name.now)) };
+    /// Opens the file of this name, to be written behind what it holds, and reads that. It is made
+    /// where it isn't there. A device or a pipe holds nothing. With `syncs` each flush waits until
+    /// the disk has what was written.
+    fn open_record(&self, name: &str, syncs: bool) -> io::Result<(Self::Stream, Vec<u8>)>
+        ensures { IfOk result (λ opened. holds self.now name.now opened.1.items
+            × (Self.Stream.contents opened.0 ≡ Some opened.1.items)) };
 
-    /// Empties what was opened, where it isn't a device or a pipe.
-    fn empty(&self, stream: &mut Self::Stream) -> io::Result<()>
-        ensures { Self.Stream.contents stream.new ≡ Self.Stream.contents stream.old };
+    /// Opens a new file, to be written and put in the place of the file of this name, which is as
+    /// it was until then. A device or a pipe of this name is opened itself.
+    fn open_new(&self, name: &str) -> io::Result<Self::Stream>
+        ensures { IfOk result (λ stream. Self.Stream.contents stream ≡ Some []) };
 
-    /// Closes a stream.
+    /// Cuts off what a file holds behind so many bytes.
+    fn cut(&self, stream: &mut Self::Stream, held: &[u8], kept: usize) -> io::Result<()>
+        requires held { Self.Stream.contents stream.old ≡ Some held.now }
+        requires kept { kept ≤ length held.now }
+        ensures cut { OnOk result (Self.Stream.contents stream.new ≡ Some (take kept held.now)) }
+        ensures same { OnErr result
+            (Self.Stream.contents stream.new ≡ Self.Stream.contents stream.old) };
+
+    /// Why something couldn't be written to it, where that was so: the last reason.
+    fn failure(&self, stream: &Self::Stream) -> Option<io::Error>;
+
+    /// Closes a stream. A new file is put nowhere: it goes.
     fn close(&self, stream: Self::Stream) -> Self::Receipt
-        ensures { received result ≡ Self.Stream.contents stream };
+        ensures { received result ≡ closed (Self.Stream.contents stream) false };
+
+    /// Closes a stream that is whole: once the disk has it, a new file is put in its place.
+    fn put(&self, stream: Self::Stream) -> (Self::Receipt, io::Result<()>)
+        ensures { received result.0
+            ≡ closed (Self.Stream.contents stream) (is_ok result.1) };
 }

@@ -1,8 +1,9 @@
 //! What the second line of a refusal is told of.
 
 use crate::contents::{Contents, slice_of};
+use crate::found::Found;
+use batch::position_of;
 use command_words::{Job, Text};
-use plan_answers::Answer;
 use record_replay::RecordError;
 use refusal_notes::{Listing, Named, Texts};
 use refusals::Refusal;
@@ -26,13 +27,30 @@ fn word_in(text: &Option<Text>) -> &str {
     }
 }
 
-/// A record in the place of a batch, with what is wrong with it, where something is.
-fn of_record<'a>(texts: Texts<'a>, error: &'a Option<RecordError>) -> Texts<'a> {
-    let texts = Texts {
-        list: Named::NONE,
-        recorded: texts.list,
-        ..texts
+/// The second word of a record's first line, which is that of its shape, where it is a head.
+fn shape_of(recorded: &[u8]) -> &str {
+    let Some(end) = position_of(recorded, b'\n') else {
+        return "";
     };
+    let Ok(line) = str::from_utf8(&recorded[..end]) else {
+        return "";
+    };
+    match line.split_once(' ') {
+        Some((_, rest)) => match rest.split_once(' ') {
+            Some((shape, _)) => shape,
+            None => "",
+        },
+        None => "",
+    }
+}
+
+/// These texts with a record, and with what is wrong with that, where something is.
+fn of_record<'a>(
+    texts: Texts<'a>,
+    recorded: Named<'a>,
+    error: &'a Option<RecordError>,
+) -> Texts<'a> {
+    let texts = Texts { recorded, ..texts };
     match error {
         Some(error) => Texts {
             offset: error.offset,
@@ -46,13 +64,9 @@ fn of_record<'a>(texts: Texts<'a>, error: &'a Option<RecordError>) -> Texts<'a> 
 /// The texts of a job's files and its words, with what its answer knows of a schedule, and of a
 /// record that is refused. Where `run` has a schedule, that stands there, but where its image is
 /// refused.
-pub(crate) fn texts_of<'a>(
-    job: &'a Job,
-    contents: &'a Contents,
-    answer: &Answer,
-    error: &'a Option<RecordError>,
-) -> Texts<'a> {
+pub(crate) fn texts_of<'a>(job: &'a Job, contents: &'a Contents, found: &'a Found) -> Texts<'a> {
     let files = job.files();
+    let (answer, error) = (&found.answer, &found.error);
     let texts = Texts {
         list: named(files.list, &contents.list),
         other: named(files.other, &contents.other),
@@ -82,18 +96,26 @@ pub(crate) fn texts_of<'a>(
             },
             ..texts
         },
-        Job::Serve { rack, .. } | Job::Host { rack, .. } | Job::Talk { rack } => Texts {
-            shape: rack.shape.as_str(),
-            other: image,
-            ..texts
-        },
-        Job::Replay { shape, .. } => {
-            let texts = of_record(texts, error);
-            Texts {
-                shape: shape.as_str(),
+        Job::Serve { rack, .. } | Job::Host { rack, .. } | Job::Talk { rack } => {
+            let texts = Texts {
+                shape: rack.shape.as_str(),
                 other: image,
                 ..texts
-            }
+            };
+            of_record(texts, named(rack.record_name(), &found.held), error)
+        }
+        Job::Replay { shape, .. } => {
+            let recorded = texts.list;
+            let texts = Texts {
+                list: Named::NONE,
+                shape: match shape {
+                    Some(shape) => shape.as_str(),
+                    None => shape_of(recorded.text),
+                },
+                other: image,
+                ..texts
+            };
+            of_record(texts, recorded, error)
         }
         _ => texts,
     }

@@ -5,6 +5,7 @@ mod common;
 mod cuts;
 mod meeting;
 mod office;
+mod records;
 mod running;
 mod runs;
 mod sessions;

@@ -67,7 +67,7 @@ cut_entry e front missing can same some session call line rest fits say none is 
 whole : (e : Entry) (es : List Entry) (x : List ℕ) → flat_map entry_text (e ∷ es) ++ x ≡ entry_text e ++ (flat_map entry_text es ++ x)
 whole e es x = append_assoc (entry_text e) (flat_map entry_text es) x
 
-never : (text : List ℕ) (e : Entry) (es : List Entry) (x : List ℕ) → CanTell e → text ≡ flat_map entry_text (e ∷ es) ++ x → IsUnfinished text → ⊥
+pub never : (text : List ℕ) (e : Entry) (es : List Entry) (x : List ℕ) → CanTell e → text ≡ flat_map entry_text (e ∷ es) ++ x → IsUnfinished text → ⊥
 never text e es x can is unfinished =
     unfinished e.session (told e.call) (its_line e can).words (flat_map entry_text es ++ x) can.session can.call (its_line e can).none (is ∙ whole e es x ∙ entry_lines e can (flat_map entry_text es ++ x))
 
@@ -98,7 +98,7 @@ one_reading text es fs x y p q = both_read es fs x y p.each q.each p.unfinished 
 -- ---- each front
 
 -- where two texts in two parts are the same, the first part of the one goes on in the other
-split : (a b c d : List ℕ) → a ++ b ≡ c ++ d → ((m : List ℕ) × (c ≡ a ++ m) × (b ≡ m ++ d)) ⊎ ((m : List ℕ) × (m ≢ []) × (a ≡ c ++ m))
+pub split : (a b c d : List ℕ) → a ++ b ≡ c ++ d → ((m : List ℕ) × (c ≡ a ++ m) × (b ≡ m ++ d)) ⊎ ((m : List ℕ) × (m ≢ []) × (a ≡ c ++ m))
 split [] b c d same = inl (c, refl, same)
 split (x ∷ a) b [] d same = inr (x ∷ a, (λ e. absurd cc), refl)
 split (x ∷ a) b (y ∷ c) d same =

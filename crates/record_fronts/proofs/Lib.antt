@@ -1,5 +1,7 @@
 mod Feeds
 mod Replies
 pub mod Fronts
-mod Reading
-mod Heads
+pub mod Reading
+pub mod Heads
+pub mod TornFronts
+pub mod Sums

@@ -1,5 +1,5 @@
 -- The last line of a record, and what the reader finds.
-use Rattle.std.proofs.Common.{◌≡◌, ℕ, ◌+◌, ◌<◌, List, [], ◌∷◌, ◌++◌, ◌==◌, length, get_or, take, drop, None, Some, get_or-take, length-take-le, refl, sym, ap, ◌∙◌, append_assoc, arith}
+use Rattle.std.proofs.Common.{◌≡◌, ◌≢◌, ℕ, ◌+◌, ◌<◌, List, [], ◌∷◌, ◌++◌, ◌==◌, length, get_or, take, drop, Option, None, Some, get_or-take, length-take-le, refl, sym, ap, ◌∙◌, append_assoc, arith}
 use Rattle.std.specs.Fmt.{decimal}
 use Rattle.std.specs.Int.{IsInRange}
 use Rattle.std.proofs.lemmas.Fmt.{decimal_is_IsNumeral}
@@ -14,23 +14,29 @@ use Rattle.book_record.proofs.CallTexts.{one_behind, one_call}
 use Rattle.batch.specs.Text.{IsNumber, number, space, line_feed}
 use Rattle.batch_book.specs.Told.{PlanlessCall}
 use Rattle.book_record.specs.RecordText.{call_text, CanSay}
-use Rattle.record_fronts.specs.Fronts.{IsUnfinished}
+use Rattle.record_fronts.specs.Fronts.{BeginsWithLine, IsUnfinished, end_line}
 use Rattle.record_fronts.specs.Laws.{EndIsNoEntry}
 use Rattle.record_fronts.proofs.Fronts.{empty}
 
-first_digit : (s : ℕ) (z : List ℕ) → IsNumber s → 101 ≡ get_or (number s space ++ z) 0 0 → ⊥
+pub first_digit : (s : ℕ) (z : List ℕ) → IsNumber s → 101 ≡ get_or (number s space ++ z) 0 0 → ⊥
 first_digit s z fits is =
     let numeral = (decimal_is_IsNumeral s (omega (arith, fits))).0 in
     let digit : IsInRange 48 57 (get_or (decimal s) 0 0) = digit_at (decimal s) 0 (form (decimal s) s fits refl).digits numeral.0 in
     let at : get_or (number s space ++ z) 0 0 ≡ get_or (decimal s) 0 0 = ap (λ (l : List ℕ). get_or l 0 0) (append_assoc (decimal s) (space ∷ []) z) ∙ get_or_append_left (decimal s) (space ∷ z) 0 0 numeral.0 in
     omega (arith, is, at, digit)
 
-pub end_is_no_entry : EndIsNoEntry
-end_is_no_entry [] missing same = empty
-end_is_no_entry (b ∷ front) missing same =
+front_is_none : (front missing : List ℕ) → end_line ≡ front ++ missing → IsUnfinished front
+front_is_none [] missing same = empty
+front_is_none (b ∷ front) missing same =
     λ s call line rest fits say none is.
     let first : 101 ≡ b = cc in
     first_digit s (call_text call ++ (line ++ line_feed ∷ rest)) fits (first ∙ ap (λ (l : List ℕ). get_or l 0 0) is)
+
+pub end_is_no_entry : EndIsNoEntry
+end_is_no_entry = (
+  front_is_none,
+  λ more s call line rest fits say none is. first_digit s (call_text call ++ (line ++ line_feed ∷ rest)) fits (ap (λ (l : List ℕ). get_or l 0 0) is),
+)
 
 -- ---- what the reader finds
 
@@ -52,12 +58,26 @@ no_line text replied s c fits say read none t d line rest ft sd no_feed is =
     let there : position (λ b. b == line_feed) replied ≡ Some (length line) = ap (position (λ b. b == line_feed)) second.1 ∙ position_from_first (line ++ line_feed ∷ rest) line_feed (length line) (first_in line rest no_feed) in
     absurd cc
 
--- the line behind the call, and what stands behind it
-pub its_end : (replied : List ℕ) (i : ℕ) → position (λ b. b == line_feed) replied ≡ Some i → (i < length replied) × HasNoFeed (take i replied) × (replied ≡ take i replied ++ line_feed ∷ drop (i + 1) replied)
-its_end replied i is =
-    let f = first_from_position replied line_feed i is in
-    let tail : drop i replied ≡ line_feed ∷ drop (i + 1) replied = drop_more replied i 0 f.within ∙ ap (λ (b : ℕ). b ∷ drop (i + 1) replied) f.here in (
+-- where no line feed stands, no line does
+pub no_feed_line : (text : List ℕ) → position (λ b. b == line_feed) text ≡ None → (line rest : List ℕ) → HasNoFeed line → text ≢ line ++ line_feed ∷ rest
+no_feed_line text none line rest p is =
+    let there : position (λ b. b == line_feed) text ≡ Some (length line) = ap (position (λ b. b == line_feed)) is ∙ position_from_first (line ++ line_feed ∷ rest) line_feed (length line) (first_in line rest p) in
+    absurd cc
+
+-- the line that ends there
+pub line_at : (text : List ℕ) (i : ℕ) → position (λ b. b == line_feed) text ≡ Some i → (i < length text) × HasNoFeed (take i text) × (text ≡ take i text ++ line_feed ∷ drop (i + 1) text)
+line_at text i is =
+    let f = first_from_position text line_feed i is in
+    let tail : drop i text ≡ line_feed ∷ drop (i + 1) text = drop_more text i 0 f.within ∙ ap (λ (b : ℕ). b ∷ drop (i + 1) text) f.here in (
       f.within,
-      (λ k d less same. f.before k (omega (arith, less, length-take-le i replied (omega (arith, f.within)))) (sym (get_or-take i replied k 0 (omega (arith, less, length-take-le i replied (omega (arith, f.within))))) ∙ get_or_default (take i replied) k 0 d less ∙ same)),
-      sym (take-append-drop i replied) ∙ ap (λ (l : List ℕ). take i replied ++ l) tail,
+      (λ k d less same. f.before k (omega (arith, less, length-take-le i text (omega (arith, f.within)))) (sym (get_or-take i text k 0 (omega (arith, less, length-take-le i text (omega (arith, f.within))))) ∙ get_or_default (take i text) k 0 d less ∙ same)),
+      sym (take-append-drop i text) ∙ ap (λ (l : List ℕ). take i text ++ l) tail,
     )
+
+-- where one stands there, a line does
+pub its_line : (replied : List ℕ) → (position (λ b. b == line_feed) replied ≢ None) → BeginsWithLine replied
+its_line replied some = found (position (λ b. b == line_feed) replied) refl some
+  where
+    found : (o : Option ℕ) → position (λ b. b == line_feed) replied ≡ o → o ≢ None → BeginsWithLine replied
+    found None is some = absurd (some refl)
+    found (Some i) is some = let at = line_at replied i is in record { line = take i replied; rest = drop (i + 1) replied; none = at.1; text_is = at.2 }

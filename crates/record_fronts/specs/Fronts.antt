@@ -1,10 +1,12 @@
 -- A record that may have been cut off: whole entries, and a rest with which none begins.
-use Rattle.std.specs.Prelude.{◌≡◌, ◌≢◌, ℕ, List, [], ◌∷◌, ◌++◌, All, codes}
+use Rattle.std.specs.Prelude.{◌≡◌, ◌≢◌, ◌⊎◌, ℕ, ◌+◌, ◌≤◌, ◌==◌, if◌then◌else◌, List, [], ◌∷◌, ◌++◌, length, All, codes}
 use Rattle.std.specs.List.{flat_map}
 use Rattle.batch.specs.Text.{IsNumber, number, space, line_feed}
 use Rattle.batch_book.specs.declared.entry.Entry.{Entry}
 use Rattle.client_session.specs.Bytes.{HasNoFeed}
 use Rattle.batch_book.specs.Told.{PlanlessCall, told}
+use Rattle.book_record.specs.Reading.{BeginsCall}
+use Rattle.record_fronts.specs.declared.torn.TheConstants.{MAX_FIRST_LINE}
 use Rattle.book_record.specs.RecordText.{id_of, call_text, reply_text, entry_text, CanSay, CanTell}
 
 -- no whole entry stands in front: a session's number, the lines of a call, and one line more
@@ -13,6 +15,13 @@ IsUnfinished text =
     (session : ℕ) (call : PlanlessCall) (line rest : List ℕ) → IsNumber session → CanSay call
     → HasNoFeed line
     → text ≢ number session space ++ (call_text call ++ (line ++ line_feed ∷ rest))
+
+-- a line stands in front
+pub record BeginsWithLine (text : List ℕ) : Type 0 where
+  pub line : List ℕ
+  pub rest : List ℕ
+  pub none : HasNoFeed line
+  pub text_is : text ≡ line ++ line_feed ∷ rest
 
 -- what an entry's lines say, without a machine: its reply is a text
 pub record LinedEntry : Type 0 where
@@ -47,6 +56,32 @@ pub record IsCutOff (es : List Entry) (front : List ℕ) : Type 0 where
   pub are : es ≡ whole ++ more
   pub read : IsReadAs front whole rest
   pub begun : BeginsFirst more rest
+
+-- ---- a rest that may have been torn off
+
+-- how many line feeds there are
+abbrev pub feeds : List ℕ → ℕ
+feeds [] = 0
+feeds (b ∷ bytes) = (if b == line_feed then 1 else 0) + feeds bytes
+
+-- a session's number and the first line of its call stand there, and behind them no more line feeds
+-- than lines that belong to the call
+pub record IsBegun (text : List ℕ) : Type 0 where
+  pub session : ℕ
+  pub lines : ℕ
+  pub asked : List ℕ
+  pub more : List ℕ
+  pub number_fits : IsNumber session
+  pub text_is : text ≡ number session space ++ asked
+  pub begins : BeginsCall asked lines more
+  pub few : feeds more ≤ lines
+
+-- An entry may have been cut off there: within its first line, or behind that, and before the end of
+-- its last one.
+abbrev pub MayBeTorn : List ℕ → Type 0
+MayBeTorn rest = (HasNoFeed rest × (length rest ≤ MAX_FIRST_LINE)) ⊎ IsBegun rest
+
+-- ---- the end
 
 -- the last line of a record whose sessions have all ended
 abbrev pub end_line : List ℕ

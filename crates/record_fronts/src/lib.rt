@@ -11,8 +11,12 @@
 mod head;
 pub mod laws;
 mod sum;
+mod torn;
+mod whole;
 mod whole_entry;
 
-pub use head::{head_line, is_ended, read_head_line};
+pub use head::{head_text, is_ended, read_head};
 pub use sum::sum_of;
+pub use torn::{MAX_FIRST_LINE, may_be_torn};
+pub use whole::write_record;
 pub use whole_entry::{WholeEntry, read_whole_entry};

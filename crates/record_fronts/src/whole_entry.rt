@@ -1,10 +1,9 @@
 //! The reader of an entry that may not be whole.
 
-ghost use Rattle.std.specs.Prelude.{◌≡◌, ◌++◌, ◌∷◌, IfOk, IfSome, IfNone};
-ghost use Rattle.batch.specs.Text.{IsNumber, number, space, line_feed};
-ghost use Rattle.client_session.specs.Bytes.{HasNoFeed};
+ghost use Rattle.std.specs.Prelude.{◌≡◌, ◌++◌, IfOk, IfSome, IfNone};
+ghost use Rattle.batch.specs.Text.{IsNumber, number, space};
 ghost use Rattle.book_record.specs.RecordText.{CanSay, call_text};
-ghost use Rattle.record_fronts.specs.Fronts.{IsUnfinished};
+ghost use Rattle.record_fronts.specs.Fronts.{BeginsWithLine, IsUnfinished};
 
 use batch::{Batch, position_of};
 use batch_book::ToldCall;
@@ -18,31 +17,27 @@ pub struct WholeEntry<'a> {
     pub session: usize,
     /// Its call.
     pub call: ToldCall<Batch>,
-    /// The line of the reply, without its line feed.
-    pub reply: &'a [u8],
-    /// What stands behind it.
-    pub rest: &'a [u8],
+    /// The line of the reply, and what stands behind it.
+    pub replied: &'a [u8],
 }
 
 /// The entry that the text begins with, where a whole one stands there. It takes memory for a
 /// batch.
 pub fn read_whole_entry(alloc: Global, text: &[u8]) -> Result<Option<WholeEntry<'_>>, AllocError>
     ensures some { IfOk result (λ read. IfSome read (λ e. IsNumber e.session × CanSay e.call
-        × HasNoFeed e.reply.now
-        × (text.now ≡ number e.session space
-        ++ (call_text e.call ++ (e.reply.now ++ line_feed ∷ e.rest.now))))) }
+        × (text.now ≡ number e.session space ++ (call_text e.call ++ e.replied.now)))) }
+    ensures line { IfOk result (λ read. IfSome read (λ e. BeginsWithLine e.replied.now)) }
     ensures none { IfOk result (λ read. IfNone read (IsUnfinished text.now)) }
 {
     let Some((session, call, replied)) = read_entry(alloc, text)? else {
         return Ok(None);
     };
-    let Some(end) = position_of(replied, b'\n') else {
-        return Ok(None);
-    };
-    Ok(Some(WholeEntry {
-        session,
-        call,
-        reply: &replied[..end],
-        rest: &replied[end + 1..],
-    }))
+    match position_of(replied, b'\n') {
+        Some(_) => Ok(Some(WholeEntry {
+            session,
+            call,
+            replied,
+        })),
+        None => Ok(None),
+    }
 }

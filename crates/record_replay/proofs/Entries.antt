@@ -1,16 +1,15 @@
 -- One entry of a record, made again.
-use Rattle.std.proofs.Common.{◌≡◌, ◌≢◌, ℕ, ◌+◌, ◌<◌, ◌≤◌, List, [], ◌∷◌, ◌++◌, ◌-◌, drop, length, All, true, false, Bool, Option, None, Some, refl, sym, ap, ◌∙◌, append_assoc, append-nil, subst, arith}
-use Rattle.std.specs.Prelude.{if◌then◌else◌, codes, option_map}
+use Rattle.std.proofs.Common.{◌≡◌, ◌≢◌, ℕ, ◌+◌, ◌<◌, List, [], ◌∷◌, ◌++◌, ◌-◌, drop, length, All, true, false, Bool, Option, None, Some, refl, sym, ap, ◌∙◌, append_assoc, append-nil, subst, arith}
+use Rattle.std.specs.Prelude.{if◌then◌else◌, option_map, unwrap_or}
 use Rattle.std.specs.List.{flat_map}
 use Rattle.std.proofs.lemmas.Bool.{false≢true}
 use Rattle.std.proofs.lemmas.Grind.{flat_map-append}
-use Rattle.std.proofs.lemmas.List.{append_cancel_left, drop_at, length-append}
+use Rattle.std.proofs.lemmas.List.{drop_at, length-append}
 use Rattle.std.proofs.lemmas.List.Elements.{All-push}
 use Rattle.batch.specs.Equal.{same_transfers}
 use Rattle.batch.proofs.Equal.{same_transfers-Decides}
 use Rattle.module_memory.specs.Store.{Store}
 use Rattle.schedule_certificate.specs.Plans.{Plan}
-use Rattle.batch_book.specs.declared.limits.TheConstants.{MAX_ENTRIES}
 use Rattle.batch_book.specs.declared.call.Call.{Call}
 use Rattle.batch_book.specs.declared.call.Call.TheVariants.{Settle}
 use Rattle.batch_book.specs.declared.entry.Entry.{Entry}
@@ -23,15 +22,15 @@ use Rattle.batch_book.specs.declared.reply.Reply.TheVariants.{Refused}
 use Rattle.batch_book.specs.Answering.{IsReplyTo}
 use Rattle.batch_book.specs.Machine.{Machine, batch_of, opened, settle, settle_at, refuse, IsMachineStep}
 use Rattle.batch_book.specs.History.{Account, IsGrown, IsReplay, entry}
-use Rattle.batch.specs.Text.{IsNumber, number, space, line_feed}
-use Rattle.batch.proofs.Lines.{one_number, ends_line}
+use Rattle.batch.specs.Text.{IsNumber, number, space}
 use Rattle.batch_book.specs.Told.{PlanlessCall}
 use Rattle.batch_book.specs.Told.{told}
-use Rattle.book_record.specs.RecordText.{id_of, call_text, reply_text, entry_text, record_head, CanSay, CanBeReplied, CanTell, IsRecordOf}
+use Rattle.book_record.specs.RecordText.{id_of, call_text, reply_text, entry_text, CanSay, CanBeReplied, CanTell}
 use Rattle.book_record.proofs.Records.{entry_parts}
 use Rattle.record_replay.specs.declared.fault.RecordError.{RecordError}
 use Rattle.record_replay.specs.declared.fault.RecordFault.TheVariants as fault
-use Rattle.record_replay.specs.Replays.{IsPlanFor, HasOwnPlanIn, GoesOnBy, IsOtherReply, IsReplayed, IsRecordFault, IsRecordError, head}
+use Rattle.record_fronts.specs.Fronts.{end_line}
+use Rattle.record_replay.specs.Replays.{AreFewer, IsPlanFor, HasOwnPlanIn, GoesOnBy, IsOtherReply, IsReplayed, IsRecordFault, IsRecordError, IsWrongEnd, call, reply, more, no_call, more_behind}
 
 -- ---- a plan of its own batch is no stranger's
 
@@ -73,60 +72,43 @@ came_as old new text replied rest session tc c r is fits can may grown asks answ
 
 -- ---- how far a record was made again
 
-pub record Going (text : List ℕ) (opening : Store) (count k : ℕ) (book : Account) (rest : List ℕ) : Type 0 where
+pub record Going (text : List ℕ) (opening : Store) (k : ℕ) (book : Account) (rest : List ℕ) : Type 0 where
   pub opened_so : book.opening ≡ opening
   pub counted : length book.history ≡ k
   pub each : All CanTell book.history
-  pub front : text ≡ record_head count ++ (flat_map entry_text book.history ++ rest)
+  pub front : text ≡ flat_map entry_text book.history ++ rest
 
-pub going_on : (text : List ℕ) (opening : Store) (count k : ℕ) (old new : Account) (rest after : List ℕ) → Going text opening count k old rest → GoesOnBy old new rest after → new.opening ≡ old.opening → Going text opening count (k + 1) new after
-going_on text opening count k old new rest after had by is =
+pub going_on : (text : List ℕ) (opening : Store) (k : ℕ) (old new : Account) (rest asked after : List ℕ) → Going text opening k old rest → rest ≡ asked → GoesOnBy old new asked after → new.opening ≡ old.opening → Going text opening (k + 1) new after
+going_on text opening k old new rest asked after had same by is =
     let e = by.entry in
     let f = by.grown.history in
     let texts : flat_map entry_text old.history ++ rest ≡ flat_map entry_text new.history ++ after =
-    ap (λ (t : List ℕ). flat_map entry_text old.history ++ t) by.text_is ∙ sym (append_assoc (flat_map entry_text old.history) (entry_text e) after)
+    ap (λ (t : List ℕ). flat_map entry_text old.history ++ t) (same ∙ by.text_is) ∙ sym (append_assoc (flat_map entry_text old.history) (entry_text e) after)
     ∙ ap (λ (t : List ℕ). (flat_map entry_text old.history ++ t) ++ after) (sym (append-nil (entry_text e)))
     ∙ ap (λ (t : List ℕ). t ++ after) (sym (flat_map-append entry_text old.history (e ∷ []))) ∙ ap (λ (l : List Entry). flat_map entry_text l ++ after) (sym f) in
     record {
       opened_so = is ∙ had.opened_so;
       counted = ap length f ∙ length-append old.history (e ∷ []) ∙ omega (arith, had.counted);
       each = subst (All CanTell) (sym f) (All-push CanTell old.history e had.each by.can);
-      front = had.front ∙ ap (λ (t : List ℕ). record_head count ++ t) texts;
+      front = had.front ∙ texts;
     }
 
--- what was made again, as a fault tells of it
-pub replayed_so_far : (text : List ℕ) (opening : Store) (count k : ℕ) (book : Account) (rest : List ℕ) → Going text opening count k book rest → k ≤ count → count ≤ MAX_ENTRIES → IsReplay (opened book.opening) book.history book.machine
-    → IsReplayed text opening count book.history book.machine rest
-replayed_so_far text opening count k book rest had few most led = record {
-  few = most;
-  at_most = omega (arith, had.counted, few);
+-- what was made again so far
+pub replayed_so_far : (text : List ℕ) (opening : Store) (k : ℕ) (book : Account) (rest : List ℕ) → Going text opening k book rest → IsReplay (opened book.opening) book.history book.machine → IsReplayed text opening book.history book.machine rest
+replayed_so_far text opening k book rest had led = record {
   front = had.front;
   each = had.each;
   replay = subst (λ (s : Store). IsReplay (opened s) book.history book.machine) had.opened_so led;
 }
 
--- all of a record
-pub whole_record : (text : List ℕ) (opening : Store) (count : ℕ) (book : Account) (rest : List ℕ) → Going text opening count count book rest → count ≤ MAX_ENTRIES → rest ≡ [] → IsRecordOf book.history text
-whole_record text opening count book rest had most none = record {
-  spelled =
-      had.front ∙ ap (λ (t : List ℕ). record_head count ++ (flat_map entry_text book.history ++ t)) none ∙ ap (λ (t : List ℕ). record_head count ++ t) (append-nil (flat_map entry_text book.history))
-      ∙ ap (λ (n : ℕ). record_head n ++ flat_map entry_text book.history) (sym had.counted);
-  few = omega (arith, had.counted, most);
-  each = had.each;
-}
+-- where the loop goes on, so many are fewer than are wanted
+pub fewer_so_far : (n k end most : ℕ) (first : Option ℕ) → n ≡ k → end ≡ unwrap_or first most → k < end → AreFewer n first
+fewer_so_far n k end most None same is less = tt
+fewer_so_far n k end most (Some wanted) same is less = let e : end ≡ wanted = is in omega (arith, same, e, less)
 
--- more entries are counted than there may be
-pub too_many : (text rest : List ℕ) (count : ℕ) → IsNumber count × (text ≡ record_head count ++ rest) → MAX_ENTRIES < count → (n : ℕ) (other : List ℕ) → n ≤ MAX_ENTRIES → text ≢ record_head n ++ other
-too_many text rest count read less n other few same =
-    let head : (m : ℕ) (x : List ℕ) → record_head m ++ x ≡ codes "record " ++ (number m line_feed ++ x) = λ m x. append_assoc (codes "record ") (number m line_feed) x in
-    let one = one_number count n line_feed rest other read.0 (omega arith) ends_line (append_cancel_left (codes "record ") _ _ (sym (head count rest) ∙ sym read.1 ∙ same ∙ head n other)) in
-    omega (arith, one.0, less, few)
-
--- all entries are there, and something follows
-pub all_replayed : (text : List ℕ) (opening : Store) (count : ℕ) (book : Account) (rest : List ℕ) → Going text opening count count book rest → count ≤ MAX_ENTRIES → IsReplay (opened book.opening) book.history book.machine
-    → IsReplayed text opening (length book.history) book.history book.machine rest
-all_replayed text opening count book rest had most led =
-    subst (λ (n : ℕ). IsReplayed text opening n book.history book.machine rest) (sym had.counted) (replayed_so_far text opening count count book rest had (omega arith) most led)
+-- where it has ended, there are as many as are wanted
+pub as_wanted : (n k end most wanted : ℕ) (first : Option ℕ) → n ≡ k → end ≡ unwrap_or first most → k ≡ end → first ≡ Some wanted → n ≡ wanted
+as_wanted n k end most wanted first same is done some = same ∙ done ∙ is ∙ ap (λ (o : Option ℕ). unwrap_or o most) some
 
 -- ---- where it is wrong
 
@@ -136,42 +118,38 @@ rest_at text front rest is =
     ap (drop (length text - length rest)) is ∙ drop_at front rest (length text - length rest) (omega (arith, ap length is, length-append front rest))
 
 -- what is wrong with a rest, as an error tells of it
-pub told_error : (text front rest : List ℕ) (opening : Store) (error : RecordError) (due : Option (List ℕ)) → text ≡ front ++ rest → error.offset ≡ length text - length rest → option_map (λ line. line.items) error.due ≡ due
-    → IsRecordFault text opening error.fault rest due → IsRecordError text opening error
-told_error text front rest opening error due is at tells wrong =
+told_error : (text front rest : List ℕ) (opening : Store) (first : Option ℕ) (error : RecordError) (due : Option (List ℕ)) → text ≡ front ++ rest → error.offset ≡ length text - length rest → option_map (λ line. line.items) error.due ≡ due
+    → IsRecordFault text opening first error.fault rest due → IsRecordError text opening first error
+told_error text front rest opening first error due is at tells wrong =
     let here : drop error.offset text ≡ rest = ap (λ (n : ℕ). drop n text) at ∙ rest_at text front rest is in
     record {
       within = omega (arith, at);
       wrong =
-          subst (λ (r : List ℕ). IsRecordFault text opening error.fault r (option_map (λ line. line.items) error.due)) (sym here)
-          (subst (λ (d : Option (List ℕ)). IsRecordFault text opening error.fault rest d) (sym tells) wrong);
+          subst (λ (r : List ℕ). IsRecordFault text opening first error.fault r (option_map (λ line. line.items) error.due)) (sym here)
+          (subst (λ (d : Option (List ℕ)). IsRecordFault text opening first error.fault rest d) (sym tells) wrong);
     }
 
--- what stands in front of a rest
-front_of : (text : List ℕ) (count : ℕ) (es : List Entry) (rest : List ℕ) → text ≡ record_head count ++ (flat_map entry_text es ++ rest) → text ≡ (record_head count ++ flat_map entry_text es) ++ rest
-front_of text count es rest is = is ∙ sym (append_assoc (record_head count) (flat_map entry_text es) rest)
+no_due : (error : RecordError) → error.due ≡ None → option_map (λ line. line.items) error.due ≡ None
+no_due error none = ap (option_map (λ line. line.items)) none
 
--- a fault behind entries that were made again
-pub told_behind : (text : List ℕ) (opening : Store) (count : ℕ) (es : List Entry) (end : Machine) (rest : List ℕ) (error : RecordError) → IsReplayed text opening count es end rest → error.offset ≡ length text - length rest → error.due ≡ None
-    → IsRecordFault text opening error.fault rest None → IsRecordError text opening error
-told_behind text opening count es end rest error so at none wrong =
-    told_error text (record_head count ++ flat_map entry_text es) rest opening error None (front_of text count es rest so.front) at (ap (option_map (λ line. line.items)) none) wrong
+-- something stands behind the last line
+pub wrong_behind : (n : ℕ) (text rest left : List ℕ) (error : RecordError) → rest ≡ end_line ++ left → rest ≢ end_line → error.fault ≡ fault.More → error.offset ≡ length text - length left → error.due ≡ None → IsWrongEnd n text rest error
+wrong_behind n text rest left error is other wrong at due = more_behind left is (λ none. other (is ∙ ap (λ (l : List ℕ). end_line ++ l) none ∙ append-nil end_line)) wrong at due
+
+-- where the rest is wrong
+pub told_end : (text : List ℕ) (opening : Store) (first : Option ℕ) (n : ℕ) (es : List Entry) (end : Machine) (rest : List ℕ) (error : RecordError) → IsReplayed text opening es end rest → length es ≡ n → AreFewer (length es) first → IsWrongEnd n text rest error → IsRecordError text opening first error
+told_end text opening first n es end rest error so counted fewer (no_call none is at due) =
+    told_error text (flat_map entry_text es) rest opening first error None so.front at (no_due error due) (call es end so fewer none (is ∙ ap fault.Call (sym counted)) refl)
+told_end text opening first n es end rest error so counted fewer (more_behind left same some is at due) =
+    let there : IsReplayed text opening es end (end_line ++ left) = subst (IsReplayed text opening es end) same so in
+    told_error text (flat_map entry_text es ++ end_line) left opening first error None (there.front ∙ sym (append_assoc (flat_map entry_text es) end_line left)) at (no_due error due) (more es end there fewer some is refl)
 
 -- another line than that of a reply
-pub told_reply : (text : List ℕ) (opening : Store) (count : ℕ) (es : List Entry) (end : Machine) (last replied line : List ℕ) (error : RecordError) → IsReplayed text opening count es end last → IsOtherReply end last replied line
-    → error.offset ≡ length text - length replied → option_map (λ due. due.items) error.due ≡ Some line → IsRecordFault text opening error.fault replied (Some line) → IsRecordError text opening error
-told_reply text opening count es end last replied line error so other at tells wrong =
+pub told_reply : (text : List ℕ) (opening : Store) (first : Option ℕ) (es : List Entry) (end : Machine) (last replied line : List ℕ) (error : RecordError) → IsReplayed text opening es end last → AreFewer (length es) first → IsOtherReply end last replied line
+    → error.fault ≡ fault.Reply (length es) → error.offset ≡ length text - length replied → option_map (λ due. due.items) error.due ≡ Some line → IsRecordError text opening first error
+told_reply text opening first es end last replied line error so fewer other is at tells =
     let session = number other.session space in
     let asked = call_text (told other.call) in
-    let front = (record_head count ++ flat_map entry_text es) ++ (session ++ asked) in
-    told_error text front replied opening error (Some line)
-    (front_of text count es last so.front ∙ ap (λ (t : List ℕ). (record_head count ++ flat_map entry_text es) ++ t) (other.asks ∙ sym (append_assoc session asked replied))
-    ∙ sym (append_assoc (record_head count ++ flat_map entry_text es) (session ++ asked) replied)) at tells wrong
-
--- no count of entries stands in front
-pub no_head : (text : List ℕ) → ((n : ℕ) (rest : List ℕ) → IsNumber n → text ≢ record_head n ++ rest) → (n : ℕ) (other : List ℕ) → n ≤ MAX_ENTRIES → text ≢ record_head n ++ other
-no_head text none n other few = none n other (omega (arith, few))
-
-pub told_head : (text : List ℕ) (opening : Store) (error : RecordError) → error.fault ≡ fault.Head → error.offset ≡ length text - length text → error.due ≡ None
-    → ((n : ℕ) (other : List ℕ) → n ≤ MAX_ENTRIES → text ≢ record_head n ++ other) → IsRecordError text opening error
-told_head text opening error is at none wrong = told_error text [] text opening error None refl at (ap (option_map (λ line. line.items)) none) (head wrong is refl refl)
+    told_error text (flat_map entry_text es ++ (session ++ asked)) replied opening first error (Some line)
+    (so.front ∙ ap (λ (t : List ℕ). flat_map entry_text es ++ t) (other.asks ∙ sym (append_assoc session asked replied)) ∙ sym (append_assoc (flat_map entry_text es) (session ++ asked) replied)) at tells
+    (reply es end last line so fewer other is refl)

@@ -1,30 +1,31 @@
--- A record has one first fault, or none.
-use Rattle.std.proofs.Common.{◌≡◌, ◌≢◌, ℕ, ◌+◌, ◌<◌, ◌≤◌, List, [], ◌∷◌, ◌++◌, length, map, All, Some, Result, Ok, Err, IfOk, IfErr, refl, sym, ap, ◌∙◌, append_assoc, append-nil, subst, arith, inl, inr, ◌⊎◌}
+-- The entries of a record are made again in one way, or one thing is first wrong with them.
+use Rattle.std.proofs.Common.{◌≡◌, ℕ, ◌+◌, ◌<◌, ◌≤◌, List, [], ◌∷◌, ◌++◌, length, map, All, Option, Some, refl, sym, ap, ◌∙◌, append_assoc, append-nil, subst, arith, inl, inr, ◌⊎◌}
 use Rattle.std.specs.List.{flat_map}
 use Rattle.std.proofs.lemmas.Bool.{cases_lt}
-use Rattle.std.proofs.lemmas.List.{length-append, nil_from_length}
+use Rattle.std.proofs.lemmas.List.{append_cancel_left, length-append, nil_from_length}
 use Rattle.std.proofs.lemmas.List.Elements.{All-head}
 use Rattle.batch.specs.Text.{number, space}
 use Rattle.module_memory.specs.Store.{Store, HasAllBlocks}
 use Rattle.batch_book.specs.declared.entry.Entry.{Entry}
 use Rattle.batch_book.specs.Machine.{Machine, opened, IsMachineStep}
 use Rattle.batch_book.specs.History.{IsReplay, entry}
-use Rattle.book_record.specs.Reading.{BeginsWithNoEntry}
 use Rattle.batch_book.specs.Told.{told}
-use Rattle.book_record.specs.RecordText.{id_of, call_text, reply_text, entry_text, record_head, record_text, CanTell, IsRecordOf}
-use Rattle.batch_book.specs.declared.limits.TheConstants.{MAX_ENTRIES}
+use Rattle.book_record.specs.RecordText.{id_of, call_text, reply_text, entry_text, CanTell}
 use Rattle.book_record.specs.Untold.{ToldEntry, told_entry}
 use Rattle.book_record.proofs.Alike.{Alike}
-use Rattle.book_record.proofs.Records.{IsFit, GoesOn, due_of, entry_parts, fit_along, fit_at_first, goes_on, one_asked, one_head, one_record}
+use Rattle.book_record.proofs.Records.{IsFit, GoesOn, due_of, entry_parts, fit_along, fit_at_first, goes_on, one_asked}
+use Rattle.record_fronts.specs.Fronts.{IsUnfinished, MayBeTorn, end_line}
+use Rattle.record_fronts.proofs.Fronts.{never}
+use Rattle.record_fronts.proofs.Reading.{end_is_no_entry}
+use Rattle.record_fronts.proofs.TornFronts.{end_untorn}
 use Rattle.record_replay.specs.declared.fault.RecordFault.{RecordFault}
 use Rattle.record_replay.specs.declared.fault.RecordFault.TheVariants as fault
-use Rattle.record_replay.specs.declared.fault.RecordError.{RecordError}
-use Rattle.record_replay.specs.Replays.{IsOtherReply, IsReplayed, IsRecordError, head, call, reply, more}
-use Rattle.record_replay.specs.Laws.{NeverBoth, OneFault}
+use Rattle.record_replay.specs.Replays.{AreFewer, Ends, IsOtherReply, IsRecordFault, IsReplayed, call, reply, more}
+use Rattle.record_replay.specs.Laws.{NeverBoth, OneFault, OneRemade}
 
 -- no entry that comes stands there
 abbrev Stops : Machine → List ℕ → Type 0
-Stops end rest = BeginsWithNoEntry rest ⊎ ((replied due : List ℕ) × IsOtherReply end rest replied due)
+Stops end rest = IsUnfinished rest ⊎ ((replied due : List ℕ) × IsOtherReply end rest replied due)
 
 -- ---- an entry that comes
 
@@ -53,7 +54,7 @@ one_other a b x y v w d l alike fit fit_too same o p =
     (one.rest, o.due_is ∙ ap due_of one.same ∙ sym p.due_is)
 
 never_stops : (end mid : Machine) (e : Entry) (es : List Entry) (b : Machine) (rest y : List ℕ) → Alike end mid → IsFit end → IsFit mid → CanTell e → IsReplay mid (e ∷ es) b → rest ≡ flat_map entry_text (e ∷ es) ++ y → Stops end rest → ⊥
-never_stops end mid e es b rest y alike fit fit_mid can led is (inl none) = none e.session (told e.call) _ can.session can.call (whole_entry e es rest y is)
+never_stops end mid e es b rest y alike fit fit_mid can led is (inl unfinished) = never rest e es y can is unfinished
 never_stops end mid e es b rest y alike fit fit_mid can led is (inr other) = comes_so end mid e led.0 (flat_map entry_text es ++ y) rest other.0 other.1 other.2 alike fit fit_mid can led.1 (whole_entry e es rest y is)
 
 inside_by : (front es : List Entry) (n : ℕ) (end mid b : Machine) (rest y : List ℕ) → n < length front + length es → length front ≡ n → Alike end mid → IsFit end → IsFit mid → All CanTell es → IsReplay mid es b → rest ≡ flat_map entry_text es ++ y → Stops end rest → ⊥
@@ -62,126 +63,139 @@ inside_by front (e ∷ es) n end mid b rest y less long alike fit fit_mid each l
 
 -- ---- two readings of a text
 
-abbrev Reading : List ℕ → Store → ℕ → List Entry → Machine → List ℕ → Type 0
-Reading text opening count es end rest = IsReplayed text opening count es end rest
-
-heads : (text : List ℕ) (opening : Store) (m n : ℕ) (es fs : List Entry) (a b : Machine) (x y : List ℕ) → Reading text opening m es a x → Reading text opening n fs b y → (m ≡ n) × (flat_map entry_text es ++ x ≡ flat_map entry_text fs ++ y)
-heads text opening m n es fs a b x y p q =
-    let few = p.few in
-    let less = q.few in
-    one_head m n (flat_map entry_text es ++ x) (flat_map entry_text fs ++ y) (omega arith) (omega arith) (sym p.front ∙ q.front)
-
-goes : (text : List ℕ) (opening : Store) (m n : ℕ) (es fs : List Entry) (a b : Machine) (x y : List ℕ) → HasAllBlocks opening → Reading text opening m es a x → Reading text opening n fs b y → length es ≤ length fs → GoesOn (opened opening) es fs x y a b
-goes text opening m n es fs a b x y all p q few =
+goes : (text : List ℕ) (opening : Store) (es fs : List Entry) (a b : Machine) (x y : List ℕ) → HasAllBlocks opening → IsReplayed text opening es a x → IsReplayed text opening fs b y → length es ≤ length fs → GoesOn (opened opening) es fs x y a b
+goes text opening es fs a b x y all p q few =
     let fit = fit_at_first opening all in
-    goes_on (opened opening) (opened opening) es fs x y a b refl fit fit p.each q.each p.replay q.replay few (heads text opening m n es fs a b x y p q).1
+    goes_on (opened opening) (opened opening) es fs x y a b refl fit fit p.each q.each p.replay q.replay few (sym p.front ∙ q.front)
 
 -- where the one goes further, the other doesn't stop there
-inside : (text : List ℕ) (opening : Store) (m n : ℕ) (es fs : List Entry) (a b : Machine) (x y : List ℕ) → HasAllBlocks opening → Reading text opening m es a x → Reading text opening n fs b y → length es < length fs → Stops a x → ⊥
-inside text opening m n es fs a b x y all p q less stops =
-    let go = goes text opening m n es fs a b x y all p q (omega (arith, less)) in
+inside : (text : List ℕ) (opening : Store) (es fs : List Entry) (a b : Machine) (x y : List ℕ) → HasAllBlocks opening → IsReplayed text opening es a x → IsReplayed text opening fs b y → length es < length fs → Stops a x → ⊥
+inside text opening es fs a b x y all p q less stops =
+    let go = goes text opening es fs a b x y all p q (omega (arith, less)) in
     inside_by go.front go.more (length es) a go.mid b x y (omega (arith, less, ap length go.list, length-append go.front go.more)) go.counted go.alike (fit_along (opened opening) es a (fit_at_first opening all) p.replay) go.fit go.each go.replay go.rest stops
 
--- where both have as many entries, one rest is left, and the machines differ in plans alone
-same_end : (text : List ℕ) (opening : Store) (m n : ℕ) (es fs : List Entry) (a b : Machine) (x y : List ℕ) → HasAllBlocks opening → Reading text opening m es a x → Reading text opening n fs b y → length es ≡ length fs → (x ≡ y) × Alike a b
-same_end text opening m n es fs a b x y all p q same =
-    let go = goes text opening m n es fs a b x y all p q (omega (arith, same)) in
+-- where both have as many entries, these differ in plans alone, one rest is left, and so do the
+-- machines
+record SameEnd (es fs : List Entry) (a b : Machine) (x y : List ℕ) : Type 0 where
+  entries : map told_entry es ≡ map told_entry fs
+  alike : Alike a b
+  rest : x ≡ y
+
+same_end : (text : List ℕ) (opening : Store) (es fs : List Entry) (a b : Machine) (x y : List ℕ) → HasAllBlocks opening → IsReplayed text opening es a x → IsReplayed text opening fs b y → length es ≡ length fs → SameEnd es fs a b x y
+same_end text opening es fs a b x y all p q same =
+    let go = goes text opening es fs a b x y all p q (omega (arith, same)) in
     let none : go.more ≡ [] = nil_from_length go.more (omega (arith, same, go.counted, ap length go.list, length-append go.front go.more)) in
     let end : b ≡ go.mid = subst (λ (l : List Entry). IsReplay go.mid l b) none go.replay in
-    (go.rest ∙ ap (λ (l : List Entry). flat_map entry_text l ++ y) none, subst (λ (k : Machine). Alike a k) (sym end) go.alike)
+    let whole : go.front ≡ fs = sym (append-nil go.front) ∙ ap (λ (l : List Entry). go.front ++ l) (sym none) ∙ sym go.list in
+    record {
+      entries = go.same ∙ ap (map told_entry) whole;
+      alike = subst (λ (k : Machine). Alike a k) (sym end) go.alike;
+      rest = go.rest ∙ ap (λ (l : List Entry). flat_map entry_text l ++ y) none;
+    }
 
--- ---- the laws
+-- ---- where it stops
 
-full : (text : List ℕ) (opening : Store) (es : List Entry) (end : Machine) → IsRecordOf es text → IsReplay (opened opening) es end → Reading text opening (length es) es end []
-full text opening es end is led = record {
-  few = is.few;
-  at_most = omega arith;
-  front = is.spelled ∙ ap (λ (t : List ℕ). record_head (length es) ++ t) (sym (append-nil (flat_map entry_text es)));
-  each = is.each;
-  replay = led;
-}
+-- so far a text was made again, before as many entries as are wanted
+record Stopped (text : List ℕ) (opening : Store) (first : Option ℕ) : Type 0 where
+  es : List Entry
+  end : Machine
+  rest : List ℕ
+  replayed : IsReplayed text opening es end rest
+  fewer : AreFewer (length es) first
+  stops : Stops end rest
 
-pub never_both : NeverBoth
-never_both opening text es end f rest due all is led (head none e at why_due) = none (length es) (flat_map entry_text es) is.few is.spelled
-never_both opening text es end f rest due all is led (call count fs b p less begins e why_due) =
-    let whole = full text opening es end is led in
-    inside text opening count (length es) fs es b end rest [] all p whole (omega (arith, less, (heads text opening count (length es) fs es b end rest [] p whole).0)) (inl begins)
-never_both opening text es end f rest due all is led (reply count fs b last line p less other e why_due) =
-    let whole = full text opening es end is led in
-    inside text opening count (length es) fs es b end last [] all p whole (omega (arith, less, (heads text opening count (length es) fs es b end last [] p whole).0)) (inr (rest, line, other))
-never_both opening text es end f rest due all is led (more fs b p some e why_due) =
-    let whole = full text opening es end is led in
-    some (same_end text opening (length fs) (length es) fs es b end rest [] all p whole (heads text opening (length fs) (length es) fs es b end rest [] p whole).0).0
+abbrev stopped_by : (text : List ℕ) (opening : Store) (first : Option ℕ) (f : RecordFault) (rest : List ℕ) (due : Option (List ℕ)) → IsRecordFault text opening first f rest due → Stopped text opening first
+stopped_by text opening first f rest due (call es end p fewer none e d) = record { es = es; end = end; rest = rest; replayed = p; fewer = fewer; stops = inl none.unfinished }
+stopped_by text opening first f rest due (reply es end last line p fewer other e d) = record { es = es; end = end; rest = last; replayed = p; fewer = fewer; stops = inr (rest, line, other) }
+stopped_by text opening first f rest due (more es end p fewer some e d) = record { es = es; end = end; rest = end_line ++ rest; replayed = p; fewer = fewer; stops = inl (end_is_no_entry.1 rest) }
 
-two_stops : (text : List ℕ) (opening : Store) (m n : ℕ) (es fs : List Entry) (a b : Machine) (x y : List ℕ) → HasAllBlocks opening → Reading text opening m es a x → Reading text opening n fs b y → Stops a x → Stops b y → length es ≡ length fs
-two_stops text opening m n es fs a b x y all p q stop stop_too = elim (cases_lt (length es) (length fs)) [
-  | inl less ↦ absurd (inside text opening m n es fs a b x y all p q less stop)
-  | inr up ↦ elim (cases_lt (length fs) (length es)) [
-    | inl less ↦ absurd (inside text opening n m fs es b a y x all q p less stop_too)
+two_stops : (text : List ℕ) (opening : Store) (first : Option ℕ) → HasAllBlocks opening → (p q : Stopped text opening first) → length p.es ≡ length q.es
+two_stops text opening first all p q = elim (cases_lt (length p.es) (length q.es)) [
+  | inl less ↦ absurd (inside text opening p.es q.es p.end q.end p.rest q.rest all p.replayed q.replayed less p.stops)
+  | inr up ↦ elim (cases_lt (length q.es) (length p.es)) [
+    | inl less ↦ absurd (inside text opening q.es p.es q.end p.end q.rest p.rest all q.replayed p.replayed less q.stops)
     | inr down ↦ omega (arith, up, down)
   ]
 ]
 
-call_and_reply : (text : List ℕ) (opening : Store) (m n : ℕ) (es fs : List Entry) (a b : Machine) (x y replied due : List ℕ) → HasAllBlocks opening → Reading text opening m es a x → Reading text opening n fs b y → BeginsWithNoEntry x → IsOtherReply b y replied due → ⊥
-call_and_reply text opening m n es fs a b x y replied due all p q none other =
-    let same = same_end text opening m n es fs a b x y all p q (two_stops text opening m n es fs a b x y all p q (inl none) (inr (replied, due, other))) in
-    none other.session (told other.call) replied other.number_fits other.can_say (same.0 ∙ other.asks)
+stop_at : (text : List ℕ) (opening : Store) (first : Option ℕ) → HasAllBlocks opening → (p q : Stopped text opening first) → SameEnd p.es q.es p.end q.end p.rest q.rest
+stop_at text opening first all p q = same_end text opening p.es q.es p.end q.end p.rest q.rest all p.replayed q.replayed (two_stops text opening first all p q)
 
-stop_and_more : (text : List ℕ) (opening : Store) (m : ℕ) (es fs : List Entry) (a b : Machine) (x y : List ℕ) → HasAllBlocks opening → Reading text opening m es a x → length es < m → Stops a x → Reading text opening (length fs) fs b y → ⊥
-stop_and_more text opening m es fs a b x y all p less stop q =
-    inside text opening m (length fs) es fs a b x y all p q (omega (arith, less, (heads text opening m (length fs) es fs a b x y p q).0)) stop
+-- where as many are wanted as there are, nothing stops before
+pub fewer_than : (n m : ℕ) (first : Option ℕ) → first ≡ Some m → AreFewer n first → n < m
+fewer_than n m first is fewer = subst (λ (o : Option ℕ). AreFewer n o) is fewer
+
+none_before : (text : List ℕ) (opening : Store) (first : Option ℕ) (es : List Entry) (end : Machine) (rest : List ℕ) → HasAllBlocks opening → IsReplayed text opening es end rest → first ≡ Some (length es) → Stopped text opening first → ⊥
+none_before text opening first es end rest all p is q =
+    inside text opening q.es es q.end end q.rest rest all q.replayed p (fewer_than (length q.es) (length es) first is q.fewer) q.stops
+
+-- behind the call that stands there another line stands, so a whole entry does
+whole_there : (m : Machine) (text replied due : List ℕ) → IsOtherReply m text replied due → IsUnfinished text → ⊥
+whole_there m text replied due o unfinished =
+    unfinished o.session (told o.call) o.line.line o.line.rest o.number_fits o.can_say o.line.none
+    (o.asks ∙ ap (λ (l : List ℕ). number o.session space ++ (call_text (told o.call) ++ l)) o.line.text_is)
+
+-- ---- the laws
+
+abbrev ended : (text : List ℕ) (opening : Store) (first : Option ℕ) (es : List Entry) (end : Machine) (rest : List ℕ) → IsReplayed text opening es end rest → AreFewer (length es) first → Ends rest → Stopped text opening first
+ended text opening first es end rest p fewer ends = record { es = es; end = end; rest = rest; replayed = p; fewer = fewer; stops = inl ends.0 }
+
+remade_as : (es fs : List Entry) (a b : Machine) (x y : List ℕ) → SameEnd es fs a b x y → (map told_entry es ≡ map told_entry fs) × (a.store ≡ b.store) × (x ≡ y)
+remade_as es fs a b x y same = (same.entries, ap (λ (m : Machine). m.store) same.alike, same.rest)
+
+the_count : (n m : ℕ) (first : Option ℕ) → first ≡ Some n → first ≡ Some m → n ≡ m
+the_count n m first p q = cc
+
+one_remade_by : (opening : Store) (text : List ℕ) (first : Option ℕ) (es fs : List Entry) (a b : Machine) (x y : List ℕ) → HasAllBlocks opening → IsReplayed text opening es a x → IsReplayed text opening fs b y
+    → (first ≡ Some (length es)) ⊎ (AreFewer (length es) first × Ends x) → (first ≡ Some (length fs)) ⊎ (AreFewer (length fs) first × Ends y) → (map told_entry es ≡ map told_entry fs) × (a.store ≡ b.store) × (x ≡ y)
+one_remade_by opening text first es fs a b x y all p q (inl n) (inl m) = remade_as es fs a b x y (same_end text opening es fs a b x y all p q (the_count (length es) (length fs) first n m))
+one_remade_by opening text first es fs a b x y all p q (inl n) (inr m) = absurd (none_before text opening first es a x all p n (ended text opening first fs b y q m.0 m.1))
+one_remade_by opening text first es fs a b x y all p q (inr n) (inl m) = absurd (none_before text opening first fs b y all q m (ended text opening first es a x p n.0 n.1))
+one_remade_by opening text first es fs a b x y all p q (inr n) (inr m) = remade_as es fs a b x y (stop_at text opening first all (ended text opening first es a x p n.0 n.1) (ended text opening first fs b y q m.0 m.1))
+
+pub one_remade : OneRemade
+one_remade opening text first es fs a b x y all p q = one_remade_by opening text first es fs a b x y all p.replayed q.replayed p.ends q.ends
+
+no_more : (x : List ℕ) → end_line ≡ end_line ++ x → x ≡ []
+no_more x same = sym (append_cancel_left end_line [] x (append-nil end_line ∙ same))
+
+-- nothing is wrong where a record ends
+ends_right : (text : List ℕ) (opening : Store) (first : Option ℕ) (f : RecordFault) (rest left : List ℕ) (due : Option (List ℕ)) → Ends left → (is : IsRecordFault text opening first f rest due) → left ≡ (stopped_by text opening first f rest due is).rest → ⊥
+ends_right text opening first f rest left due (unfinished, inl end) (call es m p fewer none e d) same = none.no_end [] (sym same ∙ end ∙ sym (append-nil end_line))
+ends_right text opening first f rest left due (unfinished, inr torn) (call es m p fewer none e d) same = none.untorn (subst MayBeTorn same torn)
+ends_right text opening first f rest left due ends (reply es m last line p fewer other e d) same = whole_there m last rest line other (subst IsUnfinished same ends.0)
+ends_right text opening first f rest left due (unfinished, inl end) (more es m p fewer some e d) same = some (no_more rest (sym end ∙ same))
+ends_right text opening first f rest left due (unfinished, inr torn) (more es m p fewer some e d) same = end_untorn rest (subst MayBeTorn same torn)
+
+never_both_by : (opening : Store) (text : List ℕ) (first : Option ℕ) (es : List Entry) (end : Machine) (left : List ℕ) (f : RecordFault) (rest : List ℕ) (due : Option (List ℕ)) → HasAllBlocks opening → IsReplayed text opening es end left
+    → (first ≡ Some (length es)) ⊎ (AreFewer (length es) first × Ends left) → IsRecordFault text opening first f rest due → ⊥
+never_both_by opening text first es end left f rest due all p (inl n) is = none_before text opening first es end left all p n (stopped_by text opening first f rest due is)
+never_both_by opening text first es end left f rest due all p (inr n) is =
+    ends_right text opening first f rest left due n.1 is
+    (stop_at text opening first all (ended text opening first es end left p n.0 n.1) (stopped_by text opening first f rest due is)).rest
+
+pub never_both : NeverBoth
+never_both opening text first es end left f rest due all p is = never_both_by opening text first es end left f rest due all p.replayed p.ends is
+
+-- two faults, whose texts stop at one place
+one_fault_by : (opening : Store) (text : List ℕ) (first : Option ℕ) (f g : RecordFault) (x y : List ℕ) (d l : Option (List ℕ)) → HasAllBlocks opening → (p : IsRecordFault text opening first f x d) → (q : IsRecordFault text opening first g y l)
+    → SameEnd (stopped_by text opening first f x d p).es (stopped_by text opening first g y l q).es (stopped_by text opening first f x d p).end (stopped_by text opening first g y l q).end (stopped_by text opening first f x d p).rest (stopped_by text opening first g y l q).rest
+    → length (stopped_by text opening first f x d p).es ≡ length (stopped_by text opening first g y l q).es → (f ≡ g) × (x ≡ y) × (d ≡ l)
+one_fault_by opening text first f g x y d l all (call es a p fewer none e why_due) (call fs b q fewer_too none_too h why_line) same long = (e ∙ ap fault.Call long ∙ sym h, same.rest, why_due ∙ sym why_line)
+one_fault_by opening text first f g x y d l all (call es a p fewer none e why_due) (reply fs b last line q fewer_too other h why_line) same long = absurd (whole_there b last y line other (subst IsUnfinished same.rest none.unfinished))
+one_fault_by opening text first f g x y d l all (call es a p fewer none e why_due) (more fs b q fewer_too some h why_line) same long = absurd (none.no_end y same.rest)
+one_fault_by opening text first f g x y d l all (reply es a last line p fewer other e why_due) (call fs b q fewer_too none h why_line) same long = absurd (whole_there a last x line other (subst IsUnfinished (sym same.rest) none.unfinished))
+one_fault_by opening text first f g x y d l all (reply es a last line p fewer other e why_due) (reply fs b left due q fewer_too other_too h why_line) same long =
+    let fit = fit_at_first opening all in
+    let one = one_other a b last left x y line due same.alike (fit_along (opened opening) es a fit p.replay) (fit_along (opened opening) fs b fit q.replay) same.rest other other_too in
+    (e ∙ ap fault.Reply long ∙ sym h, one.0, why_due ∙ ap Some one.1 ∙ sym why_line)
+one_fault_by opening text first f g x y d l all (reply es a last line p fewer other e why_due) (more fs b q fewer_too some h why_line) same long = absurd (whole_there a last x line other (subst IsUnfinished (sym same.rest) (end_is_no_entry.1 y)))
+one_fault_by opening text first f g x y d l all (more es a p fewer some e why_due) (call fs b q fewer_too none h why_line) same long = absurd (none.no_end x (sym same.rest))
+one_fault_by opening text first f g x y d l all (more es a p fewer some e why_due) (reply fs b last line q fewer_too other h why_line) same long = absurd (whole_there b last y line other (subst IsUnfinished same.rest (end_is_no_entry.1 x)))
+one_fault_by opening text first f g x y d l all (more es a p fewer some e why_due) (more fs b q fewer_too some_too h why_line) same long = (e ∙ sym h, append_cancel_left end_line x y same.rest, why_due ∙ sym why_line)
 
 pub one_fault : OneFault
-one_fault opening text f g x y d l all (head none e at why_due) (head other h to why_line) = (e ∙ sym h, at ∙ sym to, why_due ∙ sym why_line)
-one_fault opening text f g x y d l all (head none e at why_due) (call n fs b q less_too begins_too h why_line) = absurd (none n _ q.few q.front)
-one_fault opening text f g x y d l all (head none e at why_due) (reply n fs b v w q less_too other_too h why_line) = absurd (none n _ q.few q.front)
-one_fault opening text f g x y d l all (head none e at why_due) (more fs b q some_too h why_line) = absurd (none (length fs) _ q.few q.front)
-one_fault opening text f g x y d l all (call m es a p less begins e why_due) (head none h to why_line) = absurd (none m _ p.few p.front)
-one_fault opening text f g x y d l all (reply m es a v w p less other e why_due) (head none h to why_line) = absurd (none m _ p.few p.front)
-one_fault opening text f g x y d l all (more es a p some e why_due) (head none h to why_line) = absurd (none (length es) _ p.few p.front)
-one_fault opening text f g x y d l all (call m es a p less begins e why_due) (call n fs b q less_too begins_too h why_line) =
-    let same = two_stops text opening m n es fs a b x y all p q (inl begins) (inl begins_too) in
-    (e ∙ ap fault.Call same ∙ sym h, (same_end text opening m n es fs a b x y all p q same).0, why_due ∙ sym why_line)
-one_fault opening text f g x y d l all (reply m es a v w p less other e why_due) (reply n fs b s t q less_too other_too h why_line) =
-    let same = two_stops text opening m n es fs a b v s all p q (inr (x, w, other)) (inr (y, t, other_too)) in
-    let ends = same_end text opening m n es fs a b v s all p q same in
-    let fit = fit_at_first opening all in
-    let one = one_other a b v s x y w t ends.1 (fit_along (opened opening) es a fit p.replay) (fit_along (opened opening) fs b fit q.replay) ends.0 other other_too in
-    (e ∙ ap fault.Reply same ∙ sym h, one.0, why_due ∙ ap Some one.1 ∙ sym why_line)
-one_fault opening text f g x y d l all (more es a p some e why_due) (more fs b q some_too h why_line) =
-    let ends = same_end text opening (length es) (length fs) es fs a b x y all p q (heads text opening (length es) (length fs) es fs a b x y p q).0 in
-    (e ∙ sym h, ends.0, why_due ∙ sym why_line)
-one_fault opening text f g x y d l all (call m es a p less begins e why_due) (reply n fs b s t q less_too other h why_line) = absurd (call_and_reply text opening m n es fs a b x s y t all p q begins other)
-one_fault opening text f g x y d l all (reply m es a v w p less other e why_due) (call n fs b q less_too begins h why_line) = absurd (call_and_reply text opening n m fs es b a y v x w all q p begins other)
-one_fault opening text f g x y d l all (call m es a p less begins e why_due) (more fs b q some h why_line) = absurd (stop_and_more text opening m es fs a b x y all p less (inl begins) q)
-one_fault opening text f g x y d l all (more fs b q some h why_line) (call m es a p less begins e why_due) = absurd (stop_and_more text opening m es fs a b y x all p less (inl begins) q)
-one_fault opening text f g x y d l all (reply m es a v w p less other e why_due) (more fs b q some h why_line) = absurd (stop_and_more text opening m es fs a b v y all p less (inr (x, w, other)) q)
-one_fault opening text f g x y d l all (more fs b q some h why_line) (reply m es a v w p less other e why_due) = absurd (stop_and_more text opening m es fs a b v x all p less (inr (y, w, other)) q)
-
--- ---- what is recorded, and replayed
-
-its_record : (es : List Entry) (text : List ℕ) → text ≡ record_text es → length es ≤ MAX_ENTRIES → All CanTell es → IsRecordOf es text
-its_record es text is few each = record { spelled = is; few = few; each = each }
-
-pub again_same : (opening rack : Store) (text : List ℕ) (es fs : List Entry) (a b : Machine) → HasAllBlocks opening → rack ≡ opening → text ≡ record_text es → length es ≤ MAX_ENTRIES → All CanTell es → IsReplay (opened opening) es a
-    → IsRecordOf fs text → IsReplay (opened rack) fs b → (map told_entry fs ≡ map told_entry es) × (b.store ≡ a.store)
-again_same opening rack text es fs a b all same is few each led other too =
-    one_record opening text fs es b a all other (its_record es text is few each) (subst (λ (s : Store). IsReplay (opened s) fs b) same too) led
-
-only_memory : (f : RecordFault) → (f ≢ fault.NoMemory → ⊥) → f ≡ fault.NoMemory
-only_memory fault.NoMemory never = refl
-only_memory f never = absurd (never (λ e. absurd cc))
-
-pub no_fault : (opening rack : Store) (text : List ℕ) (es : List Entry) (a : Machine) (error : RecordError) → HasAllBlocks opening → rack ≡ opening → text ≡ record_text es → length es ≤ MAX_ENTRIES → All CanTell es → IsReplay (opened opening) es a
-    → (error.fault ≢ fault.NoMemory → IsRecordError text rack error) → error.fault ≡ fault.NoMemory
-no_fault opening rack text es a error all same is few each led why =
-    only_memory error.fault
-    (λ other. never_both opening text es a error.fault _ _ all (its_record es text is few each) led (subst (λ (s : Store). IsRecordError text s error) same (why other)).wrong)
-
-pub ok_both : {T E : Type 0} (r : Result T E) (P Q R : T → Type 0) → IfOk r P → IfOk r Q → ((x : T) → P x → Q x → R x) → IfOk r R
-ok_both (Ok x) P Q R p q f = f x p q
-ok_both (Err e) P Q R p q f = tt
-
-pub err_so : {T E : Type 0} (r : Result T E) (P Q : E → Type 0) → ((e : E) → P e → Q e) → IfErr r P → IfErr r Q
-err_so (Ok x) P Q f p = tt
-err_so (Err e) P Q f p = f e p
+one_fault opening text first f g x y d l all p q =
+    let one = stopped_by text opening first f x d p in
+    let other = stopped_by text opening first g y l q in
+    one_fault_by opening text first f g x y d l all p q (stop_at text opening first all one other) (two_stops text opening first all one other)

@@ -5,5 +5,5 @@ mod Strangers
 mod Others
 mod Telling
 mod Turns
-mod GoingOn
-mod Cuts
+pub mod Cuts
+pub mod Recorded

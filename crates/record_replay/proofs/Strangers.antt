@@ -148,6 +148,11 @@ none_strange m (e ∷ es) end last numbered holds settle led =
           (λ s. settle_next (last s) e (own s es) (nat_eq by s) (settle s)) led.2,
     )
 
+numbered_along : (m : Machine) (es : List Entry) (n : Machine) → AreNumbered m → IsReplay m es n → AreNumbered n
+numbered_along m [] n numbered led = subst AreNumbered (sym led) numbered
+numbered_along m (e ∷ es) n numbered led = numbered_along led.0 es n (step_keeps m e.session e.call e.reply led.0 numbered led.1).0 led.2
+
 pub no_strangers : NoStrangers
-no_strangers opening es end led settle =
-    All-from_recursion (λ e. e.reply ≢ reply.Refused Stranger) es (none_strange (opened opening) es end (λ s. None) (omega arith) (λ s. tt) settle led)
+no_strangers opening earlier es mid end before led settle =
+    All-from_recursion (λ e. e.reply ≢ reply.Refused Stranger) es
+    (none_strange mid es end (λ s. None) (numbered_along (opened opening) earlier mid (omega arith) before) (λ s. tt) settle led)

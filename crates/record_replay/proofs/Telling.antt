@@ -31,9 +31,9 @@ settle_all n es sessions settle s = elim (cases_lt s n) [
 ]
 
 pub sessions_are_told : SessionsAreTold
-sessions_are_told opening es end n led counted few say unstopped =
+sessions_are_told opening earlier es mid end n before led counted few say unstopped =
     let sessions = no_others es n counted in
-    let strange = no_strangers opening es end led (settle_all n es sessions (λ s less. (say s less).settle)) in
+    let strange = no_strangers opening earlier es mid end before led (settle_all n es sessions (λ s less. (say s less).settle)) in
     All-from_recursion CanTell es
     (each_told n es (omega (arith, few)) sessions (all_own (λ e. CanSay (told e.call)) n es sessions (λ s less. recursion_from_All (λ e. CanSay (told e.call)) (own s es) (say s less).calls))
     (recursion_from_All (λ e. IsUnstopped e.reply) es unstopped) (recursion_from_All (λ e. e.reply ≢ reply.Refused Stranger) es strange))

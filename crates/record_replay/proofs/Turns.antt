@@ -147,10 +147,10 @@ begun_said by head (Some Bye) es means is = subst Said (sym is) nothing
 are_of_lines : (es : List Entry) → Said es → AreOfLines es
 are_of_lines es said = record { calls = All-from_recursion (λ e. CanSay (told e.call)) es said.0; settle = said.1 None }
 
-told_said_so : (old new : SeatView) (turns : List Turn) (bytes rest : List ℕ) (entries : List Entry) (text : List ℕ) → IsShape old.shape → IsSession old new turns bytes rest entries text → Said entries
+told_said_so : {breaks : Bool} (old new : SeatView) (turns : List Turn) (bytes rest : List ℕ) (entries : List Entry) (text : List ℕ) → IsShape old.shape → IsSession breaks old new turns bytes rest entries text → Said entries
 told_said_so old new turns bytes rest entries text is session = subst Said (sym session.entries_are) (turns_said old.shape old.session turns is session.each)
 
-session_said : (old new : SeatView) (turns : List Turn) (bytes rest : List ℕ) (entries : List Entry) (text : List ℕ) → IsShape old.shape → IsSession old new turns bytes rest entries text → AreOfLines entries
+session_said : (old new : SeatView) (turns : List Turn) (bytes rest : List ℕ) (entries : List Entry) (text : List ℕ) → IsShape old.shape → IsSession false old new turns bytes rest entries text → AreOfLines entries
 session_said old new turns bytes rest entries text is session = are_of_lines entries (told_said_so old new turns bytes rest entries text is session)
 
 pub sessions_say : SessionsSay

@@ -1,24 +1,33 @@
 -- What the laws state. Proofs use them; no contract of a call cites them.
-use Rattle.std.specs.Prelude.{◌≡◌, ℕ, List, Option}
+use Rattle.std.specs.Prelude.{◌≡◌, ℕ, List, map, Option}
 use Rattle.module_memory.specs.Store.{Store, HasAllBlocks}
 use Rattle.batch_book.specs.declared.entry.Entry.{Entry}
-use Rattle.batch_book.specs.History.{IsReplay}
-use Rattle.batch_book.specs.Machine.{Machine, opened}
-use Rattle.book_record.specs.RecordText.{IsRecordOf}
+use Rattle.batch_book.specs.Machine.{Machine}
+use Rattle.book_record.specs.Untold.{told_entry}
 use Rattle.record_replay.specs.declared.fault.RecordFault.{RecordFault}
-use Rattle.record_replay.specs.Replays.{IsRecordFault}
+use Rattle.record_replay.specs.Replays.{IsRecordFault, IsRemade}
 
--- the record of a legal history has no fault
+-- entries that are made again differ in plans alone, and lead to the same words, with one rest
+abbrev pub OneRemade : Type 0
+OneRemade =
+    (opening : Store) (text : List ℕ) (first : Option ℕ) (es fs : List Entry) (a b : Machine)
+    (rest left : List ℕ) → HasAllBlocks opening → IsRemade text opening first es a rest
+    → IsRemade text opening first fs b left
+    → (map told_entry es ≡ map told_entry fs) × (a.store ≡ b.store) × (rest ≡ left)
+
+-- where they are made again there is no fault
 abbrev pub NeverBoth : Type 0
 NeverBoth =
-    (opening : Store) (text : List ℕ) (es : List Entry) (end : Machine) (fault : RecordFault)
-    (rest : List ℕ) (due : Option (List ℕ)) → HasAllBlocks opening → IsRecordOf es text
-    → IsReplay (opened opening) es end → IsRecordFault text opening fault rest due → ⊥
+    (opening : Store) (text : List ℕ) (first : Option ℕ) (es : List Entry) (end : Machine)
+    (left : List ℕ) (fault : RecordFault) (rest : List ℕ) (due : Option (List ℕ))
+    → HasAllBlocks opening → IsRemade text opening first es end left
+    → IsRecordFault text opening first fault rest due → ⊥
 
--- any other text has one fault, in one place, and one line is due there
+-- else there is one fault, in one place, and one line is due there
 abbrev pub OneFault : Type 0
 OneFault =
-    (opening : Store) (text : List ℕ) (one other : RecordFault) (rest left : List ℕ)
-    (due line : Option (List ℕ)) → HasAllBlocks opening → IsRecordFault text opening one rest due
-    → IsRecordFault text opening other left line
+    (opening : Store) (text : List ℕ) (first : Option ℕ) (one other : RecordFault)
+    (rest left : List ℕ) (due line : Option (List ℕ)) → HasAllBlocks opening
+    → IsRecordFault text opening first one rest due
+    → IsRecordFault text opening first other left line
     → (one ≡ other) × (rest ≡ left) × (due ≡ line)

@@ -2,5 +2,4 @@ pub mod Replays
 pub mod Laws
 pub mod Fetched
 pub mod SessionLaws
-pub mod Resumes
 pub mod ResumeLaws

@@ -16,18 +16,21 @@ use Rattle.client_session.specs.declared.fault.ServeFault.{ServeFault}
 use Rattle.book_record.specs.RecordText.{CanTell}
 use Rattle.record_replay.specs.Fetched.{AreOfLines, SettleFetched}
 
--- where each session settles plans right behind the fetching of their batches, none is another's
+-- Behind any entries: where each session settles plans right behind the fetching of their batches,
+-- none is another's.
 abbrev pub NoStrangers : Type 0
 NoStrangers =
-    (opening : Store) (es : List Entry) (end : Machine) → IsReplay (opened opening) es end
+    (opening : Store) (earlier es : List Entry) (mid end : Machine)
+    → IsReplay (opened opening) earlier mid → IsReplay mid es end
     → ((session : ℕ) → SettleFetched None (own session es))
     → All (λ e. e.reply ≢ Refused Stranger) es
 
--- Where sessions numbered from 0 have as many entries as their history, each of them such as lines
--- say, and no run stopped, a record can tell them all.
+-- Behind any entries: where sessions numbered from 0 have as many as there are, each of them such
+-- as lines say, and no run stopped, a record can tell them all.
 abbrev pub SessionsAreTold : Type 0
 SessionsAreTold =
-    (opening : Store) (es : List Entry) (end : Machine) (n : ℕ) → IsReplay (opened opening) es end
+    (opening : Store) (earlier es : List Entry) (mid end : Machine) (n : ℕ)
+    → IsReplay (opened opening) earlier mid → IsReplay mid es end
     → sum_by (λ session. length (own session es)) (range_with_len 0 n) ≡ length es
     → n ≤ 10 ^ MAX_DIGITS → ((session : ℕ) → session < n → AreOfLines (own session es))
     → AreUnstopped es → All CanTell es

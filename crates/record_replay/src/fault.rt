@@ -1,11 +1,9 @@
 use std::alloc::AllocError;
 use thiserror::Error;
 
-/// Why a text doesn't go on with an entry that comes.
+/// Why an entry that stands whole in front of a text isn't the one that comes.
 #[derive(Drop)]
-pub enum EntryFault<'a> {
-    /// No session's number and call stand there.
-    Call,
+pub(crate) enum EntryFault<'a> {
     /// This stands behind the call, and doesn't begin with this line, which is that of its reply.
     Reply(&'a [u8], Vec<u8>),
     /// There was no memory.
@@ -26,16 +24,16 @@ impl<'a> From<AllocError> for EntryFault<'a> {
 /// What is first wrong with a record. Entries are counted from 0.
 #[derive(Clone, Copy, Debug, PartialEq, Eq, Error)]
 pub enum RecordFault {
-    /// Its first line counts no entries, or too many.
+    /// Its head isn't that of the rack, or there is none.
     #[error("head")]
     Head,
-    /// No call stands where that of this entry should.
+    /// No call stands where that of this entry should, nor a front of an entry, nor the last line.
     #[error("call {0}")]
     Call(usize),
     /// The reply of this entry isn't the one that comes.
     #[error("reply {0}")]
     Reply(usize),
-    /// Something follows the last entry.
+    /// Something follows the last line.
     #[error("more")]
     More,
     /// There was no memory.

@@ -3,27 +3,29 @@
 ghost use Rattle.std.specs.Prelude.{◌≡◌, All, IfOk, IfErr, map};
 ghost use Rattle.book_record.specs.RecordText.{CanTell};
 ghost use Rattle.book_record.specs.Untold.{told_entry};
-ghost use Rattle.record_replay.specs.Laws.{NeverBoth, OneFault};
+ghost use Rattle.record_replay.specs.Laws.{NeverBoth, OneFault, OneRemade};
 ghost use Rattle.record_replay.specs.ResumeLaws.{CutIsResumed, StreamIsResumed};
 ghost use Rattle.record_replay.specs.SessionLaws.{NoStrangers, SessionsAreTold, SessionsSay};
 
 use crate::fault::{RecordError, RecordFault};
 use crate::replaying::replay;
 use batch_book::{Book, Silent};
-use book_record::write_record;
 use exchange_limits::WorkerCount;
+use record_fronts::{read_head, write_record};
 use std::alloc::Global;
 use std::thread::Threads;
 
-/// The record of a legal history has no fault, and any other text has at most one, in one place,
-/// where one line is due.
-pub fn one_fault()
+/// A text has one outcome. Its entries are made again in one way but for plans, to the same words and
+/// with one rest; or one thing is first wrong, in one place, where one line is due.
+pub fn one_outcome()
+    ensures remade { OneRemade }
     ensures apart { NeverBoth }
     ensures fault { OneFault }
 {}
 
-/// Where each session settles a plan right behind fetching its batch, no plan is another batch's;
-/// so a record can tell all that sessions leave, where no run stopped.
+/// Whatever entries stand before: where each session settles a plan right behind fetching its
+/// batch, no plan is another batch's; so a record can tell all that sessions leave, where no run
+/// stopped.
 pub fn sessions_are_told()
     ensures say { SessionsSay }
     ensures strangers { NoStrangers }
@@ -31,8 +33,8 @@ pub fn sessions_are_told()
 {}
 
 /// Wherever the text of a legal history is cut, what is read of it leads to the words that a front
-/// of the history leads to. So what a stream has got, at any moment and wherever a crash cuts it
-/// behind what was told, leads to the words behind a front that has all that was told.
+/// of the history leads to. So does what a stream's writer holds, and that front has each entry that
+/// was told.
 pub fn resumed()
     ensures cut { CutIsResumed }
     ensures stream { StreamIsResumed }
@@ -55,6 +57,10 @@ pub fn recorded_then_replayed<R: Threads + Sync>(
     book.history();
     let _shape = book.opening().shape();
     let text = write_record(alloc, book)?;
+    let Some((_, _, entries)) = read_head(text.as_slice()) else {
+        unreachable!()
+    };
     let opening = book.opening().copy()?;
-    replay(rt, alloc, opening, text.as_slice(), workers)
+    let again = replay(rt, alloc, opening, entries, None, workers)?;
+    Ok(again.book)
 }

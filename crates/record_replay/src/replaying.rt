@@ -1,24 +1,34 @@
-//! A whole record, replayed.
+//! The entries of a record, made again.
 
-ghost use Rattle.std.specs.Prelude.{◌≡◌, ◌≢◌, ◌-◌, IfOk, IfErr, None, length};
-ghost use Rattle.batch_book.specs.History.{IsReplay};
-ghost use Rattle.batch_book.specs.Machine.{opened};
-ghost use Rattle.book_record.specs.RecordText.{IsRecordOf};
-ghost use Rattle.record_replay.specs.Replays.{IsRecordError};
+ghost use Rattle.std.specs.Prelude.{◌≡◌, ◌≢◌, ◌-◌, IfOk, IfErr, IfSome, IfNone, None, length};
+ghost use Rattle.record_fronts.specs.Fronts.{IsUnfinished};
+ghost use Rattle.record_replay.specs.Replays.{AreFewer, Ends, IsRecordError, IsRemade, IsReplayed, IsWrongEnd};
 
 use crate::asking::PlainPlant;
 use crate::fault::{EntryFault, RecordError, RecordFault};
 use crate::following::follow;
-use batch_book::{Book, MAX_ENTRIES, Silent};
-use book_record::read_head;
+use batch_book::{Book, Silent};
 use crossbar::MemoryPort;
 use exchange_limits::WorkerCount;
+use line_words::behind;
 use module_memory::Rack;
 use peek_poke::PlainWires;
+use record_fronts::{is_ended, may_be_torn, read_whole_entry};
 use schedule_certificate::OpenGate;
 use setting_runner::Plant;
 use std::alloc::{AllocError, Global};
 use std::thread::Threads;
+
+/// Entries that were made again.
+#[derive(Drop)]
+pub struct Remade<'a> {
+    /// The book that has them.
+    pub book: Book<Silent>,
+    /// How many there are.
+    pub entries: usize,
+    /// What stands behind them.
+    pub rest: &'a [u8],
+}
 
 /// How many bytes of a text stand before this rest of it.
 fn offset_of(text: &[u8], rest: &[u8]) -> usize
@@ -40,25 +50,74 @@ fn wrong_at(fault: RecordFault, text: &[u8], rest: &[u8]) -> RecordError
     }
 }
 
-/// Makes the calls of a record again, on a new book of this rack, whose port and wires never fail.
-/// Where each reply has the line that the record tells, the book has a history of which the text is
-/// the record; else there is no legal one, and the error tells what is first wrong, and where. A
-/// call that settles a plan is made with a plan of the session's batch.
+/// What is wrong with the rest of a record behind so many entries, where no whole one begins there;
+/// nothing, where the record ends there.
+fn wrong_end(entries: usize, text: &[u8], rest: &[u8]) -> Option<RecordError>
+    requires { IsUnfinished rest.now }
+    ensures none { IfNone result (Ends rest.now) }
+    ensures some { IfSome result (IsWrongEnd entries text.now rest.now) }
+{
+    if is_ended(rest) || may_be_torn(rest) {
+        return None;
+    }
+    match behind(rest, b"end\n") {
+        Some(more) => Some(wrong_at(RecordFault::More, text, more)),
+        None => Some(wrong_at(RecordFault::Call(entries), text, rest)),
+    }
+}
+
+/// The outcome where all whole entries were made again, of which there are so many, and fewer than
+/// are wanted: the record ends there, or something is wrong with its rest.
+fn ended<'a>(
+    text: &[u8],
+    first: Option<usize>,
+    book: Book<Silent>,
+    entries: usize,
+    rest: &'a [u8],
+) -> Result<Remade<'a>, RecordError>
+    requires replayed { IsReplayed text.now book.opening book.history book.machine rest.now }
+    requires counted { length book.history ≡ entries }
+    requires fewer { AreFewer (length book.history) first }
+    requires unfinished { IsUnfinished rest.now }
+    ensures remade { IfOk result (λ remade. IsRemade text.now book.opening first
+        remade.book.history remade.book.machine remade.rest.now) }
+    ensures opening { IfOk result (λ remade. remade.book.opening ≡ book.opening) }
+    ensures counted { IfOk result (λ remade. length remade.book.history ≡ remade.entries) }
+    ensures wrong { IfErr result (IsRecordError text.now book.opening first) }
+{
+    if let Some(error) = wrong_end(entries, text, rest) {
+        return Err(error);
+    }
+    Ok(Remade {
+        book,
+        entries,
+        rest,
+    })
+}
+
+/// Makes the calls of the entries of a record again, on a new book of this rack, whose port and
+/// wires never fail: so many of them as are wanted, or all. The text is what stands behind the
+/// record's head. Where each reply has the line that the record tells, the book has a legal history
+/// of these entries. The record may end by its last line, or may have been torn off; else the error
+/// tells what is first wrong, and where. A call that settles a plan is made with a plan of the
+/// session's batch.
 ///
 /// Planning and runs are given so many workers. It takes memory as the book does, and for a reply
 /// line.
-pub fn replay<R: Threads + Sync>(
+pub fn replay<'a, R: Threads + Sync>(
     rt: &R,
     alloc: Global,
     rack: Rack,
-    text: &[u8],
+    text: &'a [u8],
+    first: Option<usize>,
     workers: WorkerCount,
-) -> Result<Book<Silent>, RecordError>
-    ensures opening { IfOk result (λ book. book.opening ≡ rack) }
-    ensures record { IfOk result (λ book. IsRecordOf book.history text.now) }
-    ensures legal { IfOk result (λ book. IsReplay (opened rack) book.history book.machine) }
+) -> Result<Remade<'a>, RecordError>
+    ensures remade { IfOk result (λ remade. IsRemade text.entry.now rack first
+        remade.book.history remade.book.machine remade.rest.now) }
+    ensures opening { IfOk result (λ remade. remade.book.opening ≡ rack) }
+    ensures counted { IfOk result (λ remade. length remade.book.history ≡ remade.entries) }
     ensures wrong { IfErr result (λ error. error.fault ≢ RecordFault.NoMemory
-        → IsRecordError text.now rack error) }
+        → IsRecordError text.entry.now rack first error) }
 {
     let mut plant: PlainPlant = Plant {
         port: MemoryPort::new(),
@@ -66,23 +125,21 @@ pub fn replay<R: Threads + Sync>(
         gate: OpenGate,
         workers,
     };
-    let Some((count, mut rest)) = read_head(text) else {
-        return Err(wrong_at(RecordFault::Head, text, text));
-    };
-    if count > MAX_ENTRIES {
-        return Err(wrong_at(RecordFault::Head, text, text));
-    }
     let Ok(mut book) = Book::with(alloc, rack, Silent::new()) else {
         return Err(RecordError::from(AllocError));
     };
-    for k in 0..count {
+    let mut rest = text;
+    for entries in 0..first.unwrap_or(usize::MAX) {
+        // The history is asked for only for its contract, which says that it is legal.
         book.log();
-        match follow(rt, alloc, &mut book, &mut plant, rest, workers) {
+        let Some(entry) = read_whole_entry(alloc, rest)? else {
+            return ended(text, first, book, entries, rest);
+        };
+        match follow(rt, alloc, &mut book, &mut plant, entry, workers) {
             Ok(after) => rest = after,
-            Err(EntryFault::Call) => return Err(wrong_at(RecordFault::Call(k), text, rest)),
             Err(EntryFault::Reply(replied, due)) => {
                 return Err(RecordError {
-                    fault: RecordFault::Reply(k),
+                    fault: RecordFault::Reply(entries),
                     offset: offset_of(text, replied),
                     due: Some(due),
                 });
@@ -90,10 +147,13 @@ pub fn replay<R: Threads + Sync>(
             Err(EntryFault::NoMemory) => return Err(RecordError::from(AllocError)),
         }
     }
-    // The history is asked for only for its contract, which says that it is legal.
     book.log();
-    if !rest.is_empty() {
-        return Err(wrong_at(RecordFault::More, text, rest));
-    }
-    Ok(book)
+    let Some(entries) = first else {
+        return Err(RecordError::from(AllocError));
+    };
+    Ok(Remade {
+        book,
+        entries,
+        rest,
+    })
 }

@@ -49,17 +49,17 @@ tears before mid after earlier all e w cut = record {
 }
 
 -- nothing was written as yet
-pub begins : (now : Option (List ℕ)) (past : List Entry) → IsWritten now now past past true
-begins now past = record {
+pub begins : (held now : Option (List ℕ)) (earlier past : List Entry) → now ≡ held → past ≡ earlier → IsWritten held now earlier past true
+begins held now earlier past same are = record {
   added = [];
-  are = sym (append-nil past);
-  has_all = λ _. same now;
+  are = are ∙ sym (append-nil earlier);
+  has_all = λ _. subst (λ (o : Option (List ℕ)). Appends held o []) (sym same) (nothing held);
   lacks_last = λ never. absurd (true≢false never);
 }
   where
-    same : (o : Option (List ℕ)) → Appends o o []
-    same None = tt
-    same (Some xs) = sym (append-nil xs)
+    nothing : (o : Option (List ℕ)) → Appends o o []
+    nothing None = tt
+    nothing (Some xs) = sym (append-nil xs)
 
 -- ---- what a push leaves
 

@@ -28,31 +28,20 @@ pub record IsWritten (before after : Option (List ℕ)) (earlier all : List Entr
   pub has_all : whole ≡ true → HasAll before after added
   pub lacks_last : whole ≡ false → LacksLast before after added
 
--- What contracts see of a stream: what the writer held as it was opened, and holds now; the entries
--- before that, and all; whether each stands at the writer; and the text of the one that is drafted.
+-- What contracts see of a stream: what its writer holds; all entries, and whether each of them
+-- stands there; the text of the one that is drafted, and how many bytes more there is room for.
 pub record StreamState : Type 0 where
-  pub before : Option (List ℕ)
-  pub after : Option (List ℕ)
-  pub earlier : List Entry
+  pub holds : Option (List ℕ)
   pub all : List Entry
   pub whole : Bool
   pub text : List ℕ
+  pub room : ℕ
 
-abbrev pub stream_state : Option (List ℕ) → Option (List ℕ) → List Entry → List Entry → Bool
-    → List ℕ → StreamState
-stream_state before after earlier all whole text = record {
-  before = before;
-  after = after;
-  earlier = earlier;
+abbrev pub stream_state : Option (List ℕ) → List Entry → Bool → List ℕ → ℕ → StreamState
+stream_state holds all whole text room = record {
+  holds = holds;
   all = all;
   whole = whole;
   text = text;
+  room = room;
 }
-
--- a stream to this writer, which holds the text of these entries
-abbrev pub new_stream : Option (List ℕ) → List Entry → StreamState
-new_stream held earlier = stream_state held held earlier earlier true []
-
--- the writer has got the text of all entries since, or the last one is missing or cut
-abbrev pub HoldsTexts : StreamState → Type 0
-HoldsTexts s = IsWritten s.before s.after s.earlier s.all s.whole

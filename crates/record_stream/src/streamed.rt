@@ -1,101 +1,92 @@
 //! A history that is a text at a writer.
 
-ghost use Rattle.std.specs.Prelude.{◌≡◌, ◌++◌, true, false, OnOk, OnErr};
+ghost use Rattle.std.specs.Prelude.{◌≡◌, ◌≤◌, ◌++◌, [], true, false, OnOk, OnErr};
 ghost use Rattle.std.specs.Io.KnownBytes.{Appends};
 ghost use Rattle.byte_streams.specs.Writing.{IsCutShort};
 ghost use Rattle.batch.specs.Text.{number, space};
 ghost use Rattle.batch_book.specs.Told.{told};
 ghost use Rattle.book_record.specs.RecordText.{CanBePut, id_of, call_text, reply_text};
-ghost use Rattle.record_stream.specs.Streams.{HoldsTexts, new_stream};
+ghost use Rattle.record_stream.specs.Streams.{IsWritten};
+ghost use Rattle.record_stream.specs.declared.streamed.TheConstants.{REPLY_ROOM};
 
+use crate::naming::StreamName;
 use batch_book::{Call, Entry, History, LoggedReply, PastEntries, Unwritten};
 use book_record::{id_of, push_asked, push_logged, push_session};
 use byte_streams::write_bytes;
 use std::alloc::{AllocError, Global};
 use std::io::Write;
-use std::marker::Model;
-use std::snapshot::Snapshot;
+use std::marker::{Model, PhantomData};
 
 /// How many bytes the line of a reply may have, that of a run that stopped apart.
-const REPLY_ROOM: usize = 160;
+pub const REPLY_ROOM: usize = 160;
 
 /// Entries that go to a writer, each as its text, as soon as it is pushed. It keeps none of them,
 /// so there may be any number.
 ///
 /// Once an entry couldn't be written whole nothing more is written.
-pub struct Streamed<W: Write> {
+pub struct Streamed<W: Write, N: StreamName> {
     writer: W,
     // The text of the entry that is drafted, but for the line of the reply.
     text: Vec<u8>,
     whole: bool,
     past: PastEntries,
-    // The writer as it was, and the entries before.
-    opened: Snapshot<W>,
-    earlier: Snapshot<PastEntries>,
+    named: PhantomData<N>,
 }
 
 // Said once, so that no function that lets go of one has to say it again.
-impl<W: Write + Drop> Drop for Streamed<W> {
+impl<W: Write + Drop, N: StreamName> Drop for Streamed<W, N> {
     fn drop(self) {
         let Streamed {
             writer: _,
             text: _,
             whole: _,
             past: _,
-            opened: _,
-            earlier: _,
+            named: _,
         } = self;
     }
 }
 
-impl<W: Write> Model for Streamed<W> {
+impl<W: Write, N: StreamName> Model for Streamed<W, N> {
+    ghost use Rattle.std.specs.Prelude.{◌-◌, vec_capacity, vec_len};
     ghost use Rattle.record_stream.specs.Streams.{StreamState, stream_state, IsWritten};
 
     ghost Value = { StreamState };
 
-    ghost view = { λ s. stream_state (W.contents s.opened.value) (W.contents s.writer)
-        s.earlier.value s.past s.whole s.text.items };
+    ghost view = { λ s. stream_state (W.contents s.writer) s.past s.whole s.text.items
+        (vec_capacity s.text - vec_len s.text) };
 
-    ghost invariant = { λ s. IsWritten (W.contents s.opened.value) (W.contents s.writer)
-        s.earlier.value s.past s.whole };
+    ghost invariant = { λ s. IsWritten N.held (W.contents s.writer) N.earlier s.past s.whole };
 }
 
-impl<W: Write> Streamed<W> {
-    /// A history that goes on behind these entries, whose text the writer holds already.
-    pub fn behind(alloc: Global, past: PastEntries, writer: W) -> Streamed<W>
-        ensures { result ≡ new_stream (W.contents writer) past }
+impl<W: Write, N: StreamName> Streamed<W, N> {
+    /// A history that goes on behind these entries, at this writer: they, and what the writer holds,
+    /// are those that the stream is named by.
+    pub fn behind(alloc: Global, past: PastEntries, writer: W) -> Streamed<W, N>
+        requires held { W.contents writer ≡ N.held }
+        requires earlier { past ≡ N.earlier }
+        ensures holds { result.holds ≡ W.contents writer }
+        ensures all { result.all ≡ past }
+        ensures whole { result.whole ≡ true }
     {
-        let opened = Snapshot::of(&writer);
-        let earlier = Snapshot::of(&past);
         Streamed {
             writer,
             text: Vec::new(alloc),
             whole: true,
             past,
-            opened,
-            earlier,
+            named: PhantomData,
         }
-    }
-
-    /// What the writer has got since it was opened. It makes no call.
-    pub fn has_written(&self)
-        ensures { HoldsTexts self.now }
-    {
-        let _whole = self.whole;
     }
 
     /// The writer, and what it has got.
     pub fn into_writer(self) -> W
-        ensures writer { W.contents result ≡ self.after }
-        ensures holds { HoldsTexts self }
+        ensures { IsWritten N.held (W.contents result) N.earlier self.all self.whole }
     {
         let Streamed {
             writer,
             text: _,
             whole: _,
             past: _,
-            opened: _,
-            earlier: _,
+            named: _,
         } = self;
         writer
     }
@@ -123,7 +114,7 @@ fn send<W: Write>(
     }
 }
 
-impl<W: Write> History for Streamed<W> {
+impl<W: Write, N: StreamName> History for Streamed<W, N> {
     ghost pushed = { λ s. s.all };
 
     ghost whole = { λ s. s.whole };
@@ -132,7 +123,8 @@ impl<W: Write> History for Streamed<W> {
 
     ghost loses = { true };
 
-    ghost drafted = { λ s session call. s.text ≡ number session space ++ call_text (told call) };
+    ghost drafted = { λ s session call.
+        (s.text ≡ number session space ++ call_text (told call)) × (REPLY_ROOM ≤ s.room) };
 
     fn is_whole(&self) -> bool {
         self.whole

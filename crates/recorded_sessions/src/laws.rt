@@ -4,8 +4,11 @@ ghost use Rattle.recorded_sessions.specs.Laws.{HostIsReplayed, ServeIsReplayed, 
 
 use record_replay::laws;
 
-/// A record can tell the whole history of the book that `serve`, `host` or `talk` leaves. With the
-/// same shape and image `replay` answers it by the image that they leave; it has no other answer.
+/// The record of the book that `serve` leaves is replayed to that book's words: given the same
+/// image, and the same shape or none, `replay` has just this answer. What stands in the file that
+/// `host` or `talk` writes call by call, of which a front of an entry may be the last, is replayed
+/// to the words to which all that was told leads, behind what the record had before, and maybe the
+/// one entry that nobody was told.
 pub fn recorded_then_replayed()
     ensures serve { ServeIsReplayed }
     ensures host { HostIsReplayed }

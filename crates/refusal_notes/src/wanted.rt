@@ -14,6 +14,10 @@ use std::fmt::{self, Display, Formatter, Write};
 
 const _: () = prove!(MAX_MODULES == 32 && PORTS == 32 && JOINED_MODULES == 16);
 
+/// The first line of a record, and what goes on behind it.
+const RECORD_HEAD: &str =
+    "\"record MxKxW SUM N\", where MxKxW is its shape, SUM the sum of its image, of eight digits, and N counts the lines \"client NAME\" behind it";
+
 /// The calls of a record.
 const CALLS: &str =
     "\"batch N\" and the batch's lines, \"fetch ID\", \"settle ID\", \"run ID\", \"show ID\", \"drop ID\", \"peek M A\" or \"poke M A D\"";
@@ -84,11 +88,14 @@ impl<'a> Wanted<'a> {
                 "\"busiest link E module M\", where E is 0 or 3 and M 0 to 31, or \"busiest none\""
             }
             Wanted::Named => "\"named T U ..\", where T, U .. are transfers, one at least",
-            Wanted::RecordHead => "\"record N\", where N counts the entries, at most 65536",
             Wanted::Sent => {
                 "\"batch N\", \"plan N\", \"run N\", \"show N\", \"drop N\", \"peek M h\", \"poke M h h\", \"progress\", \"bye\""
             }
-            Wanted::End | Wanted::Call(_) | Wanted::Reply(..) | Wanted::RecordEnd => return None,
+            Wanted::End
+            | Wanted::RecordHead
+            | Wanted::Call(_)
+            | Wanted::Reply(..)
+            | Wanted::RecordEnd => return None,
         })
     }
 
@@ -124,6 +131,7 @@ impl<'a> Display for Wanted<'a> {
     fn fmt<W: Write>(&self, f: &mut Formatter<W>) -> fmt::Result {
         match (self.form(), *self) {
             (Some(form), _) => f.write_str(form),
+            (None, Wanted::RecordHead) => f.write_str(RECORD_HEAD),
             (None, Wanted::Call(e)) => write_call(f, e),
             (None, Wanted::Reply(e, due)) => write!(f, "the reply of entry {e}, {due}"),
             (None, _) => f.write_str("the text's end"),

@@ -90,11 +90,13 @@ fn write_form<W: Write>(f: &mut Formatter<W>, text: &[u8], line: LineNote<'_>) -
     match (Difference::of(text, line.number, wanted), wanted) {
         _ if is_missing && line.number <= 1 => write!(f, "the text is empty; wanted is {wanted}"),
         _ if is_missing => write!(f, "the text ends above this line; wanted is {wanted}"),
-        (_, Wanted::End) => write!(f, "{quote} stands behind the last line; nothing may follow"),
-        (_, Wanted::RecordEnd) => {
+        (_, Wanted::End | Wanted::RecordEnd) => {
+            write!(f, "{quote} stands behind the last line; nothing may follow")
+        }
+        (_, Wanted::RecordHead) => {
             write!(
                 f,
-                "{quote} stands behind the last entry; nothing may follow"
+                "{quote} begins no record of this rack; wanted is {wanted}"
             )
         }
         (Some(difference), _) => write!(f, "{quote}: {difference}; wanted is {wanted}"),

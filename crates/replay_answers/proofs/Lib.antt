@@ -1,1 +1,2 @@
 mod OneReplay
+mod Heads

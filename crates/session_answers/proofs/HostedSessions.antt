@@ -1,75 +1,190 @@
 -- The sessions of a host's clients, and the seats of their exchange.
-use Rattle.std.proofs.Common.{◌≡◌, ℕ, ◌+◌, ◌<◌, Bool, ◌||◌, List, [], ◌∷◌, ◌++◌, length, get_or, map, All, Option, Some, None, Result, Ok, IfOk, IfSome, refl, sym, ap, ap₂, ◌∙◌, subst, take, arith}
+use Rattle.std.proofs.Common.{◌≡◌, ℕ, ◌+◌, ◌<◌, ◌≤◌, zero, suc, Bool, true, false, ◌||◌, List, [], ◌∷◌, ◌++◌, length, get_or, map, All, Option, Some, None, refl, sym, ap, ap₂, ◌∙◌, subst, drop, take, append-nil, inl, inr, arith}
 use Rattle.std.specs.List.{range_with_len, sum, list_any, flat_map}
-use Rattle.std.proofs.lemmas.List.{flat_map_more, get_or-map, length-map, map-id, append_assoc, map-append}
-use Rattle.std.proofs.lemmas.List.Elements.{All-map, All-push}
+use Rattle.std.proofs.lemmas.Bool.{cases_lt}
+use Rattle.std.proofs.lemmas.List.{length-map, length-take-le, map-id, append_assoc, map-append, take_more}
+use Rattle.std.proofs.lemmas.List.Elements.{All-map}
 use Rattle.std.proofs.lemmas.List.FromFn.{get_or-range_with_len, length-range_with_len}
 use Rattle.std.proofs.lemmas.List.Sums.{sum-map}
 use Rattle.std.proofs.lemmas.Simd.{map-map}
 use Rattle.std.specs.Io.KnownBytes.{Appends}
+use Rattle.batch_book.specs.declared.entry.Entry.{Entry}
 use Rattle.batch_book.specs.Exchanges.{Exchange, AreNew, new_seat, parts_at}
+use Rattle.batch_book.specs.History.{Account}
 use Rattle.batch_book.specs.Seats.{SeatState, IsSameSeat}
 use Rattle.client_session.specs.declared.fault.ServeFault.{ServeFault}
 use Rattle.module_memory.specs.Store.{Store}
-use Rattle.batch_book.specs.History.{Account}
-use Rattle.session_answers.specs.declared.ended_session.EndedSession.{EndedSession}
+use Rattle.session_answers.specs.declared.all_there.AllThere.{AllThere}
 use Rattle.session_answers.specs.declared.ended_session.Ending.{Ending}
 use Rattle.session_answers.specs.declared.ended_session.Ending.TheVariants.{Unopened, Served}
 use Rattle.session_answers.specs.Histories.{part_of, IsClosing}
+use Rattle.session_answers.specs.Hosting.{begun_at, AreAllSeats, IsFresh}
 use Rattle.session_answers.specs.HostAnswers.{KnownClients, HostedSession, AreHosted, IsHostedSession, seen_end, ending_line, has_failed, hosted_heading, hosted_text}
+use Rattle.session_answers.specs.HostTexts.{ends_text, room_of, session_room}
 use Rattle.plan_answers.specs.Refusals.{Printed}
-use Rattle.session_answers.specs.Sessions.{IsServedSession}
-use Rattle.session_answers.specs.HostedSessions.{hosted_session, IsOfSeat, AreHostedSessionsAt}
-use Rattle.session_answers.proofs.Sessions.{map_same, sum_mapped, one_more}
+use Rattle.session_answers.specs.Sessions.{beginning, IsServedSession}
+use Rattle.session_answers.specs.HostedSessions.{Ended, hosted_session, AreAllHosted, AreEach, IsOfSeat, AreHostedSessionsAt, HasReturned, HaveReturned, begins}
+use Rattle.session_answers.proofs.Sessions.{map_same, sum_mapped}
+
+-- ---- what is so one by one
+
+pub each_length : {A B : Type 0} (P : A → B → Type 0) (xs : List A) (ys : List B) → AreEach P xs ys → length ys ≡ length xs
+each_length P [] [] each = refl
+each_length P [] (y ∷ ys) each = absurd each
+each_length P (x ∷ xs) [] each = absurd each
+each_length P (x ∷ xs) (y ∷ ys) each = ap suc (each_length P xs ys each.1)
+
+each_at : {A B : Type 0} (P : A → B → Type 0) (xs : List A) (ys : List B) → AreEach P xs ys → (k : ℕ) (d : A) (e : B) → k < length xs → P (get_or xs k d) (get_or ys k e)
+each_at P [] ys each k d e lt = absurd (omega (arith, lt))
+each_at P (x ∷ xs) [] each k d e lt = absurd each
+each_at P (x ∷ xs) (y ∷ ys) each zero d e lt = each.0
+each_at P (x ∷ xs) (y ∷ ys) each (suc k) d e lt = each_at P xs ys each.1 k d e (omega (arith, lt))
+
+pub each_push : {A B : Type 0} (P : A → B → Type 0) (xs : List A) (ys : List B) (x : A) (y : B) → AreEach P xs ys → P x y → AreEach P (xs ++ x ∷ []) (ys ++ y ∷ [])
+each_push P [] [] x y each one = (one, tt)
+each_push P [] (b ∷ ys) x y each one = absurd each
+each_push P (a ∷ xs) [] x y each one = absurd each
+each_push P (a ∷ xs) (b ∷ ys) x y each one = (each.0, each_push P xs ys x y each.1 one)
+
+-- the first of what is left
+each_split : {A B : Type 0} (P : A → B → Type 0) (rest : List A) (y : B) (more : List B) → AreEach P rest (y ∷ more) → (x : A) × (xs : List A) × (rest ≡ x ∷ xs) × P x y × AreEach P xs more
+each_split P [] y more each = absurd each
+each_split P (x ∷ xs) y more each = (x, xs, refl, each.0, each.1)
+
+pub each_first : {A B : Type 0} (P : A → B → Type 0) (rest : List A) (ys more : List B) (y : B) → AreEach P rest ys → ys ≡ y ∷ more → (x : A) × (xs : List A) × (rest ≡ x ∷ xs) × P x y × AreEach P xs more
+each_first {A} {B} P rest ys more y each is = each_split P rest y more (subst (λ (zs : List B). AreEach P rest zs) is each)
+
+-- all are left
+pub each_begin : {A B : Type 0} (P : A → B → Type 0) (xs : List A) (ys zs : List B) → zs ≡ ys → AreEach P xs ys → AreEach P xs zs
+each_begin {A} {B} P xs ys zs is each = subst (λ (vs : List B). AreEach P xs vs) (sym is) each
+
+-- none is left
+pub all_done : {A : Type 0} (all done rest : List A) → length rest ≡ 0 → done ++ rest ≡ all → done ≡ all
+all_done all done [] none was = sym (append-nil done) ∙ was
+all_done all done (x ∷ rest) none was = absurd (omega (arith, none))
+
+-- one more of them is done
+pub moved : {A : Type 0} (all done ys more : List A) (y : A) → ys ≡ y ∷ more → done ++ ys ≡ all → (done ++ y ∷ []) ++ more ≡ all
+moved all done ys more y first was = append_assoc done (y ∷ []) more ∙ ap (λ zs. done ++ zs) (sym first) ∙ was
+
+-- ---- seats
+
+-- the seats of a new exchange have asked nothing
+pub all_fresh : (x : Exchange) (start n : ℕ) (seats : List SeatState) → AreNew x.word start n seats → All (IsFresh x) seats
+all_fresh x start n seats new k d lt =
+    let begun : get_or seats k d ≡ new_seat x.word start k (parts_at n k) = new.each k d (omega (arith, new.count, lt)) in
+    record {
+      exchange = ap (λ (s : SeatState). s.exchange) begun;
+      log = ap (λ (s : SeatState). s.log) begun;
+      broken = ap (λ (s : SeatState). s.broken) begun;
+    }
+
+-- and are all that it has
+pub all_new : (x : Exchange) (start n : ℕ) (seats : List SeatState) → AreNew x.word start n seats → AreAllSeats x seats
+all_new x start n seats new = record { each = λ k d lt. (all_fresh x start n seats new k d lt).exchange; parts = new.parts }
 
 -- ---- all sessions
 
 -- each seat of a new exchange has had its session
-pub all_hosted : {L C : Type 0} (x : Exchange) (g : KnownClients) (received : C → Option (List ℕ)) (seats : List SeatState) (ss : List (EndedSession L C))
-    → AreNew x.word g.clients seats → length ss ≡ length seats → ((k : ℕ) (s : EndedSession L C) (d : SeatState) → k < length seats → IsOfSeat x g received (get_or seats k d) (get_or ss k s))
-    → AreHostedSessionsAt x g received ss
-all_hosted {L} {C} x g received seats ss new len each =
+pub all_hosted : {C : Type 0} (loses : Bool) (x : Exchange) (start : ℕ) (g : KnownClients) (received : C → Option (List ℕ)) (seats : List SeatState) (ss : List (Ended C))
+    → AreNew x.word start g.clients seats → AreEach (IsOfSeat loses x g received) seats ss → AreHostedSessionsAt loses x start g received ss
+all_hosted {C} loses x start g received seats ss new each =
     let n = g.clients in
-    let at : (k : ℕ) (s : EndedSession L C) → k < length ss → IsOfSeat x g received (new_seat x.word k (parts_at n k)) (get_or ss k s) =
-    λ k s lt. (let d = new_seat x.word k (parts_at n k) in
-    subst (λ (seat : SeatState). IsOfSeat x g received seat (get_or ss k s)) (new.each k d (omega (arith, len, new.count, lt))) (each k s d (omega (arith, len, lt)))) in
-    let numbers : map (λ (s : EndedSession L C). s.seat.session) ss ≡ map (λ (n : ℕ). n) (range_with_len 0 n) =
-    map_same (λ (s : EndedSession L C). s.seat.session) (λ (n : ℕ). n) ss (range_with_len 0 n) (omega (arith, len, new.count, length-range_with_len 0 n))
+    let len : length ss ≡ length seats = each_length (IsOfSeat loses x g received) seats ss each in
+    let at : (k : ℕ) (s : Ended C) → k < length ss → IsOfSeat loses x g received (new_seat x.word start k (parts_at n k)) (get_or ss k s) =
+    λ k s lt. (let d = new_seat x.word start k (parts_at n k) in
+    subst (λ (seat : SeatState). IsOfSeat loses x g received seat (get_or ss k s)) (new.each k d (omega (arith, len, new.count, lt))) (each_at (IsOfSeat loses x g received) seats ss each k d s (omega (arith, len, lt)))) in
+    let numbers : map (λ (s : Ended C). s.0.session) ss ≡ map (λ (n : ℕ). n) (range_with_len 0 n) =
+    map_same (λ (s : Ended C). s.0.session) (λ (n : ℕ). n) ss (range_with_len 0 n) (omega (arith, len, new.count, length-range_with_len 0 n))
     (λ k s e lt.
     let here = get_or-range_with_len 0 n k e (omega (arith, len, new.count)) in
     (at k s lt).same.session ∙ omega (arith, here)) in
-    let parts : map (λ (s : EndedSession L C). s.seat.parts) ss ≡ map (λ (t : SeatState). t.parts) seats =
-    map_same (λ (s : EndedSession L C). s.seat.parts) (λ (t : SeatState). t.parts) ss seats len
-    (λ k s e lt. (each k s e (omega (arith, len, lt))).same.parts) in
+    let parts : map (λ (s : Ended C). s.0.parts) ss ≡ map (λ (t : SeatState). t.parts) seats =
+    map_same (λ (s : Ended C). s.0.parts) (λ (t : SeatState). t.parts) ss seats len
+    (λ k s e lt. (each_at (IsOfSeat loses x g received) seats ss each k e s (omega (arith, len, lt))).same.parts) in
     record {
       all_seats = record {
-        each = All-map (λ (t : SeatState). t.exchange ≡ Some x.word) (λ (s : EndedSession L C). s.seat) ss (λ k s lt. (at k s lt).same.exchange);
-        parts = sum_mapped (λ (t : SeatState). t.parts) (λ (s : EndedSession L C). s.seat) ss ∙ sym (sum-map (λ (s : EndedSession L C). s.seat.parts) ss) ∙ ap sum parts ∙ sum-map (λ (t : SeatState). t.parts) seats ∙ new.parts;
+        each = All-map (λ (t : SeatState). t.exchange ≡ Some x.word) (λ (s : Ended C). s.0) ss (λ k s lt. (at k s lt).same.exchange);
+        parts = sum_mapped (λ (t : SeatState). t.parts) (λ (s : Ended C). s.0) ss ∙ sym (sum-map (λ (s : Ended C). s.0.parts) ss) ∙ ap sum parts ∙ sum-map (λ (t : SeatState). t.parts) seats ∙ new.parts;
       };
       of_clients = record {
         numbers = map-map (λ (v : HostedSession). v.part.session) (hosted_session received) ss ∙ numbers ∙ map-id (range_with_len 0 n);
-        each = All-map (λ (v : HostedSession). IsHostedSession x.shape g v.part v.end) (hosted_session received) ss (λ k s lt. (at k s lt).its);
+        each = All-map (λ (v : HostedSession). IsHostedSession (begun_at loses x start) g v.part v.end) (hosted_session received) ss
+            (λ k s lt. (at k s lt).its);
       };
     }
 
 -- ---- a session
 
 -- what a session between the files of its client leaves
-pub was_served : {L C : Type 0} (x : Exchange) (g : KnownClients) (received : C → Option (List ℕ)) (old new : SeatState) (n : ℕ) (before after held holds : Option (List ℕ)) (fault : Option ServeFault) (receipt : C)
+pub was_served : {C : Type 0} (loses : Bool) (x : Exchange) (g : KnownClients) (received : C → Option (List ℕ)) (old new : SeatState) (n : ℕ) (before after held holds : Option (List ℕ)) (fault : Option ServeFault) (receipt : C)
     → n ≡ old.session → before ≡ g.says n → held ≡ g.contains n → received receipt ≡ holds → IsSameSeat old new
-    → ((told : List ℕ) × Appends held holds told × IsServedSession x.shape before after (record { part = part_of new; told = told; fault = fault }))
-    → IsOfSeat {L = L} {C = C} x g received old (record { seat = new; ending = Served fault receipt })
-was_served x g received old new n before after held holds fault receipt at says held_is closed same s =
+    → ((told : List ℕ) × Appends held holds told × IsServedSession (begun_at loses x old.seen) before after (record { part = part_of new; told = told; fault = fault }))
+    → IsOfSeat loses x g received old (new, Served fault receipt)
+was_served loses x g received old new n before after held holds fault receipt at says held_is closed same s =
     let its : n ≡ new.session = at ∙ sym same.session in
     record {
       same = same;
       its = record {
         rest = after;
         told = s.0;
-        session = subst (λ (b : Option (List ℕ)). IsServedSession x.shape b after (record { part = part_of new; told = s.0; fault = fault })) (says ∙ ap g.says its) s.2;
+        session = subst (λ (b : Option (List ℕ)). IsServedSession (begun_at loses x old.seen) b after (record { part = part_of new; told = s.0; fault = fault })) (says ∙ ap g.says its) s.2;
         wrote = subst (λ (w : Option (List ℕ)). Appends w (received receipt) s.0) (held_is ∙ ap g.contains its) (subst (λ (w : Option (List ℕ)). Appends held w s.0) (sym closed) s.1);
       };
     }
+
+-- nothing has come back
+pub none_back : {C : Type 0} (loses : Bool) (x : Exchange) (g : KnownClients) (received : C → Option (List ℕ)) (b : Bool) (back : List SeatState) (endings : List (Ending C))
+    → back ≡ [] → endings ≡ [] → HaveReturned loses x g received b [] back endings
+none_back loses x g received true back endings seats ends = ([], tt, seats, ends)
+none_back loses x g received false back endings seats ends = (seats, ends)
+
+-- the session of one more seat, of those that have come back
+pub one_more_back : {C : Type 0} (loses : Bool) (x : Exchange) (g : KnownClients) (received : C → Option (List ℕ)) (b : Bool) (seats back after : List SeatState) (endings : List (Ending C)) (seat one : SeatState) (e : Ending C)
+    → HaveReturned loses x g received b seats back endings → HasReturned loses x g received b seat one (Some e) → after ≡ back ++ one ∷ []
+    → (ends : List (Ending C)) → ends ≡ endings ++ e ∷ [] → HaveReturned loses x g received b (seats ++ seat ∷ []) after ends
+one_more_back {C} loses x g received true seats back after endings seat one e all its pushed ends put =
+    let s : Ended C = (one, e) in (
+      all.0 ++ s ∷ [],
+      each_push (IsOfSeat loses x g received) seats all.0 seat s all.1 (record { same = its.0; its = its.1 }),
+      pushed ∙ ap (λ (ss : List SeatState). ss ++ one ∷ []) all.2 ∙ sym (map-append (λ (s : Ended C). s.0) all.0 (s ∷ [])),
+      put ∙ ap (λ (es : List (Ending C)). es ++ e ∷ []) all.3 ∙ sym (map-append (λ (s : Ended C). s.1) all.0 (s ∷ [])),
+    )
+one_more_back loses x g received false seats back after endings seat one e all its pushed ends put = absurd its
+
+-- or one more seat as it was
+pub one_more_idle : {C : Type 0} (loses : Bool) (x : Exchange) (g : KnownClients) (received : C → Option (List ℕ)) (b : Bool) (seats back after : List SeatState) (endings : List (Ending C)) (seat one : SeatState)
+    → HaveReturned loses x g received b seats back endings → HasReturned loses x g received b seat one None → after ≡ back ++ one ∷ []
+    → HaveReturned loses x g received b (seats ++ seat ∷ []) after endings
+one_more_idle loses x g received true seats back after endings seat one all its pushed = absurd its
+one_more_idle loses x g received false seats back after endings seat one all its pushed = (pushed ∙ ap₂ (λ (ss : List SeatState) (s : SeatState). ss ++ s ∷ []) all.0 its, all.1)
+
+-- so many have had their session
+count_hosted : {C : Type 0} (loses : Bool) (x : Exchange) (start : ℕ) (g : KnownClients) (received : C → Option (List ℕ)) (ss : List (Ended C))
+    → AreHostedSessionsAt loses x start g received ss → length ss ≡ g.clients
+count_hosted {C} loses x start g received ss all =
+    sym (length-map ss (λ (s : Ended C). s.0.session)) ∙ sym (ap length (map-map (λ (v : HostedSession). v.part.session) (hosted_session received) ss)) ∙ ap length all.of_clients.numbers ∙ length-range_with_len 0 g.clients
+
+-- where it was decided that sessions begin, each client has had its session
+pub begun_all : {C : Type 0} (loses : Bool) (x : Exchange) (start : ℕ) (g : KnownClients) (received : C → Option (List ℕ)) (decided : Option AllThere) (seats back : List SeatState) (endings : List (Ending C))
+    → begins g.clients decided ≡ true → HaveReturned loses x g received (begins g.clients decided) seats back endings → AreNew x.word start g.clients seats → AreAllHosted loses x start g received back endings
+begun_all loses x start g received decided seats back endings is all new =
+    let h = subst (λ (b : Bool). HaveReturned loses x g received b seats back endings) is all in
+    (h.0, all_hosted loses x start g received seats h.0 new h.1, h.2, h.3)
+
+-- else the seats are as they were
+pub begun_none : {C : Type 0} (loses : Bool) (x : Exchange) (start : ℕ) (g : KnownClients) (received : C → Option (List ℕ)) (decided : Option AllThere) (seats back : List SeatState) (endings : List (Ending C))
+    → begins g.clients decided ≡ false → HaveReturned loses x g received (begins g.clients decided) seats back endings → AreNew x.word start g.clients seats → AreNew x.word start g.clients back
+begun_none loses x start g received decided seats back endings is all new =
+    let h = subst (λ (b : Bool). HaveReturned loses x g received b seats back endings) is all in
+    subst (AreNew x.word start g.clients) (sym h.0) new
+
+-- each client has one end
+pub as_many_ends : {C : Type 0} (loses : Bool) (x : Exchange) (start : ℕ) (g : KnownClients) (received : C → Option (List ℕ)) (seats : List SeatState) (endings : List (Ending C))
+    → AreAllHosted loses x start g received seats endings → length endings ≡ g.clients
+as_many_ends {C} loses x start g received seats endings all =
+    let How : Ended C → Ending C = λ s. s.1 in
+    ap length all.3 ∙ length-map all.0 How ∙ count_hosted loses x start g received all.0 all.1
 
 -- ---- what is printed of them
 
@@ -81,98 +196,73 @@ same_failure : {C : Type 0} (received : C → Option (List ℕ)) (e : Ending C) 
 same_failure received Unopened = refl
 same_failure received (Served fault receipt) = refl
 
--- one more session is printed
-pub one_more_end : {L C : Type 0} (g : KnownClients) (received : C → Option (List ℕ)) (ss : List (EndedSession L C)) (i : ℕ) (s : EndedSession L C) (before headed after : List ℕ)
-    → i < length ss → s ≡ get_or ss i s → before ≡ flat_map (hosted_text g) (map (hosted_session received) (take i ss))
-    → headed ≡ before ++ hosted_heading g s.seat.session → after ≡ headed ++ ending_line s.ending
-    → after ≡ flat_map (hosted_text g) (map (hosted_session received) (take (i + 1) ss))
-one_more_end g received ss i s before headed after lt is printed head end =
-    let whole : after ≡ before ++ hosted_text g (hosted_session received s) =
-    end ∙ ap₂ (λ (xs ys : List ℕ). xs ++ ys) head (sym (same_line received s.ending)) ∙ append_assoc before (hosted_heading g s.seat.session) (ending_line (seen_end received s.ending)) in
-    whole ∙ ap (λ (xs : List ℕ). xs ++ hosted_text g (hosted_session received s)) printed
-    ∙ flat_map_more (hosted_text g) [] (map (hosted_session received) (take i ss)) (hosted_session received s) ∙ ap (flat_map (hosted_text g)) (one_more (hosted_session received) ss i s lt is)
-
 -- those that failed
-pub same_failures : {C : Type 0} (received : C → Option (List ℕ)) (es : List (Ending C)) → list_any has_failed (map (seen_end received) es) ≡ list_any has_failed es
+same_failures : {C : Type 0} (received : C → Option (List ℕ)) (es : List (Ending C)) → list_any has_failed (map (seen_end received) es) ≡ list_any has_failed es
 same_failures received [] = refl
 same_failures received (e ∷ es) = ap₂ ◌||◌ (same_failure received e) (same_failures received es)
 
--- ---- what is taken from a list one by one
+-- what is printed by their numbers is what is printed of sessions that have these
+ends_are : {C : Type 0} (g : KnownClients) (received : C → Option (List ℕ)) (ss : List (Ended C)) (first : ℕ) → map (λ (s : Ended C). s.0.session) ss ≡ range_with_len first (length ss)
+    → ends_text g first (map (λ (s : Ended C). s.1) ss) ≡ flat_map (hosted_text g) (map (hosted_session received) ss)
+ends_are g received [] first numbers = refl
+ends_are {C} g received (s ∷ ss) first numbers =
+    let at : s.0.session ≡ first = ap (λ (ns : List ℕ). get_or ns 0 first) numbers in
+    let more : map (λ (s : Ended C). s.0.session) ss ≡ range_with_len (first + 1) (length ss) = ap (λ (ns : List ℕ). drop 1 ns) numbers in
+    ap₂ (λ (xs ys : List ℕ). xs ++ ys)
+    (ap₂ (λ (n : ℕ) (line : List ℕ). hosted_heading g n ++ line) (sym at) (sym (same_line received s.1)))
+    (ends_are g received ss (first + 1) more)
 
--- one more of them is moved behind others
-pub moved : {A : Type 0} (all xs more ys rest : List A) (y : A) → more ≡ xs ++ y ∷ [] → ys ≡ y ∷ rest → xs ++ ys ≡ all → more ++ rest ≡ all
-moved all xs more ys rest y pushed first was = ap (λ zs. zs ++ rest) pushed ∙ append_assoc xs (y ∷ []) rest ∙ ap (λ zs. xs ++ zs) (sym first) ∙ was
+-- one more of them is printed
+pub ends_push : {C : Type 0} (g : KnownClients) (first : ℕ) (es : List (Ending C)) (e : Ending C) → ends_text g first (es ++ e ∷ []) ≡ ends_text g first es ++ (hosted_heading g (first + length es) ++ ending_line e)
+ends_push g first [] e = append-nil (hosted_heading g first ++ ending_line e) ∙ ap (λ (n : ℕ). hosted_heading g n ++ ending_line e) (omega arith)
+ends_push g first (d ∷ es) e =
+    let here : List ℕ = hosted_heading g first ++ ending_line d in
+    ap (λ (xs : List ℕ). here ++ xs) (ends_push g (first + 1) es e)
+    ∙ sym (append_assoc here (ends_text g (first + 1) es) (hosted_heading g (first + 1 + length es) ++ ending_line e))
+    ∙ ap (λ (n : ℕ). ends_text g first (d ∷ es) ++ (hosted_heading g n ++ ending_line e)) (omega arith)
 
--- the seats of a new exchange are those of so many clients
-pub new_for : (x : Exchange) (n clients : ℕ) (seats : List SeatState) → AreNew x.word n seats → n ≡ clients → AreNew x.word clients seats
-new_for x n clients seats new is = subst (λ (k : ℕ). AreNew x.word k seats) is new
+-- those of the first of them and one more
+pub one_more_end : {C : Type 0} (g : KnownClients) (es : List (Ending C)) (i client : ℕ) (e : Ending C) (before after : List ℕ) → i < length es → client ≡ i → e ≡ get_or es i e
+    → before ≡ ends_text g 0 (take i es) → after ≡ before ++ (hosted_heading g client ++ ending_line e) → after ≡ ends_text g 0 (take (i + 1) es)
+one_more_end {C} g es i client e before after lt at is framed more =
+    let count : client ≡ 0 + length (take i es) = omega (arith, at, lt, length-take-le i es (omega (arith, lt))) in
+    let last : List ℕ = hosted_heading g client ++ ending_line e in
+    more
+    ∙ ap (λ (xs : List ℕ). xs ++ last) framed
+    ∙ ap₂ (λ (n : ℕ) (d : Ending C). ends_text g 0 (take i es) ++ (hosted_heading g n ++ ending_line d)) count is
+    ∙ sym (ends_push g 0 (take i es) (get_or es i e))
+    ∙ ap (ends_text g 0) (sym (take_more es i e lt))
 
--- one more of them has a thread
-pub one_more_thread : {T S : Type 0} (f : T → S) (all : List S) (old new : List T) (t : T) (s : S) (ys rest : List S) → new ≡ old ++ t ∷ [] → ys ≡ s ∷ rest → f t ≡ s
-    → map f old ++ ys ≡ all → map f new ++ rest ≡ all
-one_more_thread f all old new t s ys rest pushed first is was =
-    moved all (map f old) (map f new) ys rest (f t) (ap (map f) pushed ∙ map-append f old (t ∷ [])) (first ∙ ap (λ y. y ∷ rest) (sym is)) was
+-- room for so many and one more
+pub room_more : (g : KnownClients) (k : ℕ) → room_of g (k + 1) ≡ room_of g k + session_room g k
+room_more g k = let more : k + 1 ≡ suc k = omega arith in ap (room_of g) more
 
--- and what has been taken from
-pub one_more_taken : {T S : Type 0} (f : T → S) (all : List S) (old new : List S) (s : S) (t : T) (ts rest : List T) → new ≡ old ++ s ∷ [] → ts ≡ t ∷ rest → s ≡ f t
-    → old ++ map f ts ≡ all → new ++ map f rest ≡ all
-one_more_taken f all old new s t ts rest pushed first is was = moved all old new (map f ts) (map f rest) s pushed (ap (map f) first ∙ ap (λ y. y ∷ map f rest) (sym is)) was
-
--- what holds of all holds with one more
-pub all_pushed : {T : Type 0} (old new : List T) (t : T) (P : T → Type 0) → new ≡ old ++ t ∷ [] → All P old → P t → All P new
-all_pushed old new t P pushed all one = subst (λ ts. All P ts) (sym pushed) (All-push P old t all one)
-
--- what was had
-pub had : {X E : Type 0} (r : Result (Option X) E) (o : Option X) (x : X) (P : X → Type 0) → r ≡ Ok o → o ≡ Some x → IfOk r (λ s. IfSome s P) → P x
-had {X} {E} r o x P is some p =
-    let q = subst (λ (z : Result (Option X) E). IfOk z (λ (s : Option X). IfSome s P)) is p in
-    subst (λ (z : Option X). IfSome z P) some q
-
--- as many as before
-pub as_many : {H S : Type 0} (f : H → S) (hs : List H) (seats : List S) → map f hs ≡ seats → length hs ≡ length seats
-as_many f hs seats mapped = sym (length-map hs f) ∙ ap length mapped
-
--- what one of them gave is there
-pub there_at : {X : Type 0} (all : List X) (given : List (Option X)) (k : ℕ) (x : X) → map Some all ≡ given → k < length all → get_or given k (Some x) ≡ Some (get_or all k x)
-there_at {X} all given k x same below =
-    ap (λ (os : List (Option X)). get_or os k (Some x)) (sym same) ∙ get_or-map (λ (y : X). Some y) all k x (Some x) below
-
--- what holds of what is there, where there is something
-pub where_some : {X : Type 0} (o : Option X) (P Q : X → Type 0) → ((x : X) → P x → Q x) → IfSome o P → IfSome o Q
-where_some None P Q so p = tt
-where_some (Some x) P Q so p = so x p
-
--- the threads of seats give back their sessions
-pub kept_each : {H L C : Type 0} (hs : List H) (exchange_of : H → Exchange) (known_of : H → KnownClients) (seat_of : H → SeatState) (x : Exchange) (g : KnownClients) (received : C → Option (List ℕ))
-    (seats : List SeatState) (given : List (Option (EndedSession L C))) (ss : List (EndedSession L C))
-    → map seat_of hs ≡ seats → map Some ss ≡ given → length ss ≡ length seats
-    → ((k : ℕ) (h : H) → k < length hs → (exchange_of (get_or hs k h) ≡ x) × (known_of (get_or hs k h) ≡ g))
-    → ((k : ℕ) (o : Option (EndedSession L C)) → k < length hs → (h : H) × (h ≡ get_or hs k h) × IfSome (get_or given k o) (IsOfSeat (exchange_of h) (known_of h) received (seat_of h)))
-    → (k : ℕ) (s : EndedSession L C) (d : SeatState) → k < length seats → IsOfSeat x g received (get_or seats k d) (get_or ss k s)
-kept_each {H} {L} {C} hs exchange_of known_of seat_of x g received seats given ss mapped gave many there each k s d lt =
-    let below : k < length hs = omega (arith, lt, sym (ap length mapped), length-map hs seat_of) in
-    let o = each k (Some s) below in
-    let t = there k o.0 below in
-    let seat : seat_of o.0 ≡ get_or seats k d = ap seat_of o.1 ∙ sym (get_or-map seat_of hs k o.0 d below) ∙ ap (λ ys. get_or ys k d) mapped in
-    let exchange : exchange_of o.0 ≡ x = ap exchange_of o.1 ∙ t.0 in
-    let known : known_of o.0 ≡ g = ap known_of o.1 ∙ t.1 in
-    let is : IsOfSeat (exchange_of o.0) (known_of o.0) received (seat_of o.0) (get_or ss k s) =
-    subst (λ (z : Option (EndedSession L C)). IfSome z (IsOfSeat (exchange_of o.0) (known_of o.0) received (seat_of o.0))) (there_at ss given k s gave (omega (arith, lt, many))) o.2 in
-    rw (exchange, known, seat) at is
+-- room for one more is within room for all
+pub room_within : (g : KnownClients) (k n : ℕ) → k < n → room_of g k + session_room g k ≤ room_of g n
+room_within g k zero lt = absurd (omega (arith, lt))
+room_within g k (suc n) lt = elim (cases_lt k n) [
+  | inl less ↦ let r = room_within g k n less in omega (arith, r)
+  | inr out ↦ let same : k ≡ n = omega (arith, lt, out) in rw same (omega arith)
+]
 
 -- ---- the exchange is closed
 
 -- what is printed of the sessions is what the host answers
-pub are_hosted : {L C : Type 0} (x : Exchange) (opening rack : Store) (g : KnownClients) (received : C → Option (List ℕ)) (ss : List (EndedSession L C))
-    (seats : List SeatState) (endings : List (Ending C)) (text : List ℕ) (failed : Bool) (printed : Printed) (left : Option Account)
-    → AreHostedSessionsAt x g received ss → x.shape ≡ rack.shape → opening ≡ rack
-    → seats ≡ map (λ s. s.seat) ss → endings ≡ map (λ s. s.ending) ss → text ≡ flat_map (hosted_text g) (map (hosted_session received) ss) → failed ≡ list_any has_failed (map (λ s. s.ending) ss)
-    → IsClosing opening (map part_of seats) text failed printed left → AreHosted rack g (map (seen_end received) endings) printed left
-are_hosted {L} {C} x opening rack g received ss seats endings text failed printed left visited shape copied seated ended framed fails closed =
-    let Seat : EndedSession L C → SeatState = λ s. s.seat in
-    let How : EndedSession L C → Ending C = λ s. s.ending in
+pub are_hosted : {C : Type 0} (loses : Bool) (opening : Store) (earlier : List Entry) (was : Account) (x : Exchange) (start : ℕ) (g : KnownClients) (received : C → Option (List ℕ))
+    (seats : List SeatState) (endings : List (Ending C)) (text : List ℕ) (failed : Bool) (printed : Printed) (left : Account)
+    → AreAllHosted loses x start g received seats endings → begun_at loses x start ≡ beginning loses was → was.opening ≡ opening → was.history ≡ earlier
+    → text ≡ ends_text g 0 endings → failed ≡ list_any has_failed endings
+    → IsClosing loses opening earlier (map part_of seats) text failed printed left → AreHosted loses was g (map (seen_end received) endings) printed left
+are_hosted {C} loses opening earlier was x start g received seats endings text failed printed left all begun words entries framed fails closed =
+    let ss = all.0 in
+    let Seat : Ended C → SeatState = λ s. s.0 in
+    let How : Ended C → Ending C = λ s. s.1 in
     let sessions : List HostedSession = map (hosted_session received) ss in
-    let ends : map (λ (v : HostedSession). v.end) sessions ≡ map (seen_end received) endings = map-map (λ (v : HostedSession). v.end) (hosted_session received) ss ∙ sym (map-map (seen_end received) How ss) ∙ ap (map (seen_end received)) (sym ended) in
-    let parts : map part_of seats ≡ map (λ (v : HostedSession). v.part) sessions = ap (map part_of) seated ∙ map-map part_of Seat ss ∙ sym (map-map (λ (v : HostedSession). v.part) (hosted_session received) ss) in
-    let failures : failed ≡ list_any has_failed (map (seen_end received) endings) = fails ∙ ap (list_any has_failed) (sym ended) ∙ sym (same_failures received endings) in
-    (sessions, ends, rw shape at visited.of_clients, rw (copied, parts, framed, failures) at closed)
+    let ends : map (λ (v : HostedSession). v.end) sessions ≡ map (seen_end received) endings = map-map (λ (v : HostedSession). v.end) (hosted_session received) ss ∙ sym (map-map (seen_end received) How ss) ∙ ap (map (seen_end received)) (sym all.3) in
+    let parts : map part_of seats ≡ map (λ (v : HostedSession). v.part) sessions = ap (map part_of) all.2 ∙ map-map part_of Seat ss ∙ sym (map-map (λ (v : HostedSession). v.part) (hosted_session received) ss) in
+    let failures : failed ≡ list_any has_failed (map (seen_end received) endings) = fails ∙ sym (same_failures received endings) in
+    let of_ss : map (λ (s : Ended C). s.0.session) ss ≡ range_with_len 0 g.clients = sym (map-map (λ (v : HostedSession). v.part.session) (hosted_session received) ss) ∙ all.1.of_clients.numbers in
+    let count : length ss ≡ g.clients = count_hosted loses x start g received ss all.1 in
+    let numbers : map (λ (s : Ended C). s.0.session) ss ≡ range_with_len 0 (length ss) = of_ss ∙ ap (range_with_len 0) (sym count) in
+    let text_is : text ≡ flat_map (hosted_text g) sessions = framed ∙ ap (ends_text g 0) all.3 ∙ ends_are g received ss 0 numbers in
+    (sessions, ends, rw begun at all.1.of_clients, rw (sym words, sym entries, parts, text_is, failures) at closed)

@@ -1,36 +1,35 @@
 -- The sessions of scripts, the seats of their exchange, and its history.
-use Rattle.std.proofs.Common.{◌≡◌, ℕ, ◌+◌, ◌<◌, ◌≤◌, suc, Bool, true, ◌||◌, List, [], ◌∷◌, ◌++◌, length, get_or, map, option_map, All, Option, Some, Result, Ok, Err, IfOk, OnOk, is_ok, if◌then◌else◌, refl, sym, ap, ap₂, ◌∙◌, subst, slice_get, take, arith}
+use Rattle.std.proofs.Common.{◌≡◌, ℕ, ◌+◌, ◌<◌, ◌≤◌, suc, Bool, true, false, ◌||◌, List, [], ◌∷◌, ◌++◌, length, get_or, map, option_map, All, Option, Some, Result, Ok, Err, IfOk, OnOk, is_ok, if◌then◌else◌, refl, sym, ap, ap₂, ◌∙◌, subst, slice_get, take, append-nil, arith}
 use Rattle.std.specs.List.{range_with_len, sum, sum_by, list_any}
 use Rattle.std.proofs.lemmas.List.{take_more, take-map, flat_map_more, get_or-map, length-map, map-id}
 use Rattle.std.proofs.lemmas.List.Elements.{All-map}
 use Rattle.std.proofs.lemmas.List.FromFn.{get_or-range_with_len, length-range_with_len}
 use Rattle.std.proofs.lemmas.Option.{slice_get-map, slice_get_read}
-use Rattle.std.proofs.lemmas.List.Sums.{sum-map}
+use Rattle.std.proofs.lemmas.List.Sums.{sum-map, sum_by-cons}
+use Rattle.std.proofs.Math.Seq.{take-length}
 use Rattle.std.proofs.lemmas.Simd.{map-map}
 use Rattle.std.specs.Io.KnownBytes.{Appends}
 use Rattle.module_memory.specs.Store.{Store}
-use Rattle.batch.specs.Extent.{Extent}
 use Rattle.crossbar.specs.declared.port.ConfigPort.{Ghosts}
 use Rattle.batch_book.specs.declared.entry.Entry.{Entry}
-use Rattle.batch_book.specs.declared.limits.TheConstants.{MAX_ENTRIES}
 use Rattle.batch_book.specs.Closing.{AreClosed}
 use Rattle.batch_book.specs.Exchanges.{Exchange, AreNew, new_seat, parts_at}
-use Rattle.batch_book.specs.History.{Account, IsReplay}
+use Rattle.batch_book.specs.History.{Account, AreUnstopped, IsKeptBook, IsReplay}
 use Rattle.batch_book.specs.Recording.{AreAllBut}
 use Rattle.batch_book.specs.Machine.{opened}
 use Rattle.batch_book.specs.Replies.{NeverFail}
-use Rattle.batch_book.specs.Seats.{SeatState, IsSameSeat, LogAgrees, own}
+use Rattle.batch_book.specs.Seats.{SeatState, IsSameSeat, own}
 use Rattle.batch_book.specs.Values.{greatest}
-use Rattle.batch_book.proofs.Noting.{has_all}
 use Rattle.client_session.specs.declared.fault.ServeFault.{ServeFault}
+use Rattle.client_session.specs.declared.fault.ServeFault.TheVariants.{Record}
 use Rattle.client_session.specs.Seats.{SeatView, seat_view}
 use Rattle.client_session.specs.Sessions.{GoesThrough, HasEnded}
 use Rattle.session_answers.specs.declared.session.Session.{Session}
 use Rattle.session_answers.specs.Frames.{Transcript, session_text, sessions_text}
 use Rattle.session_answers.specs.Histories.{Part, part_of, HaveOneHistory}
 use Rattle.session_answers.specs.Serving.{HasItsScript}
-use Rattle.session_answers.specs.Sessions.{IsServedSession}
-use Rattle.session_answers.specs.Hosting.{transcript, IsFresh, AreServedAt}
+use Rattle.session_answers.specs.Sessions.{Beginning, IsServedSession}
+use Rattle.session_answers.specs.Hosting.{transcript, begun_at, IsFresh, AreServedAt}
 
 -- ---- lists
 
@@ -41,10 +40,6 @@ map_same f g [] (y ∷ ys) len same = absurd (omega (arith, len))
 map_same f g (x ∷ xs) [] len same = absurd (omega (arith, len))
 map_same {A} {B} {C} f g (x ∷ xs) (y ∷ ys) len same =
     ap₂ (λ (c : C) (cs : List C). c ∷ cs) (same 0 x y (omega arith)) (map_same f g xs ys (omega (arith, len)) (λ k d e lt. same (suc k) d e (omega arith)))
-
--- what holds of all values holds of what has them
-of_map : {X Y : Type 0} (P : Y → Type 0) (f : X → Y) (xs : List X) → All P (map f xs) → All (λ x. P (f x)) xs
-of_map P f xs all k d lt = subst P (get_or-map f xs k d (f d) lt) (all k (f d) (omega (arith, length-map xs f)))
 
 pub sum_mapped : {X Y : Type 0} (g : Y → ℕ) (f : X → Y) (xs : List X) → sum_by g (map f xs) ≡ sum_by (λ x. g (f x)) xs
 sum_mapped g f xs = sym (sum-map g (map f xs)) ∙ ap sum (map-map g f xs) ∙ sum-map (λ x. g (f x)) xs
@@ -87,13 +82,14 @@ script_at v xs k i x script at lt is text =
     slice_get-map v xs k ∙ ap (option_map v) (slice_get_read xs (length xs) k x refl lt (rw at at is)) ∙ ap Some (sym text)
 
 -- what a session from a new seat leaves
-pub its_session : (x : Exchange) (old new : SeatState) (before after held holds : Option (List ℕ)) (fault : Option ServeFault)
+pub its_session : (loses : Bool) (x : Exchange) (old new : SeatState) (before after held holds : Option (List ℕ)) (fault : Option ServeFault)
     → IsFresh x old → IsSameSeat old new
     → GoesThrough before after held holds (seat_view x.shape old) (seat_view x.shape new) (HasEnded fault after (seat_view x.shape old) (seat_view x.shape new))
-    → (told : List ℕ) × Appends held holds told × IsServedSession x.shape before after (record { part = part_of new; told = told; fault = fault })
-its_session x old new before after held holds fault fresh same p =
+    → (fault ≡ Some Record → loses ≡ true)
+    → (told : List ℕ) × Appends held holds told × IsServedSession (begun_at loses x old.seen) before after (record { part = part_of new; told = told; fault = fault })
+its_session loses x old new before after held holds fault fresh same p lost =
     let seat : SeatView = seat_view x.shape old in
-    let left : SeatView = record seat { log = new.log; seen = new.seen } in
+    let left : SeatView = record seat { log = new.log; seen = new.seen; broken = new.broken } in
     let kept : seat_view x.shape new ≡ left = rw (same.exchange, same.session, same.parts) refl in
     let entries : p.entries ≡ new.log = sym (p.logged ∙ ap (λ (es : List Entry). es ++ p.entries) fresh.log) in
     let End : SeatView → List Entry → Type 0 = λ v es. HasEnded fault after seat v p.bytes es p.written in
@@ -102,23 +98,25 @@ its_session x old new before after held holds fault fresh same p =
       p.appended,
       record {
         seat = seat;
-        is_new = record { shape_is = refl; session_is = sym same.session; log = fresh.log; seen = fresh.seen };
+        is_new = record { shape_is = refl; session_is = sym same.session; log = fresh.log; seen = refl; broken = fresh.broken };
         read = p.bytes;
         consumed = p.consumed;
+        broke = new.broken;
         ended = subst (λ es. End left es) entries one;
+        lost = lost;
       },
     )
 
 -- what one of this script leaves
-pub its_script : (shape : Extent) (scripts : List (List ℕ)) (old new : SeatState) (script rest told : List ℕ) (fault : Option ServeFault)
+pub its_script : (b : Beginning) (scripts : List (List ℕ)) (old new : SeatState) (script rest told : List ℕ) (fault : Option ServeFault)
     → IsSameSeat old new → slice_get scripts old.session ≡ Some script
-    → ((w : List ℕ) × Appends (Some []) (Some told) w × IsServedSession shape (Some script) (Some rest) (record { part = part_of new; told = w; fault = fault }))
-    → HasItsScript shape scripts (record { part = part_of new; told = told; fault = fault })
-its_script shape scripts old new script rest told fault same at s = (
+    → ((w : List ℕ) × Appends (Some []) (Some told) w × IsServedSession b (Some script) (Some rest) (record { part = part_of new; told = w; fault = fault }))
+    → HasItsScript b scripts (record { part = part_of new; told = told; fault = fault })
+its_script b scripts old new script rest told fault same at s = (
   script,
   rest,
   ap (slice_get scripts) same.session ∙ at,
-  subst (λ (v : List ℕ). IsServedSession shape (Some script) (Some rest) (record { part = part_of new; told = v; fault = fault })) (sym s.1) s.2,
+  subst (λ (v : List ℕ). IsServedSession b (Some script) (Some rest) (record { part = part_of new; told = v; fault = fault })) (sym s.1) s.2,
 )
 
 -- ---- all sessions
@@ -128,14 +126,14 @@ pub record IsOfSeat {L : Type 0} (x : Exchange) (scripts : List (List ℕ)) (sea
   pub seat : SeatState
   pub at : (e : SeatState) → get_or seats k e ≡ seat
   pub same : IsSameSeat seat s.seat
-  pub its : HasItsScript x.shape scripts (transcript s)
+  pub its : HasItsScript (begun_at false x seat.seen) scripts (transcript s)
 
 -- each seat of a new exchange has had its session
-pub all_served : {L : Type 0} (x : Exchange) (scripts : List (List ℕ)) (n : ℕ) (seats : List SeatState) (ss : List (Session L))
-    → n ≡ length scripts → AreNew x.word n seats → length ss ≡ length seats → ((k : ℕ) (s : Session L) → k < length seats → IsOfSeat x scripts seats k (get_or ss k s))
-    → AreServedAt x scripts ss
-all_served {L} x scripts n seats ss count new len each =
-    let begun : (k : ℕ) (s : Session L) (lt : k < length ss) → (each k s (omega (arith, len))).seat ≡ new_seat x.word k (parts_at n k) =
+pub all_served : {L : Type 0} (x : Exchange) (start : ℕ) (scripts : List (List ℕ)) (n : ℕ) (seats : List SeatState) (ss : List (Session L))
+    → n ≡ length scripts → AreNew x.word start n seats → length ss ≡ length seats → ((k : ℕ) (s : Session L) → k < length seats → IsOfSeat x scripts seats k (get_or ss k s))
+    → AreServedAt x start scripts ss
+all_served {L} x start scripts n seats ss count new len each =
+    let begun : (k : ℕ) (s : Session L) (lt : k < length ss) → (each k s (omega (arith, len))).seat ≡ new_seat x.word start k (parts_at n k) =
     λ k s lt. let o = each k s (omega (arith, len)) in sym (o.at o.seat) ∙ new.each k o.seat (omega (arith, len, new.count)) in
     let numbers : map (λ (s : Session L). s.seat.session) ss ≡ map (λ (n : ℕ). n) (range_with_len 0 (length scripts)) =
     map_same (λ (s : Session L). s.seat.session) (λ (n : ℕ). n) ss (range_with_len 0 (length scripts)) (omega (arith, len, count, new.count, length-range_with_len 0 (length scripts)))
@@ -153,26 +151,70 @@ all_served {L} x scripts n seats ss count new len each =
       };
       of_scripts = record {
         numbers = map-map (λ (t : Transcript). t.part.session) transcript ss ∙ numbers ∙ map-id (range_with_len 0 (length scripts));
-        each = All-map (HasItsScript x.shape scripts) transcript ss (λ k s lt. (each k s (omega (arith, len))).its);
+        each = All-map (HasItsScript (begun_at false x start) scripts) transcript ss
+            (λ k s lt. (let o = each k s (omega (arith, len)) in subst (λ (n : ℕ). HasItsScript (begun_at false x n) scripts (transcript (get_or ss k s))) (ap (λ (t : SeatState). t.seen) (begun k s lt)) o.its));
       };
     }
 
 -- ---- the exchange is closed
 
--- the history that the exchange kept is that of its sessions
-pub one_history : {P W : Type 0} (seen : Ghosts P) (sure : W → ℕ → Type 0) (opening : Store) (earlier : List Entry) (seats : List SeatState) (book : Account)
-    → AreClosed seen sure opening earlier seats book → earlier ≡ [] → book.whole ≡ true → NeverFail seen sure → IsReplay (opened book.opening) book.history book.machine → length book.history ≤ MAX_ENTRIES → HaveOneHistory opening (map part_of seats) book
-one_history seen sure opening earlier seats book closed none whole never replay few =
+-- the history that the exchange leaves is that of its sessions
+pub one_history : {P W : Type 0} (seen : Ghosts P) (sure : W → ℕ → Type 0) (limited loses : Bool) (opening : Store) (earlier : List Entry) (seats : List SeatState) (book : Account)
+    → AreClosed seen sure opening earlier seats book → NeverFail seen sure → IsKeptBook limited loses book → HaveOneHistory loses opening earlier (map part_of seats) book
+one_history seen sure limited loses opening earlier seats book closed never kept =
     let h = book.history in
-    let told : h ≡ closed.told = has_all book.whole closed.told h whole (subst (λ (es : List Entry). AreAllBut book.whole (es ++ closed.told) h) none closed.all_told) in
     record {
+      told = closed.told;
       is_opening = closed.opened;
-      replay = subst (λ (s : Store). IsReplay (opened s) h book.machine) closed.opened replay;
-      counted = ap length told ∙ closed.counted ∙ sym (sum_mapped (λ (p : Part). length p.entries) part_of seats);
-      are_parts = All-map (λ (p : Part). p.entries ≡ own p.session h) part_of seats (subst (λ (es : List Entry). All (LogAgrees es) seats) (sym told) closed.agree);
-      few = few;
+      replay = subst (λ (s : Store). IsReplay (opened s) h book.machine) closed.opened kept.replay;
+      all_told = closed.all_told;
+      counted = closed.counted ∙ sym (sum_mapped (λ (p : Part). length p.entries) part_of seats);
+      are_parts = All-map (λ (p : Part). p.entries ≡ own p.session closed.told) part_of seats closed.agree;
       unstopped = closed.unstopped never;
       seen = All-map (λ (p : Part). p.seen ≤ greatest h) part_of seats closed.none_ahead;
+      lost = kept.lost;
+    }
+
+none_in : (P : Part → Type 0) → All P []
+none_in P k d lt = absurd (omega (arith, lt))
+
+no_entries : (seats : List SeatState) → All (λ (s : SeatState). s.log ≡ []) seats → sum_by (λ (p : Part). length p.entries) (map part_of seats) ≡ 0
+no_entries [] all = refl
+no_entries (s ∷ seats) all =
+    sum_by-cons (λ (p : Part). length p.entries) (part_of s) (map part_of seats)
+    ∙ ap₂ (λ (m n : ℕ). m + n) (ap length (all 0 s (omega arith))) (no_entries seats (λ k d lt. all (suc k) d (omega (arith, lt))))
+
+-- where none of them asked for anything, nothing was told
+pub none_asked : (loses : Bool) (opening : Store) (earlier : List Entry) (seats : List SeatState) (book : Account)
+    → All (λ (s : SeatState). s.log ≡ []) seats → HaveOneHistory loses opening earlier (map part_of seats) book → HaveOneHistory loses opening earlier [] book
+none_asked loses opening earlier seats book none one = record {
+  told = one.told;
+  is_opening = one.is_opening;
+  replay = one.replay;
+  all_told = one.all_told;
+  counted = one.counted ∙ no_entries seats none;
+  are_parts = none_in (λ (p : Part). p.entries ≡ own p.session one.told);
+  unstopped = one.unstopped;
+  seen = none_in (λ (p : Part). p.seen ≤ greatest book.history);
+  lost = one.lost;
+}
+
+-- a book that no session has seen is as they leave it that asked nothing
+pub unasked : (loses : Bool) (was : Account) → IsReplay (opened was.opening) was.history was.machine → was.whole ≡ true → AreUnstopped was.history
+    → HaveOneHistory loses was.opening was.history [] was
+unasked loses was replay whole unstopped =
+    let h = was.history in
+    let all : AreAllBut true h h = (sym (take-length h), omega arith) in
+    record {
+      told = [];
+      is_opening = refl;
+      replay = replay;
+      all_told = rw (whole, append-nil h) all;
+      counted = refl;
+      are_parts = none_in (λ (p : Part). p.entries ≡ own p.session []);
+      unstopped = unstopped;
+      seen = none_in (λ (p : Part). p.seen ≤ greatest h);
+      lost = λ broken. absurd (cc (whole, broken));
     }
 
 -- the parts of sessions are those of their seats

@@ -1,19 +1,19 @@
 -- An exchange of one client.
-use Rattle.std.proofs.Common.{◌≡◌, ℕ, zero, suc, Bool, List, [], ◌∷◌, ◌++◌, length, get_or, map, All, Option, Some, Result, Ok, Err, OnErr, is_some, inl, inr, refl, sym, ap, ◌∙◌, subst, arith}
+use Rattle.std.proofs.Common.{◌≡◌, ℕ, zero, suc, Bool, List, [], ◌∷◌, ◌++◌, length, get_or, map, All, Option, Some, is_some, refl, sym, ap, ◌∙◌, subst, arith}
 use Rattle.std.proofs.lemmas.List.{length-append}
 use Rattle.progress_word.specs.declared.limits.TheConstants.{ALL_PARTS}
-use Rattle.batch.specs.Extent.{Extent}
 use Rattle.module_memory.specs.Store.{Store}
+use Rattle.batch_book.specs.declared.entry.Entry.{Entry}
 use Rattle.batch_book.specs.History.{Account}
 use Rattle.batch_book.specs.Exchanges.{Exchange, AreNew, new_seat, parts_at}
 use Rattle.batch_book.specs.Seats.{SeatState, IsSameSeat, parts_of}
 use Rattle.client_session.specs.declared.fault.ServeFault.{ServeFault}
 use Rattle.session_answers.specs.Frames.{Transcript, end_line}
 use Rattle.session_answers.specs.Histories.{part_of, IsClosing}
-use Rattle.session_answers.specs.Hosting.{IsFresh, AreAllSeats}
+use Rattle.session_answers.specs.Hosting.{begun_at, IsFresh, AreAllSeats}
 use Rattle.plan_answers.specs.Refusals.{Printed}
-use Rattle.session_answers.specs.Sessions.{IsServedSession}
-use Rattle.session_answers.specs.Talking.{HasTalked, HasTalkedInVain, IsTalkInVain}
+use Rattle.session_answers.specs.Sessions.{Beginning, beginning, IsServedSession}
+use Rattle.session_answers.specs.Talking.{HasTalked}
 
 empty_front : (xs : List SeatState) (x : SeatState) → length (xs ++ x ∷ []) ≡ 1 → xs ≡ []
 empty_front [] x len = refl
@@ -24,65 +24,49 @@ all_of_one P x p zero d lt = p
 all_of_one P x p (suc k) d lt = absurd (omega (arith, lt))
 
 -- the one seat of a new exchange, which was taken from the others
-pub record IsAlone (x : Exchange) (rest : List SeatState) (seat : SeatState) : Type 0 where
+pub record IsAlone (x : Exchange) (start : ℕ) (rest : List SeatState) (seat : SeatState) : Type 0 where
   pub nothing : rest ≡ []
   pub fresh : IsFresh x seat
+  pub seen : seat.seen ≡ start
   pub first : seat.session ≡ 0
   pub parts : seat.parts ≡ ALL_PARTS
 
-pub alone : (x : Exchange) (all rest : List SeatState) (seat : SeatState) → AreNew x.word 1 all → all ≡ rest ++ seat ∷ [] → IsAlone x rest seat
-alone x all rest seat new is =
+pub alone : (x : Exchange) (start : ℕ) (all rest : List SeatState) (seat : SeatState) → AreNew x.word start 1 all → all ≡ rest ++ seat ∷ [] → IsAlone x start rest seat
+alone x start all rest seat new is =
     let nothing : rest ≡ [] = empty_front rest seat (sym (ap length is) ∙ new.count) in
     let one : all ≡ seat ∷ [] = is ∙ ap (λ (ys : List SeatState). ys ++ seat ∷ []) nothing in
-    let begun : seat ≡ new_seat x.word 0 (parts_at 1 0) = ap (λ (ys : List SeatState). get_or ys 0 seat) (sym one) ∙ new.each 0 seat (omega arith) in
+    let begun : seat ≡ new_seat x.word start 0 (parts_at 1 0) = ap (λ (ys : List SeatState). get_or ys 0 seat) (sym one) ∙ new.each 0 seat (omega arith) in
     let whole : parts_of (seat ∷ []) ≡ ALL_PARTS = ap parts_of (sym one) ∙ new.parts in
     record {
       nothing = nothing;
       fresh = record {
         exchange = ap (λ (s : SeatState). s.exchange) begun;
         log = ap (λ (s : SeatState). s.log) begun;
-        seen = ap (λ (s : SeatState). s.seen) begun;
+        broken = ap (λ (s : SeatState). s.broken) begun;
       };
+      seen = ap (λ (s : SeatState). s.seen) begun;
       first = ap (λ (s : SeatState). s.session) begun;
       parts = omega (arith, whole);
     }
 
 -- it comes back as the seat of the same session
-pub all_there : (x : Exchange) (rest : List SeatState) (old new : SeatState) → IsAlone x rest old → IsSameSeat old new → AreAllSeats x (rest ++ new ∷ [])
-all_there x rest old new one same =
+pub all_there : (x : Exchange) (start : ℕ) (rest : List SeatState) (old new : SeatState) → IsAlone x start rest old → IsSameSeat old new → AreAllSeats x (rest ++ new ∷ [])
+all_there x start rest old new one same =
     let kept : new.exchange ≡ Some x.word = same.exchange ∙ one.fresh.exchange in
     let each = all_of_one (λ (s : SeatState). s.exchange ≡ Some x.word) new kept in
     let parts : new.parts ≡ ALL_PARTS = same.parts ∙ one.parts in
     subst (λ (ys : List SeatState). AreAllSeats x (ys ++ new ∷ [])) (sym one.nothing) (record { each = each; parts = omega (arith, parts) })
 
 -- what a session from it leaves is what was talked
-pub has_talked : (opening rack : Store) (x : Exchange) (rest : List SeatState) (old new : SeatState) (before after : Option (List ℕ)) (line told : List ℕ) (fault : Option ServeFault) (failed : Bool)
-    → IsAlone x rest old → IsSameSeat old new → x.shape ≡ rack.shape → opening ≡ rack → line ≡ end_line fault → failed ≡ is_some fault
-    → IsServedSession x.shape before after (record { part = part_of new; told = told; fault = fault })
-    → (printed : Printed) (left : Option Account) → IsClosing opening (map part_of (rest ++ new ∷ [])) line failed printed left → HasTalked rack before after told printed left
-has_talked opening rack x rest old new before after line told fault failed one same shape copied said fails session printed left closed =
+pub has_talked : (loses : Bool) (opening : Store) (earlier : List Entry) (was : Account) (x : Exchange) (start : ℕ) (rest : List SeatState) (old new : SeatState) (before after : Option (List ℕ)) (line told : List ℕ) (fault : Option ServeFault) (failed : Bool)
+    → IsAlone x start rest old → IsSameSeat old new → begun_at loses x old.seen ≡ beginning loses was → was.opening ≡ opening → was.history ≡ earlier → line ≡ end_line fault → failed ≡ is_some fault
+    → IsServedSession (begun_at loses x old.seen) before after (record { part = part_of new; told = told; fault = fault })
+    → (printed : Printed) (left : Account) → IsClosing loses opening earlier (map part_of (rest ++ new ∷ [])) line failed printed left → HasTalked loses was before after told printed left
+has_talked loses opening earlier was x start rest old new before after line told fault failed one same begun words entries said fails session printed left closed =
     let t : Transcript = record { part = part_of new; told = told; fault = fault } in (
       t,
       same.session ∙ one.first,
       refl,
-      subst (λ (s : Extent). IsServedSession s before after t) shape session,
-      rw (copied, one.nothing, said, fails) at closed,
+      subst (λ (b : Beginning). IsServedSession b before after t) begun session,
+      rw (sym words, sym entries, one.nothing, said, fails) at closed,
     )
-
--- the same, where there is no memory for what is said of it
-pub talked_in_vain : {X E : Type 0} (r : Result X E) (rack : Store) (x : Exchange) (rest : List SeatState) (old new : SeatState) (before after : Option (List ℕ)) (told : List ℕ) (fault : Option ServeFault)
-    → IsAlone x rest old → IsSameSeat old new → x.shape ≡ rack.shape
-    → IsServedSession x.shape before after (record { part = part_of new; told = told; fault = fault }) → OnErr r (HasTalkedInVain rack before after told)
-talked_in_vain (Ok y) rack x rest old new before after told fault one same shape session = tt
-talked_in_vain (Err e) rack x rest old new before after told fault one same shape session =
-    let t : Transcript = record { part = part_of new; told = told; fault = fault } in
-    inr (t, same.session ∙ one.first, refl, subst (λ (s : Extent). IsServedSession s before after t) shape session)
-
--- no session began
-pub untalked : {X E : Type 0} (r : Result X E) (rack : Store) (before : Option (List ℕ)) → OnErr r (HasTalkedInVain rack before before [])
-untalked (Ok y) rack before = tt
-untalked (Err e) rack before = inl (refl, refl)
-
-pub untouched : {X E : Type 0} (r : Result X E) (shape : List ℕ) (image before : Option (List ℕ)) → OnErr r (IsTalkInVain shape image before before [])
-untouched (Ok y) shape image before = tt
-untouched (Err e) shape image before = inl (refl, refl)

@@ -5,4 +5,5 @@ pub mod Serving
 pub mod Hosting
 pub mod Talking
 pub mod HostAnswers
+pub mod HostTexts
 pub mod HostedSessions

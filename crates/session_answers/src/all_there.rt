@@ -1,6 +1,10 @@
-ghost use Rattle.std.specs.Prelude.{◌≡◌, length};
+ghost use Rattle.std.specs.Prelude.{◌≡◌, false, IfSome, length};
+ghost use Rattle.std.specs.List.{list_any};
+ghost use Rattle.session_answers.specs.HostedSessions.{is_refused};
 
-use std::thread::{Promise, PromisedHandle};
+use crate::client_streams::ClientStreams;
+use crate::host_threads::{SeatThread, is_refused};
+use batch_book::{ExchangeName, History};
 
 /// Shows that so many threads are there: it is made of them alone.
 #[derive(Clone, Copy)]
@@ -9,13 +13,19 @@ pub struct AllThere {
 }
 
 impl AllThere {
-    /// What these threads show.
-    pub(crate) fn of<T: Drop, P: Promise<T> + Drop>(threads: &[PromisedHandle<T, P>]) -> AllThere
-        ensures { result.threads ≡ length threads.now }
+    /// What these show, where each is a thread.
+    pub(crate) fn of<L: ExchangeName, D: ClientStreams, K: History>(
+        started: &[SeatThread<'_, L, D, K>],
+    ) -> Option<AllThere>
+        ensures threads { IfSome result (λ there. there.threads ≡ length started.now) }
+        ensures all { IfSome result (λ _. list_any is_refused started.now ≡ false) }
     {
-        AllThere {
-            threads: threads.len(),
+        if started.iter().any(|one| is_refused(one)) {
+            return None;
         }
+        Some(AllThere {
+            threads: started.len(),
+        })
     }
 
     /// How many there are.

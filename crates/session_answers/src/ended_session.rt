@@ -1,4 +1,3 @@
-use batch_book::{ExchangeName, Seat};
 use client_session::ServeFault;
 
 /// How the session of a client at a host ended.
@@ -13,13 +12,4 @@ pub enum Ending<C> {
         /// What is left of its writer.
         receipt: C,
     },
-}
-
-/// A session at a host that has ended.
-#[derive(Drop)]
-pub struct EndedSession<L: ExchangeName, C> {
-    /// Its seat. Contracts see the list of its calls.
-    pub seat: Seat<L>,
-    /// How it ended.
-    pub ending: Ending<C>,
 }

@@ -1,6 +1,6 @@
 //! How sessions are printed.
 
-ghost use Rattle.std.specs.Prelude.{◌≡◌, ◌++◌, IfOk, OnOk, map};
+ghost use Rattle.std.specs.Prelude.{◌≡◌, ◌≤◌, ◌+◌, ◌++◌, IfOk, OnOk, length, map, vec_len, vec_capacity};
 ghost use Rattle.session_answers.specs.Frames.{ended_line, end_line, end_text, sessions_text, has_fault};
 ghost use Rattle.session_answers.specs.Hosting.{transcript, session_bytes};
 
@@ -9,9 +9,24 @@ use batch_book::ExchangeName;
 use client_session::ServeFault;
 use std::alloc::{AllocError, Global};
 
+/// Room for the line that tells how a session ended, however it ended.
+pub const END_ROOM: usize = 20;
+
+/// Puts bytes at the end of a text that has room for them.
+pub fn put(text: &mut Vec<u8>, bytes: &[u8])
+    requires { vec_len text.old + length bytes.now ≤ vec_capacity text.old }
+    ensures items { text.new.items ≡ text.old.items ++ bytes.now }
+    ensures room { vec_capacity text.old ≤ vec_capacity text.new }
+{
+    if text.extend_from_slice(bytes).is_err() {
+        unreachable!();
+    }
+}
+
 /// The line that tells of a fault which ended a session.
 fn ended_line(fault: ServeFault) -> &'static [u8]
-    ensures { result.now ≡ ended_line fault }
+    ensures line { result.now ≡ ended_line fault }
+    ensures room { length result.now ≤ END_ROOM }
 {
     match fault {
         ServeFault::Read => b"ended read\n",
@@ -26,7 +41,8 @@ fn ended_line(fault: ServeFault) -> &'static [u8]
 
 /// The line that tells which fault ended a session; nothing where none did.
 pub fn end_line(fault: Option<ServeFault>) -> &'static [u8]
-    ensures { result.now ≡ end_line fault }
+    ensures line { result.now ≡ end_line fault }
+    ensures room { length result.now ≤ END_ROOM }
 {
     match fault {
         Some(fault) => ended_line(fault),

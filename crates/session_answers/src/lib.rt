@@ -1,16 +1,19 @@
-//! The answers of the commands with sessions, `serve`, `host` and `talk`: from the bytes of their
-//! texts to the bytes that are printed, and the status that the program ends with.
+//! The commands with sessions, `serve`, `host` and `talk`: from the bytes of their texts, or from a
+//! book, to the bytes that are printed, and the status that the program ends with.
 //!
-//! Each `answer_` function opens an exchange, serves its clients, closes it, and gives an
-//! [`Answer`](plan_answers::Answer): what is printed behind the sessions, or the line of the
-//! refusal of what is first wrong. Beside it stands the book that the sessions leave, whose history
-//! explains what each was told, and whose rack has the words to which that leads.
+//! [`answer_serve`] opens an exchange, serves its scripts, closes it, and gives an
+//! [`Answer`](plan_answers::Answer): what is printed of the sessions, or the line of the refusal of
+//! what is first wrong. [`host_on`] and [`talk_on`] do so over a [`Book`](batch_book::Book) that
+//! the caller hands in, whatever its kind of history is, and which may have entries. The book that
+//! is left explains by its history what each session was told, and its rack has the words to which
+//! that leads.
 //!
-//! `IsServeAnswer`, `IsTalkAnswer` and `IsHostAnswer` (`specs/Serving.antt`, `specs/Talking.antt`,
+//! `IsServeAnswer`, `HasTalked` and `AreHosted` (`specs/Serving.antt`, `specs/Talking.antt`,
 //! `specs/HostAnswers.antt`) say this: each session is one that its client's bytes may have, as far
-//! as these are known (`IsServedSession`), unless its files couldn't be opened, and the entries of
-//! all are one legal history, that of the book (`HaveOneHistory` of `specs/Histories.antt`). No run
-//! of it stopped, and no session saw the runs come further than it tells. The files of a client are
+//! as these are known (`IsServedSession`), unless its files couldn't be opened, and what all were
+//! told is one legal history, that of the book behind what it had before (`HaveOneHistory` of
+//! `specs/Histories.antt`). No run of it stopped, and no session saw the runs come further than it
+//! tells. Where the book isn't whole its last entry was told to nobody. The files of a client are
 //! opened only for who shows that each client has a thread ([`AllThere`]).
 #![tactic(auto)]
 
@@ -19,6 +22,7 @@ mod client_streams;
 mod closing;
 mod ended_session;
 mod frames;
+mod host_threads;
 mod hosting;
 mod plain_exchange;
 mod serving;
@@ -30,6 +34,6 @@ pub use client_streams::ClientStreams;
 pub use closing::Closing;
 pub use ended_session::Ending;
 pub use frames::push_end;
-pub use hosting::{Hosted, answer_host};
-pub use serving::answer_serve;
-pub use talking::answer_talk;
+pub use hosting::{Hosted, host_on};
+pub use serving::{Served, answer_serve};
+pub use talking::talk_on;

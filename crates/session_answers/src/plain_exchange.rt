@@ -1,50 +1,56 @@
 //! An exchange whose port and wires never fail: how it is opened, how a client has its session
 //! there, and how it is closed.
 
-ghost use Rattle.std.specs.Prelude.{◌≡◌, ◌≤◌, List, [], ℕ, IfOk, map};
+ghost use Rattle.std.specs.Prelude.{◌≡◌, ◌≤◌, List, ℕ, IfOk, IfErr, length, map};
 ghost use Rattle.std.specs.Io.KnownBytes.{Appends};
 ghost use Rattle.progress_word.specs.declared.limits.TheConstants.{ALL_PARTS};
 ghost use Rattle.batch_book.specs.Exchanges.{AreNew};
-ghost use Rattle.batch_book.specs.History.{new_account};
+ghost use Rattle.batch_book.specs.History.{AreUnstopped, IsWithin};
 ghost use Rattle.batch_book.specs.Naming.{IsNamed};
 ghost use Rattle.batch_book.specs.Seats.{IsSameSeat};
+ghost use Rattle.batch_book.specs.Values.{greatest};
 ghost use Rattle.client_session.specs.Listening.{TellsOfRefusals};
-ghost use Rattle.session_answers.specs.Histories.{part_of, IsClosing};
-ghost use Rattle.session_answers.specs.Hosting.{AreAllSeats, IsFresh};
+ghost use Rattle.session_answers.specs.Histories.{part_of, HaveOneHistory, IsClosing};
+ghost use Rattle.session_answers.specs.Hosting.{AreAllSeats, IsFresh, begun_at};
 ghost use Rattle.session_answers.specs.Sessions.{IsServedSession};
 
 use crate::closing::Closing;
-use batch_book::{Closed, ExchangeBlank, ExchangeName, Seat, Shared};
+use batch_book::{
+    Book, Closed, ExchangeBlank, ExchangeName, History, Kept, Seat, SeatMissing, Shared,
+};
 use client_session::{Listener, ServeFault, serve};
 use crossbar::MemoryPort;
 use exchange_limits::{MAX_SESSIONS, WorkerCount};
-use module_memory::Rack;
 use peek_poke::PlainWires;
 use plan_answers::Answer;
 use progress_word::ALL_PARTS;
 use schedule_certificate::OpenGate;
 use setting_runner::Plant;
-use std::alloc::{AllocError, Global};
+use std::alloc::Global;
 use std::io::{Read, Write};
 use std::sync::Wait;
 use std::thread::Threads;
 
 /// An exchange whose port and wires never fail.
-pub type PlainExchange<L> = Shared<L, MemoryPort, PlainWires, OpenGate>;
+pub type PlainExchange<L, K = Kept> = Shared<L, MemoryPort, PlainWires, OpenGate, K>;
 
-/// An exchange with this rack, and a seat for each of so many sessions.
-pub fn open_exchange<L: ExchangeName>(
+/// An exchange over this book, and a seat for each of so many sessions. Where there is no memory
+/// for it the book comes back as it was.
+pub fn open_exchange<L: ExchangeName, K: History>(
     alloc: Global,
     blank: ExchangeBlank,
-    rack: Rack,
+    book: Book<K>,
     workers: WorkerCount,
     sessions: usize,
-) -> Result<(PlainExchange<L>, Vec<Seat<L>>), AllocError>
-    requires named { IsNamed L.name L.parts L.table L.opening L.earlier blank (new_account rack) }
+) -> Result<(PlainExchange<L, K>, Vec<Seat<L>>), Book<K>>
+    requires named { IsNamed L.name L.parts L.table L.opening L.earlier blank book }
+    requires unstopped { AreUnstopped book.history }
     requires some { 1 ≤ sessions }
     requires few { sessions ≤ MAX_SESSIONS }
-    ensures shape { IfOk result (λ made. made.0.shape ≡ rack.shape) }
-    ensures seats { IfOk result (λ made. AreNew made.0.word sessions made.1.items) }
+    ensures shape { IfOk result (λ made. made.0.shape ≡ book.machine.store.shape) }
+    ensures seats { IfOk result (λ made. AreNew made.0.word (greatest L.earlier) sessions
+        made.1.items) }
+    ensures back { IfErr result (λ back. back ≡ book) }
 {
     let plant = Plant {
         port: MemoryPort::new(),
@@ -52,19 +58,26 @@ pub fn open_exchange<L: ExchangeName>(
         gate: OpenGate,
         workers,
     };
-    match Shared::new(alloc, blank, rack, plant, sessions) {
+    match Shared::of_book(alloc, blank, book, plant, sessions) {
         Ok(made) => Ok(made),
-        Err(_) => Err(AllocError),
+        Err((_, book, _, _)) => Err(book),
     }
 }
 
 /// Serves a client from a seat that has done nothing yet, to the session's end: gives the seat
 /// back, and the fault that ended the session, where one did. The listener hears each command, and
 /// each refusal.
-pub fn serve_client<L: ExchangeName, R: Threads + Wait + Sync, I: Read, O: Write, H: Listener>(
+pub fn serve_client<
+    L: ExchangeName,
+    K: History,
+    R: Threads + Wait + Sync,
+    I: Read,
+    O: Write,
+    H: Listener,
+>(
     rt: &R,
     alloc: Global,
-    exchange: &PlainExchange<L>,
+    exchange: &PlainExchange<L, K>,
     seat: Seat<L>,
     reader: &mut I,
     writer: &mut O,
@@ -75,7 +88,8 @@ pub fn serve_client<L: ExchangeName, R: Threads + Wait + Sync, I: Read, O: Write
     ensures same { IsSameSeat seat result.0 }
     ensures session { (told : List ℕ)
         × Appends (O.contents writer.old) (O.contents writer.new) told
-        × IsServedSession exchange.now.shape (I.remaining reader.old) (I.remaining reader.new)
+        × IsServedSession (begun_at K.loses exchange.now seat.seen) (I.remaining reader.old)
+        (I.remaining reader.new)
         (record { part = part_of result.0; told = told; fault = result.1 }) }
     ensures beside { TellsOfRefusals H.may_tell (H.told listener.old) (H.told listener.new) }
 {
@@ -85,26 +99,47 @@ pub fn serve_client<L: ExchangeName, R: Threads + Wait + Sync, I: Read, O: Write
     }
 }
 
+/// Closes the exchange behind its sessions, which leave this book.
+pub fn close_exchange<L: ExchangeName, K: History>(
+    exchange: PlainExchange<L, K>,
+    seats: Vec<Seat<L>>,
+) -> Book<K>
+    requires parts { L.parts ≡ ALL_PARTS }
+    requires seats { AreAllSeats exchange seats.items }
+    ensures one { HaveOneHistory K.loses L.opening L.earlier (map part_of seats.items) result }
+    ensures few { IsWithin K.limited (length result.history) }
+{
+    match exchange.close(seats) {
+        Ok(Closed { book, plant: _ }) => {
+            // Parted only for the contract, which says that the history is legal, and what may be
+            // lost.
+            let (bare, history) = book.part();
+            Book::go_on(bare, history)
+        }
+        Err(
+            SeatMissing {
+                exchange: _,
+                seats: _,
+            },
+        ) => unreachable!(),
+    }
+}
+
 /// Closes the exchange behind its sessions, of which this text is printed, and one of which was
 /// ended by a fault or none.
-pub fn finish<L: ExchangeName>(
-    exchange: PlainExchange<L>,
+pub fn finish<L: ExchangeName, K: History>(
+    exchange: PlainExchange<L, K>,
     seats: Vec<Seat<L>>,
     text: Vec<u8>,
     failed: bool,
-) -> Closing
+) -> Closing<K>
     requires parts { L.parts ≡ ALL_PARTS }
-    requires fresh { L.earlier ≡ [] }
     requires seats { AreAllSeats exchange seats.items }
-    ensures { IsClosing L.opening (map part_of seats.items) text.items failed result.answer
-        result.book }
+    ensures closing { IsClosing K.loses L.opening L.earlier (map part_of seats.items) text.items
+        failed result.answer result.book }
+    ensures few { IsWithin K.limited (length result.book.history) }
 {
-    let Ok(Closed { book, plant: _ }) = exchange.close(seats) else {
-        unreachable!()
-    };
-    // Asked for only for its contract, which says that the history is legal.
-    book.history();
-    let book = Some(book);
+    let book = close_exchange(exchange, seats);
     if failed {
         let answer = Answer::failed(text);
         return Closing { answer, book };

@@ -1,29 +1,54 @@
 //! The command `serve`.
 
-ghost use Rattle.std.specs.Prelude.{◌≡◌, ◌≤◌, IfOk, length, map};
+ghost use Rattle.std.specs.Prelude.{◌≡◌, ◌≤◌, false, IfOk, None, Some, length, map};
 ghost use Rattle.batch_book.specs.Exchanges.{AreNew};
 ghost use Rattle.batch_book.specs.History.{new_account};
 ghost use Rattle.batch_book.specs.Naming.{IsNamed};
 ghost use Rattle.batch_book.specs.Seats.{IsSameSeat};
-ghost use Rattle.session_answers.specs.Hosting.{transcript, IsSeatReady, AreServedAt};
+ghost use Rattle.batch_book.specs.Values.{greatest};
+ghost use Rattle.session_answers.specs.Hosting.{transcript, begun_at, IsSeatReady, AreServedAt};
 ghost use Rattle.plan_answers.specs.Lent.{bytes_of};
+ghost use Rattle.plan_answers.specs.Refusals.{Refuses};
 ghost use Rattle.session_answers.specs.Serving.{HasItsScript, AreServed, IsServeAnswer};
 
 use crate::closing::Closing;
 use crate::frames::{frame, has_fault};
 use crate::plain_exchange::{PlainExchange, finish, open_exchange, serve_client};
 use crate::session::Session;
-use batch_book::{ExchangeBlank, ExchangeName, Seat};
+use batch_book::{Book, ExchangeBlank, ExchangeName, Kept, Seat};
 use client_session::NoListener;
 use exchange_limits::{MAX_SESSIONS, WorkerCount};
-use module_memory::Rack;
+use plan_answers::Answer;
 use progress_word::ALL_PARTS;
 use rack_answers::read_rack;
+use refusals::Refusal;
 use std::alloc::{AllocError, Global};
 use std::marker::Brand;
 use std::sync::Wait;
 use std::thread;
 use std::thread::Threads;
+
+/// What is left of scripts, once all have been served.
+#[derive(Drop)]
+pub struct Served {
+    /// What their sessions were told, or the refusal.
+    pub answer: Answer,
+    /// The book of their exchange. There is none behind a refusal.
+    pub book: Option<Book>,
+}
+
+impl Served {
+    /// A refusal, behind which there is no book.
+    fn refused(alloc: Global, refusal: Refusal) -> Result<Served, AllocError>
+        ensures answer { IfOk result (λ served. Refuses refusal served.answer) }
+        ensures book { IfOk result (λ served. served.book ≡ None) }
+    {
+        Ok(Served {
+            answer: Answer::refused(alloc, refusal)?,
+            book: None,
+        })
+    }
+}
 
 /// Serves the script at the place of the seat's session, to the session's end.
 fn serve_script<L: ExchangeName, R: Threads + Wait + Sync>(
@@ -36,8 +61,8 @@ fn serve_script<L: ExchangeName, R: Threads + Wait + Sync>(
 ) -> Session<L>
     requires seat { IsSeatReady exchange.now (length scripts.now) seat }
     ensures same { IsSameSeat seat result.seat }
-    ensures served { HasItsScript exchange.now.shape (map (λ s. s.items) scripts.now)
-        (transcript result) }
+    ensures served { HasItsScript (begun_at false exchange.now seat.seen)
+        (map (λ s. s.items) scripts.now) (transcript result) }
 {
     let mut reader = scripts[seat.session()].as_slice();
     let mut told = Vec::new(alloc);
@@ -64,14 +89,15 @@ fn serve_all<L: ExchangeName + Send + Sync, R: Threads + Wait + Sync>(
     scripts: &[Vec<u8>],
     workers: WorkerCount,
 ) -> Result<Vec<Session<L>>, AllocError>
-    requires seats { AreNew exchange.now.word (length scripts.now) seats.items }
-    ensures { IfOk result (λ sessions.
-        AreServedAt exchange.now (map (λ s. s.items) scripts.now) sessions.items) }
+    requires seats { AreNew exchange.now.word (greatest L.earlier) (length scripts.now)
+        seats.items }
+    ensures { IfOk result (λ sessions. AreServedAt exchange.now (greatest L.earlier)
+        (map (λ s. s.items) scripts.now) sessions.items) }
 {
     let one = |seat: Seat<L>| -> Session<L>
         requires { IsSeatReady exchange.now (length scripts.now) seat }
         ensures same { IsSameSeat seat result.seat }
-        ensures served { HasItsScript exchange.entry.now.shape
+        ensures served { HasItsScript (begun_at false exchange.entry.now seat.seen)
             (map (λ s. s.items) scripts.entry.now) (transcript result) }
     { serve_script(rt, alloc, exchange, seat, scripts, workers) };
     thread::map_vec(rt, seats, &one)
@@ -90,22 +116,26 @@ fn seats_of<L: ExchangeName>(
         .collect(alloc)
 }
 
-/// What is left of the scripts' sessions on one exchange with this rack.
+/// What is left of the scripts' sessions on one exchange over this book, which is new.
 fn serve_scripts<L: ExchangeName + Send + Sync, R: Threads + Wait + Sync>(
     rt: &R,
     alloc: Global,
     blank: ExchangeBlank,
-    rack: Rack,
+    book: Book,
     workers: WorkerCount,
     scripts: &[Vec<u8>],
 ) -> Result<Closing, AllocError>
-    requires named { IsNamed L.name L.parts L.table L.opening L.earlier blank (new_account rack) }
+    requires named { IsNamed L.name L.parts L.table L.opening L.earlier blank book }
+    requires new { book ≡ new_account book.opening }
     requires some_scripts { 1 ≤ length scripts.now }
     requires few_scripts { length scripts.now ≤ MAX_SESSIONS }
-    ensures { IfOk result (λ closing. AreServed rack (map (λ s. s.items) scripts.now)
-        closing.answer closing.book) }
+    ensures { IfOk result (λ closing. AreServed book.opening (map (λ s. s.items) scripts.now)
+        closing.answer (Some closing.book)) }
 {
-    let (exchange, seats) = open_exchange::<L>(alloc, blank, rack, workers, scripts.len())?;
+    let opened = open_exchange::<L, Kept>(alloc, blank, book, workers, scripts.len());
+    let Ok((exchange, seats)) = opened else {
+        return Err(AllocError);
+    };
     let sessions = serve_all(rt, alloc, &exchange, seats, scripts, workers)?;
     let text = frame(alloc, sessions.as_slice())?;
     let failed = has_fault(sessions.as_slice());
@@ -131,17 +161,25 @@ pub fn answer_serve<R: Threads + Wait + Sync>(
     image: Option<&[u8]>,
     workers: WorkerCount,
     scripts: &[Vec<u8>],
-) -> Result<Closing, AllocError>
+) -> Result<Served, AllocError>
     requires some_scripts { 1 ≤ length scripts.now }
     requires few_scripts { length scripts.now ≤ MAX_SESSIONS }
-    ensures { IfOk result (λ closing. IsServeAnswer shape.now (bytes_of image.entry)
-        (map (λ s. s.items) scripts.now) closing.answer closing.book) }
+    ensures { IfOk result (λ served. IsServeAnswer shape.now (bytes_of image.entry)
+        (map (λ s. s.items) scripts.now) served.answer served.book) }
 {
-    match read_rack(alloc, shape, image) {
-        Ok(rack) => {
-            let blank = ExchangeBlank::new(alloc)?;
-            serve_scripts::<Brand, R>(rt, alloc, blank, rack, workers, scripts)
-        }
-        Err(refusal) => Closing::refused(alloc, refusal),
-    }
+    let rack = match read_rack(alloc, shape, image) {
+        Ok(rack) => rack,
+        Err(refusal) => return Served::refused(alloc, refusal),
+    };
+    let blank = ExchangeBlank::new(alloc)?;
+    let Ok(book) = Book::new(alloc, rack) else {
+        return Err(AllocError);
+    };
+    let Closing { answer, book } = serve_scripts::<Brand, R>(
+        rt, alloc, blank, book, workers, scripts,
+    )?;
+    Ok(Served {
+        answer,
+        book: Some(book),
+    })
 }

@@ -1,14 +1,18 @@
 //! A host whose clients' bytes are all known.
 
-ghost use Rattle.std.specs.Prelude.{◌≤◌, IfOk, None, Some, codes, length, map};
+ghost use Rattle.std.specs.Prelude.{◌≡◌, ◌≤◌, true, IfOk, Some, length, map};
 ghost use Rattle.exchange_limits.specs.declared.limits.TheConstants.{MAX_SESSIONS};
-ghost use Rattle.session_answers.specs.HostAnswers.{seen_end, IsHostAnswer};
+ghost use Rattle.batch_book.specs.History.{AreUnstopped};
+ghost use Rattle.session_answers.specs.HostAnswers.{seen_end, AreHosted};
 ghost use Rattle.answers_tests.specs.Known.{known_clients};
 
-use batch_book::Book;
+use crate::tests::books::{FailsOnce, is_left, small_book};
+use batch_book::{Book, History, Silent};
+use client_session::ServeFault;
 use exchange_limits::WorkerCount;
-use session_answers::{AllThere, ClientStreams, Ending, Hosted, answer_host};
-use std::alloc::{AllocError, Global};
+use refusals::Refusal;
+use session_answers::{AllThere, ClientStreams, Ending, Hosted, host_on};
+use std::alloc::Global;
 use std::io;
 use std::io::ErrorKind;
 use std::sync::Wait;
@@ -55,20 +59,23 @@ impl<'a> ClientStreams for KnownStreams<'a> {
     }
 }
 
-/// What is left of a host of such clients, on a rack of one module with two words.
-fn host_known<R: Threads + Wait + Sync>(
+/// What is left of a host of such clients, over this book.
+fn host_known<K: History + Send, R: Threads + Wait + Sync>(
     rt: &R,
     alloc: Global,
+    book: Book<K>,
     said: &[&[u8]],
-) -> Result<Hosted<Vec<u8>>, AllocError>
+) -> Result<Hosted<Vec<u8>, K>, (Refusal, Book<K>)>
+    requires whole { book.whole ≡ true }
+    requires unstopped { AreUnstopped book.history }
     requires some { 1 ≤ length said.now }
     requires few { length said.now ≤ MAX_SESSIONS }
-    ensures { IfOk result (λ hosted. IsHostAnswer (codes "1x1x2") None (known_clients said.now)
+    ensures { IfOk result (λ hosted. AreHosted K.loses book (known_clients said.now)
         (map (seen_end (λ told. Some told.items)) hosted.endings.items) hosted.closing.answer
         hosted.closing.book) }
 {
     let streams = KnownStreams { alloc, said };
-    answer_host(rt, alloc, b"1x1x2", None, WorkerCount::ONE, &streams)
+    host_on(rt, alloc, book, WorkerCount::ONE, &streams)
 }
 
 /// Whether a session ended by itself, and its client was told this.
@@ -82,14 +89,6 @@ fn was_told(ending: &Ending<Vec<u8>>, told: &str) -> bool {
     }
 }
 
-/// Whether there is a book, and this is the image of its rack.
-fn is_left(book: Option<Book>, image: &[u8]) -> bool {
-    match book.map(|book| book.rack().image()) {
-        Some(Ok(left)) => left.as_slice() == image,
-        _ => false,
-    }
-}
-
 /// Whether each of two clients is told its own replies, the answer has both, and the rack has what
 /// both wrote.
 fn are_hosted<R: Threads + Wait + Sync>(rt: &R, alloc: Global) -> bool {
@@ -97,20 +96,69 @@ fn are_hosted<R: Threads + Wait + Sync>(rt: &R, alloc: Global) -> bool {
         b"poke 0 80000800 000000aa\npeek 0 80000800\n",
         b"poke 0 80000804 000000bb\nbye\n",
     ];
-    match host_known(rt, alloc, &said) {
+    let Some(book) = small_book(alloc, Silent::new()) else {
+        return false;
+    };
+    match host_known(rt, alloc, book, &said) {
         Ok(Hosted { closing, endings }) => {
             endings.len() == 2
                 && was_told(&endings[0], "poked\nword 000000aa\n")
                 && was_told(&endings[1], "poked\nbye\n")
                 && closing.answer.text() == b"session 0 client\nsession 1 client\n".as_slice()
                 && closing.answer.status() == 0
-                && is_left(closing.book, &[0xaa, 0, 0, 0, 0xbb, 0, 0, 0])
+                && is_left(&closing.book, &[0xaa, 0, 0, 0, 0xbb, 0, 0, 0])
         }
-        Err(AllocError) => false,
+        Err(_) => false,
     }
 }
 
 #[test]
 fn known_clients_are_told_their_own_replies(rt: HostRuntime) {
     assert!(rt; are_hosted(&rt, rt.alloc()));
+}
+
+/// Whether a session ended since a call couldn't be recorded.
+fn was_lost(ending: &Ending<Vec<u8>>) -> bool {
+    match ending {
+        Ending::Served { fault, .. } => *fault == Some(ServeFault::Record),
+        Ending::Unopened => false,
+    }
+}
+
+/// How many bytes a client was told.
+fn told_bytes(ending: &Ending<Vec<u8>>) -> usize {
+    match ending {
+        Ending::Served { receipt, .. } => receipt.len(),
+        Ending::Unopened => 0,
+    }
+}
+
+/// Whether one of three clients is told one reply, and each session ends since a call couldn't be
+/// recorded, where the second entry of all can't be.
+fn ends_all<R: Threads + Wait + Sync>(rt: &R, alloc: Global) -> bool {
+    let said: [&[u8]; 3] = [b"peek 0 80000800\npeek 0 80000800\nbye\n"; 3];
+    let Some(book) = small_book(alloc, FailsOnce::behind(1)) else {
+        return false;
+    };
+    match host_known(rt, alloc, book, &said) {
+        Ok(Hosted { closing, endings }) => {
+            let text = "session 0 client\nended record\nsession 1 client\nended record\n\
+                session 2 client\nended record\n";
+            endings.len() == 3
+                && endings.iter().all(was_lost)
+                && told_bytes(&endings[0])
+                    .wrapping_add(told_bytes(&endings[1]))
+                    .wrapping_add(told_bytes(&endings[2]))
+                    == "word 00000000\n".len()
+                && closing.answer.text() == text.as_bytes()
+                && closing.answer.status() == 1
+                && !closing.book.log().is_whole()
+        }
+        Err(_) => false,
+    }
+}
+
+#[test]
+fn a_broken_record_ends_all_sessions(rt: HostRuntime) {
+    assert!(rt; ends_all(&rt, rt.alloc()));
 }

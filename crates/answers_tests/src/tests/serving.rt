@@ -43,4 +43,5 @@ fn ends_are_framed(rt: HostRuntime) {
             "ended no memory\n"
         )
     );
+    assert!(rt; is_end(alloc, "poked\n", Some(ServeFault::Record), "ended record\n"));
 }

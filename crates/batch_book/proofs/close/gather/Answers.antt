@@ -1,4 +1,4 @@
-use Rattle.std.proofs.Common.{◌≤◌, List, All, length, sym, ap, ◌∙◌, refl, subst, arith, rules}
+use Rattle.std.proofs.Common.{◌≤◌, max, List, All, length, sym, ap, ◌∙◌, refl, subst, arith, rules}
 use Rattle.std.proofs.lemmas.Iterator.Adapters.{YieldsList-from_vec}
 use Rattle.std.proofs.lemmas.Iterator.Consumers.{YieldsList-turn, YieldsList-end}
 use Rattle.std.proofs.lemmas.List.{map-id}
@@ -46,7 +46,7 @@ loop-seat-preserved g c =
     let s : SeatState = c.in-Some-seat.seat in
     let ys = c.loop-seat.yielded in
     let agrees : LogAgrees h s = subst (λ l. LogAgrees (told_in l) s) i.same e.agrees in
-    let below = subst (λ l. c.compared-access.result.watcher.raised ≤ greatest (made_in l)) i.same e.raised in
+    let below = subst (λ l. c.compared-access.result.watcher.raised ≤ max (greatest g.L.ExchangeName.earlier) (greatest (made_in l))) i.same e.raised in
     let seen = ap (λ (o : WatcherView). o.seen) j.watcher in
     let raised = ap (λ (o : WatcherView). o.raised) j.watcher in
     let n = c.join.new.self.watcher.seen in

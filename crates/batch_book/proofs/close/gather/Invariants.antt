@@ -1,4 +1,4 @@
-use Rattle.std.proofs.Common.{◌≡◌, ◌+◌, ◌≤◌, All}
+use Rattle.std.proofs.Common.{◌≡◌, ◌+◌, ◌≤◌, max, All}
 use Rattle.batch_book.specs.Recording.{made_in, told_in}
 use Rattle.batch_book.specs.Seats.{LogAgrees, entries_of, parts_of}
 use Rattle.batch_book.specs.Values.{greatest}
@@ -13,5 +13,5 @@ invariant-loop-seat g l = record {
   amount : l.all.share.amount ≡ l.initial.all.share.amount + entries_of l.yielded;
   first_seen : l.initial.all.watcher.seen ≤ l.all.watcher.seen;
   seen : All (λ s. s.seen ≤ l.all.watcher.seen) l.yielded;
-  raised : l.all.watcher.raised ≤ greatest (made_in l.fn.keeper.history);
+  raised : l.all.watcher.raised ≤ max (greatest g.L.ExchangeName.earlier) (greatest (made_in l.fn.keeper.history));
 }

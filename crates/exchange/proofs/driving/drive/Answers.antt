@@ -14,4 +14,4 @@ pub returns-in-Ok-clause-answer : goal.returns-in-Ok-clause-answer
 returns-in-Ok-clause-answer g c =
     let t = c.answer_lines-end.ensures in
     let driven = rw c.in-Ok.is at t.2 in
-    (t.0, t.1, (c.alone.ensures.1, rw c.take_failure-failure.ensures (rw c.alone.ensures.0 driven)), tt)
+    (t.0, t.1, rw c.take_failure-failure.ensures (rw c.alone.ensures driven), tt)

@@ -1,82 +1,78 @@
-use Rattle.std.proofs.Common.{List, [], ℕ, Option, rules, ◌≡◌, None, OnErr, refl}
+use Rattle.std.proofs.Common.{[], refl}
 use Rattle.std.proofs.KnownBytes.{Appends-nil}
-use Rattle.std.proofs.lemmas.Result.{on_err_weaker}
-use Rattle.session_answers.specs.HostAnswers.{IsHostAnswer}
-use Rattle.session_answers.specs.Serving.{IsServeAnswer}
-use Rattle.session_answers.specs.Talking.{IsTalkAnswer, IsTalkInVain}
-use Rattle.exchange.specs.Clients.{clients_by, ends_of}
+use Rattle.exchange.specs.Clients.{clients_by}
 use Rattle.exchange.specs.Contents.{contents_in}
-use Rattle.exchange.specs.Outcomes.{IsNever, IsNothing}
-use Rattle.exchange.specs.Responses.{IsC004By, IsC004Cut}
-use Rattle.exchange.proofs.Told.{if_not, none_asked, none_served, nothing_before, served_none, told_nothing, unasked}
+use Rattle.exchange.specs.Responses.{given_by}
+use Rattle.exchange.proofs.Comes.{err_so, leaves_rest, none_of, ok_so, on_err, told_kept, told_plain}
+use Rattle.exchange.proofs.Told.{none_served}
 use Rattle.exchange.proofs.jobs.answer_job.Goals as goal
-
-pub returns-in-Drive-clause-response : goal.returns-in-Drive-clause-response
-returns-in-Drive-clause-response g c =
-    rw c.in-Drive.is (served_none c.drive.result _ _ _ _ _ _ _ (none_served _ c.requires.unserved) (rw (c.as_str.ensures, c.text_in.ensures) at c.drive.ensures.answer))
-
-pub returns-in-Drive-clause-rest : goal.returns-in-Drive-clause-rest
-returns-in-Drive-clause-rest g c = rw c.in-Drive.is (none_served _ c.requires.unserved)
-
-pub returns-in-C004-clause-response : goal.returns-in-C004-clause-response
-returns-in-C004-clause-response g c =
-    rw c.in-C004.is (unasked c.c004.result _ _ (λ told found. (found.book ≡ None) × IsC004By (g.I.Read.remaining c.args.input.now) told found.answer) IsNothing (IsC004Cut (g.I.Read.remaining c.args.input.now)) _ _ (if_not c.c004.result _ (none_served _ c.requires.unserved)) c.c004.ensures.answer)
-
-pub returns-in-C004-clause-rest : goal.returns-in-C004-clause-rest
-returns-in-C004-clause-rest g c = rw c.in-C004.is (refl, none_served _ c.requires.unserved)
-
-pub returns-in-C004-2-clause-response : goal.returns-in-C004-2-clause-response
-returns-in-C004-2-clause-response g c =
-    rw c.in-C004-2.is (unasked c.c004-in-C004-2.result _ _ (λ told found. (found.book ≡ None) × IsC004By (g.I.Read.remaining c.args.input.now) told found.answer) IsNothing (IsC004Cut (g.I.Read.remaining c.args.input.now)) _ _ (if_not c.c004-in-C004-2.result _ (none_served _ c.requires.unserved)) c.c004-in-C004-2.ensures.answer)
-
-pub returns-in-C004-2-clause-rest : goal.returns-in-C004-2-clause-rest
-returns-in-C004-2-clause-rest g c = rw c.in-C004-2.is (refl, none_served _ c.requires.unserved)
 
 pub returns-in-Serve-clause-response : goal.returns-in-Serve-clause-response
 returns-in-Serve-clause-response g c =
-    let files = contents_in c.args.contents.now in
-    let is = nothing_before c.serve.result _ (λ found. IsServeAnswer c.in-Serve.rack.shape files.image files.scripts found.answer found.book) IsNever c.serve.ensures.note c.serve.ensures.answer in
-    rw c.in-Serve.is (unasked c.serve.result _ _ _ IsNothing IsNever _ _ (if_not c.serve.result _ (none_served _ c.requires.unserved)) is)
+    let none = none_served _ c.requires.unserved in
+    rw c.in-Serve.is (told_kept c.serve.result.end _ _ [] _ _ _ _ (Appends-nil _) (ok_so c.serve.result.end _ _ (λ found is. (is.0, (refl, is.1), is.2)) c.serve.ensures.answer) (err_so c.serve.result.end _ _ (λ m is. (is.0, refl, none)) c.serve.ensures.missed))
+
+pub returns-in-Serve-clause-note : goal.returns-in-Serve-clause-note
+returns-in-Serve-clause-note g c = err_so c.serve.result.end _ _ (λ m is. none_of m is.0) c.serve.ensures.missed
 
 pub returns-in-Serve-clause-rest : goal.returns-in-Serve-clause-rest
 returns-in-Serve-clause-rest g c = rw c.in-Serve.is (refl, none_served _ c.requires.unserved)
 
-pub returns-in_ok-lacks-in-Host-clause-response : goal.returns-in_ok-lacks-in-Host-clause-response
-returns-in_ok-lacks-in-Host-clause-response g c =
-    let files = contents_in c.args.contents.now in
-    let clients = clients_by (g.S.ClientFiles.had c.args.system.now) c.in-Host.clients in
-    let ends = ends_of c.host-end.new.endings.items in
-    let is = nothing_before c.host-end.result _ (λ found. IsHostAnswer c.in-Host.rack.shape files.image clients ends found.answer found.book) IsNever c.host-end.ensures.note (rw c.as_slice-clients.ensures at c.host-end.ensures.answer) in
-    let none : OnErr c.host-end.result (ends ≡ []) = on_err_weaker c.host-end.result (λ same. rw same (none_served _ c.requires.unserved)) c.host-end.ensures.none in
-    rw c.in-Host.is (unasked c.host-end.result _ _ _ IsNothing IsNever _ ends none is)
-
-pub returns-in_err-lacks-in-Host-clause-response : goal.returns-in_err-lacks-in-Host-clause-response
-returns-in_err-lacks-in-Host-clause-response g c = told_nothing c.from_residual.result _ _ _ _ (none_asked _ _ _ _ _ (none_served _ c.requires.unserved)) (search rules) (search rules)
+pub returns-in-Serve-clause-unkept : goal.returns-in-Serve-clause-unkept
+returns-in-Serve-clause-unkept g c = rw c.in-Serve.is (on_err c.serve.result.end _ _ (λ m is. is.1) c.serve.ensures.missed)
 
 pub returns-in-Talk-clause-response : goal.returns-in-Talk-clause-response
 returns-in-Talk-clause-response g c =
-    let image = (contents_in c.args.contents.now).image in
-    rw c.in-Talk.is (unasked c.talk.result _ _ (λ told found. (after : Option (List ℕ)) × IsTalkAnswer c.in-Talk.rack.shape image (g.I.Read.remaining c.args.input.now) after told found.answer found.book) (λ told. (after : Option (List ℕ)) × IsTalkInVain c.in-Talk.rack.shape image (g.I.Read.remaining c.args.input.now) after told) IsNever _ _ (if_not c.talk.result _ (none_served _ c.requires.unserved)) c.talk.ensures.answer)
+    let none = none_served _ c.requires.unserved in
+    let t = c.talk.ensures.session in
+    let rest = g.I.Read.remaining c.talk.new.input in
+    rw c.in-Talk.is (told_kept c.talk.result.end _ _ t.0 _ _ _ _ t.1 (ok_so c.talk.result.end _ _ (λ found is. (is.0, (rest, is.1), is.2)) t.2.answer) (err_so c.talk.result.end _ _ (λ m is. (is.0, is.1, none)) t.2.missed))
+
+pub returns-in-Talk-clause-note : goal.returns-in-Talk-clause-note
+returns-in-Talk-clause-note g c = err_so c.talk.result.end _ _ (λ m is. none_of m is.0) c.talk.ensures.session.2.missed
 
 pub returns-in-Talk-clause-rest : goal.returns-in-Talk-clause-rest
 returns-in-Talk-clause-rest g c = rw c.in-Talk.is (refl, none_served _ c.requires.unserved)
 
+pub returns-in-Talk-clause-unkept : goal.returns-in-Talk-clause-unkept
+returns-in-Talk-clause-unkept g c = rw c.in-Talk.is (on_err c.talk.result.end _ _ (λ m is. is.2) c.talk.ensures.session.2.missed)
+
 pub returns-in-Talk-2-clause-response : goal.returns-in-Talk-2-clause-response
 returns-in-Talk-2-clause-response g c =
-    let image = (contents_in c.args.contents.now).image in
-    rw c.in-Talk-2.is (unasked c.talk-end.result _ _ (λ told found. (after : Option (List ℕ)) × IsTalkAnswer c.in-Talk-2.rack.shape image (g.I.Read.remaining c.args.input.now) after told found.answer found.book) (λ told. (after : Option (List ℕ)) × IsTalkInVain c.in-Talk-2.rack.shape image (g.I.Read.remaining c.args.input.now) after told) IsNever _ _ (if_not c.talk-end.result _ (none_served _ c.requires.unserved)) c.talk-end.ensures.answer)
+    let none = none_served _ c.requires.unserved in
+    let t = c.talk-kept.ensures.session in
+    let rest = g.I.Read.remaining c.talk-kept.new.input in
+    rw c.in-Talk-2.is (told_kept c.talk-kept.result.end _ _ t.0 _ _ _ _ t.1 (ok_so c.talk-kept.result.end _ _ (λ found is. (is.0, (rest, is.1), is.2)) t.2.answer) (err_so c.talk-kept.result.end _ _ (λ m is. (is.0, is.1, none)) t.2.missed))
+
+pub returns-in-Talk-2-clause-note : goal.returns-in-Talk-2-clause-note
+returns-in-Talk-2-clause-note g c = err_so c.talk-kept.result.end _ _ (λ m is. none_of m is.0) c.talk-kept.ensures.session.2.missed
 
 pub returns-in-Talk-2-clause-rest : goal.returns-in-Talk-2-clause-rest
 returns-in-Talk-2-clause-rest g c = rw c.in-Talk-2.is (refl, none_served _ c.requires.unserved)
 
-pub returns-in_ok-found-in-Switch-clause-response : goal.returns-in_ok-found-in-Switch-clause-response
-returns-in_ok-found-in-Switch-clause-response g c = ([], Appends-nil _, c.in_ok-found-in-Switch.ensures _ _, tt)
+pub returns-in-Talk-2-clause-unkept : goal.returns-in-Talk-2-clause-unkept
+returns-in-Talk-2-clause-unkept g c = rw c.in-Talk-2.is (on_err c.talk-kept.result.end _ _ (λ m is. is.2) c.talk-kept.ensures.session.2.missed)
 
-pub returns-in_err-found-in-Switch-clause-response : goal.returns-in_err-found-in-Switch-clause-response
-returns-in_err-found-in-Switch-clause-response g c = told_nothing c.from_residual-in_err-found-in-Switch.result _ _ _ _ (none_asked _ _ _ _ _ (none_served _ c.requires.unserved)) (search rules) (search rules)
+pub returns-in-Ok-clause-response : goal.returns-in-Ok-clause-response
+returns-in-Ok-clause-response g c =
+    let is = c.host-kept.ensures in
+    rw c.in-Host.is (told_kept c.host-kept.result.end _ _ [] _ _ _ _ (Appends-nil _) (ok_so c.host-kept.result.end _ _ (λ found it. (it.0, (refl, it.1), it.2)) (rw c.as_slice-clients.ensures at is.answer)) (err_so c.host-kept.result.end _ _ (λ m it. (it.0, refl, it.1)) is.missed))
 
-pub returns-in_ok-answer_texts-in_default-clause-response : goal.returns-in_ok-answer_texts-in_default-clause-response
-returns-in_ok-answer_texts-in_default-clause-response g c = ([], Appends-nil _, c.in_ok-answer_texts-in_default.ensures _ _, tt)
+pub returns-in-Ok-clause-note : goal.returns-in-Ok-clause-note
+returns-in-Ok-clause-note g c = err_so c.host-kept.result.end _ _ (λ m is. none_of m is.0) c.host-kept.ensures.missed
 
-pub returns-in_err-answer_texts-in_default-clause-response : goal.returns-in_err-answer_texts-in_default-clause-response
-returns-in_err-answer_texts-in_default-clause-response g c = told_nothing c.from_residual-in_err-answer_texts-in_default.result _ _ _ _ (none_asked _ _ _ _ _ (none_served _ c.requires.unserved)) (search rules) (search rules)
+pub returns-in-Ok-clause-unkept : goal.returns-in-Ok-clause-unkept
+returns-in-Ok-clause-unkept g c = rw c.in-Host.is (on_err c.host-kept.result.end _ _ (λ m is. is.2) (rw c.as_slice-clients.ensures at c.host-kept.ensures.missed))
+
+pub returns-in_default-clause-response : goal.returns-in_default-clause-response
+returns-in_default-clause-response g c =
+    let given = given_by (g.I.Read.remaining c.args.input.now) (g.P.Ports.ways c.args.peers.now.ports) (clients_by (g.S.ClientFiles.had c.args.system.now)) in
+    let w = c.without_sessions-in_default in
+    rw w.ensures.end (told_plain c.answer_other-end.result _ _ (g.S.System.holds c.args.system.now) g.S.System.received c.args.request.now.job (contents_in c.args.contents.now) given _ _ w.result.receipts w.result.lost _ c.answer_other-end.ensures.response (none_served _ c.requires.unserved) w.ensures.unkept w.ensures.lost)
+
+pub returns-in_default-clause-rest : goal.returns-in_default-clause-rest
+returns-in_default-clause-rest g c = leaves_rest c.args.request.now.job _ _ _ c.answer_other-end.ensures.ports (none_served _ c.requires.unserved)
+
+pub returns-in-Err-clause-response : goal.returns-in-Err-clause-response
+returns-in-Err-clause-response g c =
+    rw (c.without_sessions.ensures.end, c.from.ensures) ([], Appends-nil _, tt, (refl, refl, none_served _ c.requires.unserved))

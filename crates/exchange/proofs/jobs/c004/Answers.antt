@@ -15,7 +15,7 @@ returns-in-Ok-clause-answer g c =
     let P : Printed → Type 0 = IsC004By (g.I.Read.remaining c.args.input.now) a.replies in (
       a.replies,
       a.written,
-      (c.alone.ensures.1, subst P (sym c.alone.ensures.0) (a.came, a.told, _, c.answer_commands.new.end, a.read, ran, c.done.ensures.text ∙ c.new.ensures.items, inl (c.in-Ok.ensures.1, c.done.ensures.status))),
+      subst P (sym c.alone.ensures) (a.came, a.told, _, c.answer_commands.new.end, a.read, ran, c.done.ensures.text ∙ c.new.ensures.items, inl (c.in-Ok.ensures.1, c.done.ensures.status)),
       tt,
     )
 
@@ -26,7 +26,7 @@ returns-in-Err-Read-clause-answer g c =
     let P : Printed → Type 0 = IsC004By (g.I.Read.remaining c.args.input.now) a.replies in (
       a.replies,
       a.written,
-      (c.alone-in-Err-Read.ensures.1, subst P (sym c.alone-in-Err-Read.ensures.0) (a.came, a.told, _, c.answer_commands.new.end, a.read, ran, c.failed.ensures.text ∙ c.new-in-Err-Read.ensures.items, inr c.failed.ensures.status)),
+      subst P (sym c.alone-in-Err-Read.ensures) (a.came, a.told, _, c.answer_commands.new.end, a.read, ran, c.failed.ensures.text ∙ c.new-in-Err-Read.ensures.items, inr c.failed.ensures.status),
       tt,
     )
 

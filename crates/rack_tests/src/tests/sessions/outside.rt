@@ -26,11 +26,11 @@ const TURNS: usize = 10_000_000;
 
 /// How often the batch is planned. The first time settles it, and each later one is refused behind
 /// its planning.
-const PLANS: usize = 10;
+const PLANS: usize = 40;
 
 /// How often the other client peeks at most while the batch is planned once, so that the history
 /// has room.
-const PEEKS: usize = 4000;
+const PEEKS: usize = 1500;
 
 /// Row largest-batch: 4096 times `push 0 0 1 0`.
 fn largest_batch(alloc: Global) -> Result<String, AllocError> {

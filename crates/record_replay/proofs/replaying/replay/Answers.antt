@@ -1,56 +1,66 @@
-use Rattle.std.proofs.Common.{◌≡◌, ◌≢◌, ◌∙◌, ℕ, length, ap, sym, subst, arith, rules, refl}
-use Rattle.std.proofs.lemmas.List.{nil_from_length}
+use Rattle.std.proofs.Common.{◌≡◌, ◌≢◌, ◌∙◌, ◌++◌, IfOk, ap, inl, length, rules, Some, subst, sym, arith}
+use Rattle.std.proofs.lemmas.Result.{IfErr-weaker}
+use Rattle.batch.specs.Text.{number, space}
+use Rattle.module_memory.specs.Store.{Store}
+use Rattle.book_record.specs.RecordText.{call_text}
 use Rattle.record_replay.specs.declared.fault.RecordFault.TheVariants as fault
-use Rattle.record_replay.specs.Replays.{call, reply, more}
-use Rattle.record_replay.proofs.Entries.{Going, all_replayed, going_on, no_head, replayed_so_far, told_behind, told_head, told_reply, too_many, whole_record}
+use Rattle.record_replay.specs.Replays.{IsOtherReply, IsRecordError, IsRemade}
+use Rattle.record_replay.proofs.Entries.{as_wanted, fewer_so_far, going_on, replayed_so_far, told_reply}
 use Rattle.record_replay.proofs.replaying.replay.Goals as goal
 
-pub returns-in_default-clause-wrong : goal.returns-in_default-clause-wrong
-returns-in_default-clause-wrong g c = λ _.
-    told_head c.args.text.now c.args.rack c.wrong_at.result c.wrong_at.ensures.fault c.wrong_at.ensures.offset c.wrong_at.ensures.due (no_head c.args.text.now (rw c.in_default.is at c.read_head.ensures.none))
+pub ended-requires-clause-replayed : goal.ended-requires-clause-replayed
+ended-requires-clause-replayed g c =
+    let l = c.loop-entries in
+    record { front = l.invariant.front; each = l.invariant.each; replay = c.log.ensures.replay }
 
-pub returns-then-count-gt-MAX_ENTRIES-clause-wrong : goal.returns-then-count-gt-MAX_ENTRIES-clause-wrong
-returns-then-count-gt-MAX_ENTRIES-clause-wrong g c = λ _.
-    told_head c.args.text.now c.args.rack c.wrong_at-then-count-gt-MAX_ENTRIES.result c.wrong_at-then-count-gt-MAX_ENTRIES.ensures.fault c.wrong_at-then-count-gt-MAX_ENTRIES.ensures.offset c.wrong_at-then-count-gt-MAX_ENTRIES.ensures.due
-    (too_many c.args.text.now c.in-Some.rest.now c.in-Some.count c.in-Some.ensures.some c.if-count-gt-MAX_ENTRIES.true)
+pub ended-requires-clause-fewer : goal.ended-requires-clause-fewer
+ended-requires-clause-fewer g c =
+    let l = c.loop-entries in
+    fewer_so_far (length l.book.history) l.entries c.unwrap_or-entries-end.result _ c.args.first l.invariant.counted c.unwrap_or-entries-end.ensures (omega (arith, c.loop-entries-test.true))
 
-pub returns-in-Err-Call-clause-wrong : goal.returns-in-Err-Call-clause-wrong
-returns-in-Err-Call-clause-wrong g c = λ _.
-    let l = c.loop-k in
-    let e = c.wrong_at-in-Err-Call.result in
-    let here = replayed_so_far c.args.text.now c.args.rack c.in-Some.count l.k l.book l.rest.now l.invariant (omega (arith, c.loop-k-test.true)) c.if-count-gt-MAX_ENTRIES.false c.log.ensures.replay in
-    told_behind c.args.text.now c.args.rack c.in-Some.count l.book.history l.book.machine l.rest.now e here c.wrong_at-in-Err-Call.ensures.offset c.wrong_at-in-Err-Call.ensures.due
-    (call c.in-Some.count l.book.history l.book.machine here (omega (arith, l.invariant.counted, c.loop-k-test.true)) (rw c.in-Err-Call.field-0-is at c.in-Err-Call.ensures.fault)
-    (c.wrong_at-in-Err-Call.ensures.fault ∙ ap fault.Call (sym l.invariant.counted)) refl)
+pub returns-in_default-2-clause-remade : goal.returns-in_default-2-clause-remade
+returns-in_default-2-clause-remade g c =
+    subst (λ (s : Store). IfOk c.ended.result (λ r. IsRemade c.args.text.now s c.args.first r.book.history r.book.machine r.rest.now)) c.loop-entries.invariant.opened_so c.ended.ensures.remade
+
+pub returns-in_default-2-clause-opening : goal.returns-in_default-2-clause-opening
+returns-in_default-2-clause-opening g c =
+    subst (λ (s : Store). IfOk c.ended.result (λ r. r.book.opening ≡ s)) c.loop-entries.invariant.opened_so c.ended.ensures.opening
+
+pub returns-in_default-2-clause-wrong : goal.returns-in_default-2-clause-wrong
+returns-in_default-2-clause-wrong g c =
+    IfErr-weaker c.ended.result (IsRecordError c.args.text.now c.loop-entries.book.opening c.args.first) (λ e. e.fault ≢ fault.NoMemory → IsRecordError c.args.text.now c.args.rack c.args.first e)
+    (λ e wrong other. subst (λ (s : Store). IsRecordError c.args.text.now s c.args.first e) c.loop-entries.invariant.opened_so wrong) c.ended.ensures.wrong
 
 pub returns-in-Err-Reply-clause-wrong : goal.returns-in-Err-Reply-clause-wrong
 returns-in-Err-Reply-clause-wrong g c = λ _.
-    let l = c.loop-k in
-    let here = replayed_so_far c.args.text.now c.args.rack c.in-Some.count l.k l.book l.rest.now l.invariant (omega (arith, c.loop-k-test.true)) c.if-count-gt-MAX_ENTRIES.false c.log.ensures.replay in
+    let l = c.loop-entries in
+    let entry = c.in-Some.entry in
+    let here = replayed_so_far c.args.text.now c.args.rack l.entries l.book l.rest.now l.invariant c.log.ensures.replay in
+    let fewer = fewer_so_far (length l.book.history) l.entries c.unwrap_or-entries-end.result _ c.args.first l.invariant.counted c.unwrap_or-entries-end.ensures (omega (arith, c.loop-entries-test.true)) in
+    let asked : l.rest.now ≡ number entry.session space ++ (call_text entry.call ++ entry.replied.now) = (rw c.in-Some.is at c.in_ok-entry.ensures.some).2 in
     let at = rw c.in-Err-Reply.field-0-is at c.offset_of.ensures in
     let other = rw c.in-Err-Reply.field-0-is at c.in-Err-Reply.ensures.fault in
-    told_reply c.args.text.now c.args.rack c.in-Some.count l.book.history l.book.machine l.rest.now c.in-Err-Reply.replied.now c.in-Err-Reply.due.items _ here other at (search rules)
-    (reply c.in-Some.count l.book.history l.book.machine l.rest.now c.in-Err-Reply.due.items here (omega (arith, l.invariant.counted, c.loop-k-test.true)) other (ap fault.Reply (sym l.invariant.counted)) refl)
+    told_reply c.args.text.now c.args.rack c.args.first l.book.history l.book.machine l.rest.now c.in-Err-Reply.replied.now c.in-Err-Reply.due.items _ here fewer
+    (subst (λ t. IsOtherReply l.book.machine t c.in-Err-Reply.replied.now c.in-Err-Reply.due.items) (sym asked) other) (ap fault.Reply (sym l.invariant.counted)) at (search rules)
 
-pub loop-k-preserved : goal.loop-k-preserved
-loop-k-preserved g c =
-    let l = c.loop-k in
-    going_on c.args.text.now c.args.rack c.in-Some.count l.k l.book c.follow.new.book l.rest.now c.in-Ok-follow.after.now l.invariant c.in-Ok-follow.ensures.ok c.follow.ensures.opening
+pub loop-entries-preserved : goal.loop-entries-preserved
+loop-entries-preserved g c =
+    let l = c.loop-entries in
+    going_on c.args.text.now c.args.rack l.entries l.book c.follow.new.book l.rest.now _ c.in-Ok-follow.after.now l.invariant (rw c.in-Some.is at c.in_ok-entry.ensures.some).2 c.in-Ok-follow.ensures.ok c.follow.ensures.opening
 
-pub returns-then-not-is_empty-clause-wrong : goal.returns-then-not-is_empty-clause-wrong
-returns-then-not-is_empty-clause-wrong g c = λ _.
-    let l = c.loop-k in
-    let end : l.k ≡ c.in-Some.count = search rules in
-    let all : Going c.args.text.now c.args.rack c.in-Some.count c.in-Some.count l.book l.rest.now = subst (λ (k : ℕ). Going c.args.text.now c.args.rack c.in-Some.count k l.book l.rest.now) end l.invariant in
-    let some : length l.rest.now ≢ 0 = search rules in
-    let here = all_replayed c.args.text.now c.args.rack c.in-Some.count l.book l.rest.now all c.if-count-gt-MAX_ENTRIES.false c.log-2.ensures.replay in
-    told_behind c.args.text.now c.args.rack (length l.book.history) l.book.history l.book.machine l.rest.now c.wrong_at-then-not-is_empty.result here c.wrong_at-then-not-is_empty.ensures.offset c.wrong_at-then-not-is_empty.ensures.due
-    (more l.book.history l.book.machine here (λ e. some (ap length e)) c.wrong_at-then-not-is_empty.ensures.fault refl)
+pub returns-clause-remade : goal.returns-clause-remade
+returns-clause-remade g c =
+    let l = c.loop-entries in
+    let done : l.entries ≡ c.unwrap_or-entries-end.result = search rules in
+    let here = replayed_so_far c.args.text.now c.args.rack l.entries l.book l.rest.now l.invariant c.log-2.ensures.replay in
+    record {
+      replayed = here;
+      ends =
+          inl (c.in-Some-first.is ∙ ap Some (sym (as_wanted (length l.book.history) l.entries c.unwrap_or-entries-end.result _ c.in-Some-first.entries c.args.first l.invariant.counted c.unwrap_or-entries-end.ensures done c.in-Some-first.is)));
+    }
 
-pub returns-clause-record : goal.returns-clause-record
-returns-clause-record g c =
-    let l = c.loop-k in
-    let end : l.k ≡ c.in-Some.count = search rules in
-    let all : Going c.args.text.now c.args.rack c.in-Some.count c.in-Some.count l.book l.rest.now = subst (λ (k : ℕ). Going c.args.text.now c.args.rack c.in-Some.count k l.book l.rest.now) end l.invariant in
-    let zero : length l.rest.now ≡ 0 = search rules in
-    whole_record c.args.text.now c.args.rack c.in-Some.count l.book l.rest.now all c.if-count-gt-MAX_ENTRIES.false (nil_from_length l.rest.now zero)
+pub returns-clause-counted : goal.returns-clause-counted
+returns-clause-counted g c =
+    let l = c.loop-entries in
+    let done : l.entries ≡ c.unwrap_or-entries-end.result = search rules in
+    as_wanted (length l.book.history) l.entries c.unwrap_or-entries-end.result _ c.in-Some-first.entries c.args.first l.invariant.counted c.unwrap_or-entries-end.ensures done c.in-Some-first.is

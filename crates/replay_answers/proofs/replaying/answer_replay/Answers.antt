@@ -7,12 +7,14 @@ use Rattle.replay_answers.proofs.replaying.answer_replay.Goals as goal
 
 pub returns-clause-one : goal.returns-clause-one
 returns-clause-one g c =
+    let shape = bytes_of c.args.shape in
     let image = bytes_of c.args.image in
-    IfOk-weaker c.answer_texts.result (λ r. IsReplayAnswer c.args.shape.now c.args.recorded.now image r.answer r.error) (λ r. IsOnly (IsReplayPrinted c.args.shape.now c.args.recorded.now image) r.answer)
-    (λ r is. one_replay c.args.shape.now c.args.recorded.now image r.answer r.error is) c.answer_texts.ensures
+    IfOk-weaker c.answer_texts.result (λ r. IsReplayAnswer shape c.args.recorded.now image c.args.first r.answer r.error r.torn) (λ r. IsOnly (IsReplayPrinted shape c.args.recorded.now image c.args.first) r.answer)
+    (λ r is. one_replay shape c.args.recorded.now image c.args.first r.answer r.error r.torn is) c.answer_texts.ensures
 
 pub returns-clause-told : goal.returns-clause-told
 returns-clause-told g c =
+    let shape = bytes_of c.args.shape in
     let image = bytes_of c.args.image in
-    IfOk-weaker c.answer_texts.result (λ r. IsReplayAnswer c.args.shape.now c.args.recorded.now image r.answer r.error) (λ r. IsOnlyTold c.args.shape.now c.args.recorded.now image r.error)
-    (λ r is. one_told_beside c.args.shape.now c.args.recorded.now image r.answer r.error is) c.answer_texts.ensures
+    IfOk-weaker c.answer_texts.result (λ r. IsReplayAnswer shape c.args.recorded.now image c.args.first r.answer r.error r.torn) (λ r. IsOnlyTold shape c.args.recorded.now image c.args.first r.error r.torn)
+    (λ r is. one_told_beside shape c.args.recorded.now image c.args.first r.answer r.error r.torn is) c.answer_texts.ensures

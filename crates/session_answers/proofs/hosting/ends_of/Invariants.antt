@@ -1,9 +1,10 @@
-use Rattle.std.proofs.Common.{◌≡◌, map, take}
-use Rattle.std.specs.List.{flat_map}
-use Rattle.session_answers.specs.HostAnswers.{hosted_text}
-use Rattle.session_answers.specs.HostedSessions.{hosted_session}
+use Rattle.std.proofs.Common.{◌≡◌, ◌≤◌, length, take, vec_capacity}
+use Rattle.session_answers.specs.HostTexts.{ends_text, room_of}
 use Rattle.session_answers.proofs.hosting.ends_of.Given as goal
 
-abbrev pub invariant-loop-session : goal.invariant-loop-session
-invariant-loop-session g l =
-    l.text.items ≡ flat_map (hosted_text (g.D.ClientStreams.known l.streams)) (map (hosted_session g.D.ClientStreams.received) (take l.session-index l.sessions))
+abbrev pub invariant-loop-ending : goal.invariant-loop-ending
+invariant-loop-ending g l =
+    (l.client ≡ l.ending-index) ×
+    (room_of (g.D.ClientStreams.known l.streams) (length l.endings) ≤ vec_capacity l.text) ×
+    (length l.text.items ≤ room_of (g.D.ClientStreams.known l.streams) l.client) ×
+    (l.text.items ≡ ends_text (g.D.ClientStreams.known l.streams) 0 (take l.ending-index l.endings))

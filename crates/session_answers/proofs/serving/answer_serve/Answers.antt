@@ -1,10 +1,15 @@
-use Rattle.std.proofs.lemmas.Result.{IfOk-weaker}
-use Rattle.session_answers.specs.Serving.{served, refused}
+use Rattle.std.proofs.Common.{◌≡◌, Some, ap, map, subst}
+use Rattle.batch_book.specs.History.{Account}
+use Rattle.module_memory.specs.Store.{Store}
+use Rattle.session_answers.specs.Serving.{AreServed, served, refused}
 use Rattle.session_answers.proofs.Sessions.{both}
 use Rattle.session_answers.proofs.serving.answer_serve.Goals as goal
 
-pub returns-in_ok-blank-in-Ok : goal.returns-in_ok-blank-in-Ok
-returns-in_ok-blank-in-Ok g c = IfOk-weaker c.serve_scripts.result _ _ (λ closing is. served c.in-Ok.rack c.in-Ok.ensures.rack is) c.serve_scripts.ensures
+pub returns : goal.returns
+returns g c =
+    let left = c.in_ok-answer.field-0 in
+    let opening : c.in-Ok-new.book.opening ≡ c.in-Ok.rack = ap (λ (a : Account). a.opening) c.in-Ok-new.ensures.ok in
+    served c.in-Ok.rack c.in-Ok.ensures.rack (subst (λ (s : Store). AreServed s (map (λ v. v.items) c.args.scripts.now) left.answer (Some left.book)) opening c.in_ok-answer.ensures)
 
 pub returns-in-Err : goal.returns-in-Err
 returns-in-Err g c =

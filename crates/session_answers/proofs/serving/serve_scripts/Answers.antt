@@ -1,4 +1,5 @@
-use Rattle.std.proofs.Common.{◌≡◌, map, sym}
+use Rattle.std.proofs.Common.{◌≡◌, ◌∙◌, [], map, refl, sym, ap}
+use Rattle.batch_book.specs.History.{Account}
 use Rattle.session_answers.specs.Frames.{Transcript, sessions_text, has_fault}
 use Rattle.session_answers.specs.Histories.{part_of}
 use Rattle.session_answers.specs.Hosting.{transcript}
@@ -10,7 +11,15 @@ returns g c =
     let ss = c.in_ok-sessions.sessions.items in
     let seats = c.in_ok-seats.seats.items in
     let sessions = map transcript ss in
+    let none : g.L.ExchangeName.earlier ≡ [] = sym c.requires.named.entries ∙ ap (λ (a : Account). a.history) c.requires.new in
+    let shape = c.in-Ok.ensures.shape ∙ ap (λ (a : Account). a.machine.store.shape) c.requires.new in
     let framed : c.in_ok-text.text.items ≡ sessions_text sessions = rw c.as_slice.ensures.value at c.in_ok-text.ensures in
     let fails : c.has_fault-failed.result ≡ has_fault sessions = rw c.as_slice-2.ensures.value at c.has_fault-failed.ensures in
-    let parts : map (λ (t : Transcript). t.part) sessions ≡ map part_of seats = parts_are ss seats c.in_ok-seats.ensures in
-    (sessions, rw c.in_ok-exchange.ensures.shape at c.in_ok-sessions.ensures.of_scripts, rw (sym c.requires.named.opening, framed, fails, sym parts) at c.finish.ensures)
+    let parts : map (λ (t : Transcript). t.part) sessions ≡ map part_of seats = parts_are ss seats c.in_ok-seats.ensures in (
+      sessions,
+      rw (shape, none) at c.in_ok-sessions.ensures.of_scripts,
+      c.finish.result.book,
+      refl,
+      c.finish.ensures.few,
+      rw (sym c.requires.named.opening, none, framed, fails, sym parts) at c.finish.ensures.closing,
+    )

@@ -1,53 +1,43 @@
-use Rattle.std.proofs.Common.{◌≡◌, ◌∙◌, ◌++◌, ◌∷◌, [], is_some, sym, subst, rules}
-use Rattle.std.proofs.KnownBytes.{Appends-nil}
-use Rattle.session_answers.specs.Hosting.{AreAllSeats}
-use Rattle.session_answers.proofs.Talks.{alone, all_there, has_talked, talked_in_vain, untalked}
+use Rattle.std.proofs.Common.{◌≡◌, ◌∙◌, ◌++◌, ◌∷◌, [], ℕ, is_some, ap, ap₂, sym, subst, rules}
+use Rattle.batch.specs.Extent.{Extent}
+use Rattle.batch_book.specs.Values.{greatest}
+use Rattle.session_answers.specs.Hosting.{AreAllSeats, begun_at}
+use Rattle.session_answers.specs.Sessions.{Beginning, beginning}
+use Rattle.session_answers.proofs.Talks.{alone, all_there, has_talked}
 use Rattle.session_answers.proofs.talking.talk.Goals as goal
 
 pub finish-requires-clause-seats : goal.finish-requires-clause-seats
 finish-requires-clause-seats g c =
-    let x = c.in_ok-exchange.exchange in
+    let made = c.in-Ok-open_exchange.made in
+    let start = greatest g.L.ExchangeName.earlier in
     let rest = c.pop.new.self.items in
     let back = c.serve_client-seat.result.0 in
-    let one = alone x c.in_ok-exchange.seats.items rest c.in-Some.seat c.in_ok-exchange.ensures.seats c.in-Some.ensures.items in
-    let pushed : c.push.new.self.items ≡ rest ++ back ∷ [] = search rules in
-    subst (AreAllSeats x) (sym pushed) (all_there x rest c.in-Some.seat back one c.serve_client-seat.ensures.same)
+    let one = alone made.0 start made.1.items rest c.in-Some.seat c.in-Ok-open_exchange.ensures.seats c.in-Some.ensures.items in
+    let pushed : c.push.new.self.items ≡ rest ++ back ∷ [] = rw c.unwrap.ensures at c.push.ensures.items in
+    subst (AreAllSeats made.0) (sym pushed) (all_there made.0 start rest c.in-Some.seat back one c.serve_client-seat.ensures.same)
 
 pub returns-clause-session : goal.returns-clause-session
 returns-clause-session g c =
-    let x = c.in_ok-exchange.exchange in
-    let opening = g.L.ExchangeName.opening in
+    let loses = g.K.History.loses in
+    let made = c.in-Ok-open_exchange.made in
+    let earlier = g.L.ExchangeName.earlier in
+    let start = greatest earlier in
+    let was = c.args.book in
     let rest = c.pop.new.self.items in
+    let seat = c.in-Some.seat in
     let back = c.serve_client-seat.result.0 in
     let fault = c.serve_client-seat.result.1 in
-    let line = c.in_ok-line.line.items in
     let failed = c.is_some.result in
     let s = c.serve_client-seat.ensures.session in
-    let one = alone x c.in_ok-exchange.seats.items rest c.in-Some.seat c.in_ok-exchange.ensures.seats c.in-Some.ensures.items in
-    let pushed : c.push.new.self.items ≡ rest ++ back ∷ [] = search rules in
+    let one = alone made.0 start made.1.items rest seat c.in-Ok-open_exchange.ensures.seats c.in-Some.ensures.items in
+    let pushed : c.push.new.self.items ≡ rest ++ back ∷ [] = rw c.unwrap.ensures at c.push.ensures.items in
+    let at : Extent → ℕ → Beginning = λ e n. record { shape = e; seen = n; loses = loses } in
+    let begun : begun_at loses made.0 seat.seen ≡ beginning loses was =
+    ap₂ at c.in-Ok-open_exchange.ensures.shape (one.seen ∙ ap greatest (sym c.requires.named.entries)) in
     let fails : failed ≡ is_some fault = search rules in (
       s.0,
       s.1,
-      has_talked opening c.args.rack x rest c.in-Some.seat back _ _ line s.0 fault failed one c.serve_client-seat.ensures.same c.in_ok-exchange.ensures.shape (sym c.requires.named.opening) (c.in_ok-line.ensures.items ∙ c.end_line.ensures) fails s.2
-          c.finish.result.answer c.finish.result.book (rw pushed at c.finish.ensures),
+      has_talked loses g.L.ExchangeName.opening earlier was made.0 start rest seat back _ _ c.put.new.text.items s.0 fault failed one c.serve_client-seat.ensures.same begun c.requires.named.opening c.requires.named.entries
+          (rw (c.in-Ok.ensures.items, c.end_line.ensures.line) at c.put.ensures.items) fails s.2 c.finish.result.answer c.finish.result.book (rw pushed at c.finish.ensures.closing),
       tt,
     )
-
-pub returns-in_err-exchange-clause-session : goal.returns-in_err-exchange-clause-session
-returns-in_err-exchange-clause-session g c = ([], Appends-nil _, search rules, untalked c.from_residual.result c.args.rack _)
-
-pub returns-in_err-push-clause-session : goal.returns-in_err-push-clause-session
-returns-in_err-push-clause-session g c =
-    let x = c.in_ok-exchange.exchange in
-    let rest = c.pop.new.self.items in
-    let s = c.serve_client-seat.ensures.session in
-    let one = alone x c.in_ok-exchange.seats.items rest c.in-Some.seat c.in_ok-exchange.ensures.seats c.in-Some.ensures.items in
-    (s.0, s.1, search rules, talked_in_vain c.from_residual-in_err-push.result c.args.rack x rest c.in-Some.seat _ _ _ s.0 _ one c.serve_client-seat.ensures.same c.in_ok-exchange.ensures.shape s.2)
-
-pub returns-in_err-line-clause-session : goal.returns-in_err-line-clause-session
-returns-in_err-line-clause-session g c =
-    let x = c.in_ok-exchange.exchange in
-    let rest = c.pop.new.self.items in
-    let s = c.serve_client-seat.ensures.session in
-    let one = alone x c.in_ok-exchange.seats.items rest c.in-Some.seat c.in_ok-exchange.ensures.seats c.in-Some.ensures.items in
-    (s.0, s.1, search rules, talked_in_vain c.from_residual-in_err-line.result c.args.rack x rest c.in-Some.seat _ _ _ s.0 _ one c.serve_client-seat.ensures.same c.in_ok-exchange.ensures.shape s.2)

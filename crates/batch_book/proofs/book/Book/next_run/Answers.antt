@@ -7,7 +7,7 @@ use Rattle.batch_book.proofs.book.Book.next_run.Goals as goal
 pub returns-clause-sound : goal.returns-clause-sound
 returns-clause-sound g c =
     let shape : IsShape c.self.inside.holdings.store.shape = subst (λ (s : Store). IsShape s.shape) c.rack.ensures c.shape-shape.ensures.whole.within in
-    rw (← c.self.view_is) (sound _ _ _ shape c.self.invariant.replay)
+    rw (← c.self.view_is) (sound _ _ _ shape c.self.invariant.0.replay)
 
 pub returns-clause-number : goal.returns-clause-number
 returns-clause-number g c = search rules

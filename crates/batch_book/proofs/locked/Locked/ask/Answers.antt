@@ -15,8 +15,9 @@ returns-clause-asked g c =
     c.next_run.ensures.sound c.next_run.ensures.number c.try_apply-made.ensures.step c.try_apply-made.ensures.told in
     let quiet = unheard_made (λ (r : Raise). r.watcher) (λ (r : Raise). r.run) _ c.try_apply-made.new.notice c.args.self.now.book _ c.args.session c.args.call r
     c.next_run.ensures.sound c.try_apply-made.ensures.step c.try_apply-made.ensures.told in
-    asked c.args.place.access.watcher c.try_apply-made.new.notice.watcher c.args.session c.args.place.access.parts _ c.args.place.own.list c.note_call-own.result.list c.args.call r reaches quiet refl
+    asked c.args.place.access.watcher c.try_apply-made.new.notice.watcher c.args.session c.args.place.access.parts _ c.args.place.broken _ c.args.place.own.list c.note_call-own.result.list c.args.call r reaches quiet refl
     (c.note_call-own.ensures.list ∙ ap (λ k. c.args.place.own.list ++ noted c.args.session k r) c.of-asked.ensures)
+    c.is_broken-broken.ensures
 
 pub invariant_of-access : goal.invariant_of-access
 invariant_of-access g c =

@@ -1,7 +1,7 @@
 use Rattle.std.proofs.Common.{◌≡◌, ◌∙◌, ap, arith}
 use Rattle.batch_book.specs.Recording.{made_in, told_in}
 use Rattle.batch_book.specs.Values.{greatest}
-use Rattle.batch_book.proofs.Noting.{all_behind, greatest_behind}
+use Rattle.batch_book.proofs.Noting.{all_behind, greatest_append}
 use Rattle.batch_book.proofs.shared.Shared.close.Goals as goal
 
 pub returns : goal.returns
@@ -15,7 +15,7 @@ returns g c =
     let amount = c.audit.ensures.whole parts in
     let read = c.load.ensures.whole (all.of_word ∙ e.parts) in
     let later = c.load.ensures.later in
-    let behind = greatest_behind earlier (made_in notes) in
+    let behind = greatest_append earlier (made_in notes) in
     let kept = ap greatest locked.kept in
     record {
       told = told_in notes;

@@ -12,9 +12,9 @@ pub invariant_of-self : goal.invariant_of-self
 invariant_of-self g c =
     let e = c.args.entry in
     let inside = c.self.inside in
-    let drafted = rw (← c.self.view_is) at c.requires.drafted in
+    let drafted = (rw (← c.self.view_is) at c.requires.drafted).0 in
     let id = c.id_of-id.ensures ∙ ap id_of c.told.ensures in
-    pushed c.send-sent.result (g.W.Write.contents inside.opened.value) (g.W.Write.contents inside.writer) _ inside.earlier.value inside.past c.add.new.self (entry e.session e.call e.reply) _ inside.whole c.is_ok-self-inside.result
+    pushed c.send-sent.result g.N.StreamName.held (g.W.Write.contents inside.writer) _ g.N.StreamName.earlier inside.past c.add.new.self (entry e.session e.call e.reply) _ inside.whole c.is_ok-self-inside.result
     c.self.invariant (rw (← c.self.view_is) at c.requires.whole) c.add.ensures
     (ap (λ n. inside.text.items ++ reply_text n e.reply) id ∙ drafted_text inside.text.items e.session e.call e.reply drafted)
     c.send-sent.ensures.ok c.send-sent.ensures.err c.is_ok-self-inside.ensures.value

@@ -1,0 +1,33 @@
+use Rattle.std.proofs.Common.{◌≡◌, ◌∙◌, false, inl, refl, sym, true, arith}
+use Rattle.batch_book.specs.Values.{greatest}
+use Rattle.session_answers.specs.HostedSessions.{begins}
+use Rattle.session_answers.proofs.HostedSessions.{begun_all, begun_none, each_length}
+use Rattle.session_answers.proofs.host_threads.host_all.Goals as goal
+
+pub join_all-back-requires-clause-room_for_seats : goal.join_all-back-requires-clause-room_for_seats
+join_all-back-requires-clause-room_for_seats g c κs within =
+    omega (arith, each_length _ c.args.seats.items c.start_all-threads.result.items c.start_all-threads.ensures, c.requires.seats.count, c.requires.room.seats)
+
+pub join_all-back-requires-clause-room_for_endings : goal.join_all-back-requires-clause-room_for_endings
+join_all-back-requires-clause-room_for_endings g c κs within =
+    omega (arith, each_length _ c.args.seats.items c.start_all-threads.result.items c.start_all-threads.ensures, c.requires.seats.count, c.requires.room.endings)
+
+pub returns-then-begins-clause-hosted : goal.returns-then-begins-clause-hosted
+returns-then-begins-clause-hosted g c =
+    let x = c.args.context.now.exchange.now in
+    let known = g.D.ClientStreams.known c.args.context.now.streams.now in
+    let back = c.join_all-back.result in
+    let is : begins known.clients c.init-decided.result.value ≡ true = rw c.clients.ensures at (sym c.begins.ensures ∙ c.if-begins.true) in
+    begun_all g.K.History.loses x (greatest g.L.ExchangeName.earlier) known g.D.ClientStreams.received c.init-decided.result.value c.args.seats.items back.seats.items back.endings.items is (c.join_all-back.ensures c.args.seats.items c.start_all-threads.ensures) c.requires.seats
+
+pub returns : goal.returns
+returns g c =
+    let x = c.args.context.now.exchange.now in
+    let known = g.D.ClientStreams.known c.args.context.now.streams.now in
+    let back = c.join_all-back.result in
+    let is : begins known.clients c.init-decided.result.value ≡ false = rw c.clients.ensures at (sym c.begins.ensures ∙ c.if-begins.false) in
+    record {
+      hosted = tt;
+      refusal = inl refl;
+      back = begun_none g.K.History.loses x (greatest g.L.ExchangeName.earlier) known g.D.ClientStreams.received c.init-decided.result.value c.args.seats.items back.seats.items back.endings.items is (c.join_all-back.ensures c.args.seats.items c.start_all-threads.ensures) c.requires.seats;
+    }

@@ -1,0 +1,539 @@
+#!/usr/bin/env python3
+"""Bad moments of a host that records: moments.py [COUNT], or moments.py self
+
+COUNT is how many times a host is killed, 200 where it isn't said. Sixteen clients are at work, the host gets a SIGKILL, a SIGTERM or a SIGINT at
+a random moment, and another one goes on with `--resume`, which is killed too, until one comes to its end. Each time the record is read by plain
+Python (kept.py): what a client was told stands there, in its order, and each reply is right. `replay` has to come to the same words. Then a
+record is cut at each byte, and resumed; a host is killed while it resumes; a disk is full; and a record's file is taken away or moved.
+`moments.py self` tries the judges alone, by records that are made up, and needs no program.
+"""
+
+import errno
+import multiprocessing
+import os
+import random
+import resource
+import select
+import signal
+import subprocess
+import sys
+import tempfile
+import time
+
+from kept import END, Record, Wrong, head_of, judge_client, may_be_torn
+from records import made
+
+TOP = os.path.dirname(os.path.dirname(os.path.dirname(os.path.abspath(__file__))))
+EXCHANGE = os.path.abspath(os.environ.get("EXCHANGE") or f"{TOP}/crates/exchange/out/exchange")
+
+CLIENTS = 16
+# Seconds that one host has. Most take far less than one, but machines differ.
+LIMIT = 300
+# Seconds after which a host is killed, at most.
+LIFE = 0.2
+SIGNALS = [signal.SIGKILL, signal.SIGTERM, signal.SIGINT]
+
+
+def read(name):
+    with open(name, "rb") as file:
+        return file.read()
+
+
+def recorded(room):
+    """What is recorded: nothing where the file isn't there yet."""
+    return read(f"{room}/record") if os.path.exists(f"{room}/record") else b""
+
+
+def write(name, text):
+    with open(name, "wb") as file:
+        file.write(text)
+
+
+def shown(shape):
+    return "{}x{}x{}".format(*shape)
+
+
+def word_of(draw, shape, module):
+    """A word of a module by its address, or now and then an address that no word has."""
+    words = shape[1] * shape[2]
+    return f"{module} {0x80000800 + 4 * draw.randrange(words + 1):08x}"
+
+
+def batch_of(draw, shape):
+    """A batch of one or two transfers."""
+    count = draw.randint(1, 2)
+    lines = [f"push {draw.randrange(shape[0])} 0 {draw.randrange(shape[0])} 1" for _ in range(count)]
+    return "\n".join([f"batch {count}", *lines])
+
+
+def life(draw, shape, module, number, last):
+    """What a client does in its life number N: it gives out commands, and is sent the reply to each. Its first command is that of no other life.
+    It has only so many commands, and then `bye`, where that is its last life; else it goes on without an end."""
+    yield f"poke {module} 80000800 {number:08x}"
+    mine = []
+    while last is None or last > 0:
+        last = last and last - 1
+        what = draw.random()
+        if what < 0.2:
+            command = f"peek {word_of(draw, shape, draw.randrange(shape[0]))}"
+        elif what < 0.4:
+            command = f"poke {word_of(draw, shape, module)} {draw.randrange(1 << 32):08x}"
+        elif what < 0.5:
+            command = "progress"
+        elif what < 0.7 or not mine:
+            command = batch_of(draw, shape)
+        else:
+            command = f"{draw.choice(['plan', 'plan', 'run', 'run', 'show', 'drop'])} {draw.choice(mine)}"
+        reply = yield command
+        if reply.startswith("accepted "):
+            mine.append(int(reply.split()[1]))
+    yield "bye"
+
+
+class Client:
+    """A client that says a command as soon as it has the reply to the one before.
+
+    It holds both ends of its pipes, so that no opening waits and what a host said before it was killed can still be read.
+    """
+
+    def __init__(self, name, work):
+        for end in ".in", ".out":
+            if os.path.exists(name + end):
+                os.unlink(name + end)
+            os.mkfifo(name + end)
+        self.said = os.open(f"{name}.in", os.O_RDWR | os.O_NONBLOCK)
+        self.told = os.open(f"{name}.out", os.O_RDWR | os.O_NONBLOCK)
+        self.work, self.begun, self.sayings, self.extra = work, b"", [], []
+        self.say(next(work))
+
+    def say(self, command):
+        self.sayings.append([command, None])
+        os.write(self.said, command.encode() + b"\n")
+
+    def is_done(self):
+        """Whether its last command was answered, and it has no other."""
+        return self.sayings[-1][1] is not None
+
+    def hear(self):
+        """Hears what there is, and goes on."""
+        try:
+            self.begun += os.read(self.told, 1 << 16)
+        except BlockingIOError:
+            return
+        *lines, self.begun = self.begun.split(b"\n")
+        for line in lines:
+            if self.is_done():
+                self.extra.append(line.decode())
+                continue
+            self.sayings[-1][1] = line.decode()
+            if self.sayings[-1][0] != "bye":
+                self.say(self.work.send(line.decode()))
+
+    def said_and_told(self):
+        """Its commands with their replies, and what it was told that is no reply: `ended ..` is the line of a session that failed."""
+        if self.sayings[-1][1] is not None and self.sayings[-1][1].startswith("ended "):
+            self.extra.insert(0, self.sayings[-1][1])
+            self.sayings[-1][1] = None
+        return [tuple(saying) for saying in self.sayings], self.extra
+
+    def leave(self):
+        os.close(self.said)
+        os.close(self.told)
+
+
+def begin(bytes_at_most=None):
+    """What a host does before it begins: each signal ends it, also where this tool was started to let some pass. Where a number is given, files
+    may have so many bytes, and a write beyond that fails."""
+    for sign in SIGNALS[1:]:
+        signal.signal(sign, signal.SIG_DFL)
+    if bytes_at_most is not None:
+        signal.signal(signal.SIGXFSZ, signal.SIG_IGN)
+        resource.setrlimit(resource.RLIMIT_FSIZE, (bytes_at_most, bytes_at_most))
+
+
+class Host:
+    """A host of sixteen clients at work, on a record in its folder. Files may have so many bytes, where a number is given."""
+
+    def __init__(self, room, shape, draw, number, last, *options, bytes_at_most=None):
+        self.room, self.names = room, [f"{room}/c{k}" for k in range(CLIENTS)]
+        self.clients = [Client(name, life(draw, shape, k % shape[0], number, last)) for k, name in enumerate(self.names)]
+        words = [EXCHANGE, "host", shown(shape), *self.names, "--record", f"{room}/record", *options]
+        ends = {"stdin": subprocess.DEVNULL, "stdout": subprocess.PIPE, "stderr": subprocess.PIPE}
+        self.process = subprocess.Popen(words, preexec_fn=lambda: begin(bytes_at_most), **ends)
+
+    def go_on(self, seconds):
+        """Lets the clients work for so long, or until all have said their last command and heard its reply, or the host is gone."""
+        until = time.monotonic() + seconds
+        hearing = {client.told: client for client in self.clients}
+        while hearing and self.process.poll() is None and (left := until - time.monotonic()) > 0:
+            for ready in select.select(list(hearing), [], [], min(left, 0.05))[0]:
+                hearing[ready].hear()
+            hearing = {end: client for end, client in hearing.items() if not client.is_done()}
+
+    def end(self, sign=None):
+        """Sends a signal, or lets the clients go, and waits for the end: what was printed, the status, and of each client what it said and was
+        told."""
+        if sign is not None:
+            self.process.send_signal(sign)
+            self.process.wait(LIMIT)
+        for client in self.clients:
+            client.hear()
+        parts = [client.said_and_told() for client in self.clients]
+        for client in self.clients:
+            client.leave()
+        try:
+            out, err = self.process.communicate(timeout=LIMIT)
+        except subprocess.TimeoutExpired:
+            self.process.kill()
+            self.process.communicate()
+            raise Wrong("it hangs") from None
+        return out.decode(), err.decode(), self.process.returncode, parts
+
+
+def ask(*words):
+    """Runs the program to its end: what it printed, and its status."""
+    done = subprocess.run([EXCHANGE, *words], stdin=subprocess.DEVNULL, stdout=subprocess.PIPE, stderr=subprocess.PIPE, timeout=LIMIT, check=False)
+    return done.stdout, done.stderr, done.returncode
+
+
+def judge_replay(room, record):
+    """Judges `replay` of a record: it comes to the same words, whether the record has its end or not."""
+    out, err, status = ask("replay", f"{room}/record")
+    if (out, status) != (record.exchange.image(), 0):
+        raise Wrong(f"`replay` has status {status}, and tells {err[:300]!r}")
+
+
+def judge(room, shape, names, said):
+    """Judges a record by what all clients said and were told in all their lives: the record. A file that has a front of the head is one of no
+    entries, and then nobody was told anything that is one."""
+    text, head = recorded(room), head_of(shape, bytes(4 * shape[0] * shape[1] * shape[2]), names)
+    if len(text) < len(head) and head.startswith(text):
+        for sayings in said:
+            judge_client([], sayings)
+        return None
+    record = Record(text)
+    if not text.startswith(head):
+        raise Wrong("the head is another")
+    for session, sayings in enumerate(said):
+        judge_client(record.of(session), sayings)
+    judge_replay(room, record)
+    return record
+
+
+def try_kills(number):
+    """A round of hosts on one record, all of which are killed but the last: how often one was killed, how many entries there are, and what is
+    wrong."""
+    draw = random.Random(f"moments {number}")
+    shape = (draw.randint(2, 32), draw.randint(2, 3), draw.randint(1, 4))
+    kills, said, before = draw.randint(1, 4), [[] for _ in range(CLIENTS)], b""
+    with tempfile.TemporaryDirectory(prefix="moments-") as room:
+        try:
+            for turn in range(kills + 1):
+                options = (["--resume"] if turn else []) + (["--sync"] if draw.random() < 0.25 else [])
+                last = draw.randint(1, 20) if turn == kills else None
+                host = Host(room, shape, draw, turn + 1, last, *options, "--image-out", f"{room}/left")
+                host.go_on(LIMIT if last else draw.uniform(0, LIFE))
+                out, err, status, parts = host.end(None if last else draw.choice(SIGNALS))
+                for sayings, (more, extra) in zip(said, parts):
+                    sayings.extend(more)
+                    if extra:
+                        raise Wrong(f"a client was told {extra}")
+                record = judge(room, shape, host.names, said)
+                text = recorded(room)
+                if not text.startswith(before):
+                    raise Wrong("an entry that was there is gone, or another")
+                before = text[: record.ends[-1]] if record else b""
+            if status != 0 or not record.ended or read(f"{room}/left") != record.exchange.image():
+                raise Wrong(f"the last host has status {status}, and prints {out!r} and {err[:300]!r}")
+        except (Wrong, OSError, subprocess.TimeoutExpired) as why:
+            return kills, 0, f"round {number}, shape {shown(shape)}: {why!r}"
+    return kills, len(record.entries), None
+
+
+def idle_names(room, count):
+    """Clients that say nothing: their pipes are plain files."""
+    names = [f"{room}/idle{k}" for k in range(count)]
+    for name in names:
+        write(f"{name}.in", b"")
+    return names
+
+
+def made_record(draw, shape, names, count):
+    """The text of a record of so many calls, that was ended."""
+    return head_of(shape, bytes(4 * shape[0] * shape[1] * shape[2]), names) + b"".join(made(draw, shape, len(names), count)) + END
+
+
+def resume(room, shape, names):
+    """Resumes a record with clients that say nothing: the status, and what is told."""
+    out, err, status = ask("host", shown(shape), *names, "--record", f"{room}/record", "--resume", "--image-out", f"{room}/left")
+    return status, out + err
+
+
+def try_cuts():
+    """A record that is cut at each byte is resumed: its whole entries stay, and nothing else but the last line."""
+    draw, shape = random.Random("cuts"), (2, 2, 1)
+    with tempfile.TemporaryDirectory(prefix="moments-") as room:
+        names = idle_names(room, 2)
+        text = made_record(draw, shape, names, 25)
+        ends = Record(text).ends
+        for cut in range(len(text) + 1):
+            write(f"{room}/record", text[:cut])
+            whole = max([end for end in ends if end <= cut], default=ends[0])
+            status, told = resume(room, shape, names)
+            if status != 0:
+                raise Wrong(f"cut at {cut}: status {status}, {told!r}")
+            if read(f"{room}/record") != text[:whole] + END:
+                raise Wrong(f"cut at {cut}: the record isn't that of its whole entries")
+            if read(f"{room}/left") != Record(text[:whole]).exchange.image():
+                raise Wrong(f"cut at {cut}: the image is another")
+        return len(text) + 1
+
+
+def try_other_heads():
+    """A record of another rack, of other words or of other clients isn't resumed, and a record isn't written over: the file is as it was."""
+    draw, shape = random.Random("heads"), (2, 2, 1)
+    with tempfile.TemporaryDirectory(prefix="moments-") as room:
+        names = idle_names(room, 2)
+        text = made_record(draw, shape, names, 10)
+        write(f"{room}/record", text)
+        write(f"{room}/words", bytes(range(16)))
+        kept = ["--record", f"{room}/record"]
+        out, err, status = ask("host", shown(shape), *names, *kept)
+        if (out, status) != (b"refused file\n", 1) or b"--resume" not in err or read(f"{room}/record") != text:
+            raise Wrong(f"not to be resumed: {out!r} and {err!r}, status {status}")
+        tries = [
+            (b"refused record head\n", ["host", "2x1x2", *names, *kept, "--resume"]),
+            (b"refused record head\n", ["host", shown(shape), *names[::-1], *kept, "--resume"]),
+            (b"refused record head\n", ["host", shown(shape), names[0], *kept, "--resume"]),
+            (b"refused record head\n", ["host", shown(shape), *names, *kept, "--resume", "--image", f"{room}/words"]),
+            (b"refused record head\n", ["talk", shown(shape), *kept, "--resume"]),
+        ]
+        for wanted, words in tries:
+            out, err, status = ask(*words)
+            if (out, status) != (wanted, 1):
+                raise Wrong(f"{words}: {out!r} and {err!r}, status {status}")
+            if read(f"{room}/record") != text:
+                raise Wrong(f"{words}: the record isn't as it was")
+        if any(os.path.exists(f"{name}.out") for name in names):
+            raise Wrong("a client's file was opened")
+        return 1 + len(tries)
+
+
+def try_killed_resuming():
+    """A host is killed while it resumes a long record: the whole entries stay, and it is resumed at last."""
+    draw, shape = random.Random("resuming"), (4, 2, 2)
+    with tempfile.TemporaryDirectory(prefix="moments-") as room:
+        names = idle_names(room, 3)
+        whole = made_record(draw, shape, names, 20000)[: -len(END)]
+        write(f"{room}/record", whole + b"0 peek 0 8000")
+        for turn in range(40):
+            words = [EXCHANGE, "host", shown(shape), *names, "--record", f"{room}/record", "--resume"]
+            ends = {"stdin": subprocess.DEVNULL, "stdout": subprocess.DEVNULL, "stderr": subprocess.DEVNULL}
+            process = subprocess.Popen(words, preexec_fn=begin, **ends)
+            time.sleep(draw.uniform(0, 0.15))
+            process.send_signal(draw.choice(SIGNALS))
+            process.wait(LIMIT)
+            text = read(f"{room}/record")
+            if not text.startswith(whole) or text[len(whole) :] not in (b"0 peek 0 8000", b"", *(END[:n] for n in range(1, 5))):
+                raise Wrong(f"turn {turn}: {text[len(whole):]!r} stands behind the entries")
+        status, told = resume(room, shape, names)
+        if status != 0 or read(f"{room}/record") != whole + END:
+            raise Wrong(f"at last: status {status}, {told!r}")
+        return 41
+
+
+def try_full_disk():
+    """A record's disk is full after some entries: no call that isn't kept is told, and what is kept goes on where there is room."""
+    looked = 0
+    for turn in range(12):
+        draw, shape = random.Random(f"full {turn}"), (16, 2, 2)
+        with tempfile.TemporaryDirectory(prefix="moments-") as room:
+            names = [f"{room}/c{k}" for k in range(CLIENTS)]
+            room_left = len(head_of(shape, bytes(4 * 16 * 2 * 2), names)) + draw.randrange(4000)
+            host = Host(room, shape, draw, 1, None, bytes_at_most=room_left)
+            host.go_on(LIMIT)
+            out, err, status, parts = host.end()
+            said = [list(sayings) for sayings, _ in parts]
+            if status not in (1, 3):
+                raise Wrong(f"full {turn}: status {status}, {out!r}, {err[:300]!r}")
+            for line in out.splitlines():
+                if not line.startswith("session ") and line != "ended record":
+                    raise Wrong(f"full {turn}: {line!r} is told")
+            if os.path.getsize(f"{room}/record") > room_left:
+                raise Wrong(f"full {turn}: the file is longer than it can be")
+            record = judge(room, shape, host.names, said)
+            host = Host(room, shape, draw, 2, 5, "--resume", "--image-out", f"{room}/left")
+            host.go_on(LIMIT)
+            out, err, status, parts = host.end()
+            for sayings, (more, _) in zip(said, parts):
+                sayings.extend(more)
+            if status != 0 or not (record := judge(room, shape, host.names, said)).ended:
+                raise Wrong(f"full {turn}: resumed, status {status}, {out!r}, {err[:300]!r}")
+            looked += len(record.entries)
+    return looked
+
+
+def try_taken_away():
+    """The file of a record is moved, or unlinked, while clients are at work. They go on; where it was moved it has all, where it was unlinked
+    there is none."""
+    for turn, is_moved in enumerate([True, False] * 3):
+        draw, shape = random.Random(f"away {turn}"), (4, 2, 1)
+        with tempfile.TemporaryDirectory(prefix="moments-") as room:
+            host = Host(room, shape, draw, 1, 60, "--image-out", f"{room}/left")
+            host.go_on(draw.uniform(0.05, 0.1))
+            try:
+                os.rename(f"{room}/record", f"{room}/moved") if is_moved else os.unlink(f"{room}/record")
+            except OSError as error:
+                if error.errno != errno.ENOENT:
+                    raise
+                host.end(signal.SIGKILL)
+                continue
+            host.go_on(LIMIT)
+            out, err, status, parts = host.end()
+            if status != 0 or os.path.exists(f"{room}/record"):
+                raise Wrong(f"away {turn}: status {status}, {out!r}, {err[:300]!r}")
+            if is_moved:
+                os.rename(f"{room}/moved", f"{room}/record")
+                record = judge(room, shape, host.names, [sayings for sayings, _ in parts])
+                if not record.ended or read(f"{room}/left") != record.exchange.image():
+                    raise Wrong(f"away {turn}: the moved record isn't whole")
+    return 6
+
+
+# ---- the judges alone
+
+ENTRIES = [("poke 0 80000800 00000001\n", "poked"), ("fetch 1\n", "fetched"), ("settle 1\n", "planned 1 settings 1"), ("peek 0 80000800\n", "word 00000001")]
+SAID = [("poke 0 80000800 00000001", "poked"), ("plan 1", "planned 1 settings 1"), ("progress", "progress run 0 done 0"), ("peek 0 80000800", "word 00000001")]
+
+
+def is_wrong(judge_it):
+    """Whether a judge finds something wrong."""
+    try:
+        judge_it()
+    except Wrong:
+        return True
+    return False
+
+
+def without(things, at):
+    return things[:at] + things[at + 1 :]
+
+
+def try_judge_of_clients():
+    """The judge of what clients were told: what is right, and what isn't."""
+    bye = [("bye", "bye")]
+    right = [
+        (ENTRIES, SAID),
+        (ENTRIES, SAID + bye),
+        (ENTRIES, [*SAID[:3], ("peek 0 80000800", None)]),
+        (ENTRIES[:3], [*SAID[:3], ("peek 0 80000800", None)]),
+        (ENTRIES[:1], [SAID[0], ("plan 1", None)]),
+        (ENTRIES[:2], [SAID[0], ("plan 1", None)]),
+        (ENTRIES[:3], [SAID[0], ("plan 1", None)]),
+        (ENTRIES[:1] + ENTRIES[3:], [SAID[0], ("plan 1", None), SAID[3]]),
+        (ENTRIES[:3] + ENTRIES[3:], [SAID[0], ("plan 1", None), SAID[3]]),
+        ([("fetch 2\n", "refused unknown")], [("plan 2", "refused unknown")]),
+        ([("batch 1\npush 0 0 1 0\n", "accepted 1")], [("batch 1\npush 0 0 1 0", "accepted 1")]),
+        ([], bye),
+        ([], [("poke 0 80000800 00000001", None)]),
+    ]
+    wrong = [(without(ENTRIES, at), SAID) for at in range(4)]
+    wrong += [(ENTRIES, without(SAID, at)) for at in (0, 1, 3)]
+    wrong += [([*ENTRIES[:at], (ENTRIES[at][0], "other"), *ENTRIES[at + 1 :]], SAID) for at in range(4)]
+    wrong += [(ENTRIES[::-1], SAID), (ENTRIES + ENTRIES[:1], SAID), (ENTRIES, [*SAID[:3], ("peek 0 80000804", None)])]
+    for entries, said in right:
+        judge_client(entries, said)
+    for entries, said in wrong:
+        if not is_wrong(lambda: judge_client(entries, said)):
+            raise Wrong(f"the judge of clients lets {entries} and {said} through")
+    return len(right) + len(wrong)
+
+
+def try_reader():
+    """The reader of records: a record cut at each byte has its whole entries and a rest that can be torn; one that is spoilt hasn't."""
+    looked = 0
+    for turn in range(20):
+        draw = random.Random(f"reader {turn}")
+        shape, names = (draw.randint(2, 4), draw.randint(2, 3), draw.randint(1, 2)), ["amy", "x/bob c", "é"]
+        text = made_record(draw, shape, names, 12)
+        record = Record(text)
+        head = len(head_of(shape, bytes(4 * shape[0] * shape[1] * shape[2]), names))
+        if (record.ends[0], record.ends[-1], record.ended, record.names) != (head, len(text) - len(END), True, names):
+            raise Wrong(f"turn {turn}: a record isn't read as it is")
+        for cut in range(len(text)):
+            if cut < head:
+                if not is_wrong(lambda: Record(text[:cut])):
+                    raise Wrong(f"turn {turn}: a head that ends at {cut} is read")
+                continue
+            part = Record(text[:cut])
+            if part.entries != record.entries[: len(part.entries)] or part.ends[-1] != max(end for end in record.ends if end <= cut):
+                raise Wrong(f"turn {turn}: cut at {cut} it has other entries")
+            looked += 1
+        spoilt = [text + b"\n", text + b"0 show 1\n", text[: -len(END)] + b"\n", text[: -len(END)] + b"0 progress\n", text.replace(b"client amy", b"Client amy"), text[head:]]
+        spoilt += [b"record %dx%dx%d %08x 3\n" % (*shape, 7) + text.partition(b"\n")[2]]
+        for at, entry in enumerate(record.entries):
+            begin, end = record.ends[at], record.ends[at + 1]
+            reply = entry[2].encode()
+            spoilt += [text[: end - len(reply) - 1] + b"other\n" + text[end:], text[:begin] + b"9" + text[begin:end] + text[end:], text[:begin] + b" " + text[begin:]]
+        for it in spoilt:
+            if not is_wrong(lambda: Record(it)):
+                raise Wrong(f"turn {turn}: a spoilt record is read: {it!r}")
+        looked += len(spoilt)
+    return looked
+
+
+def try_rests():
+    """What may be torn, and what may not."""
+    may = [b"", b"e", b"en", b"end", b"1", b"12 peek", b"0 peek 0 80000800", b"0 peek 0 80000800\n", b"0 peek 0 80000800\nwor", b"0 batch 2\n", b"0 batch 2\npush 0 0 1 0\n"]
+    may += [b"0 batch 2\npush 0 0 1 0\npush 0 0 1 1\nacc", b"0 batch 0\n"]
+    may_not = [END, b"\n", b"end\n\n", b"ends\n", b"0 progress\n", b"0 peek 0 80000800\nword 00000000\n", b"x" * 100, b"0 batch 1\npush 0 0 1 0\naccepted 1\n", b"0 batch 4097\n"]
+    for rest in may:
+        if not may_be_torn(rest):
+            raise Wrong(f"{rest!r} can't be torn")
+    for rest in may_not:
+        if may_be_torn(rest):
+            raise Wrong(f"{rest!r} can be torn")
+    return len(may) + len(may_not)
+
+
+def try_all(cases):
+    """Tries each case, and says what it looked at: how many are wrong."""
+    failed = 0
+    for case in cases:
+        try:
+            print(f"moments: {case.__name__[4:]}: {case()} looked at", flush=True)
+        except (Wrong, OSError, subprocess.TimeoutExpired) as why:
+            failed += 1
+            print(f"moments: WRONG: {case.__name__[4:]}: {why!r}", flush=True)
+    return failed
+
+
+def kill(count):
+    """Kills hosts until so many are killed: how many rounds are wrong."""
+    killed = entries = 0
+    wrong = []
+    with multiprocessing.Pool(len(os.sched_getaffinity(0))) as pool:
+        for kills, more, why in pool.imap_unordered(try_kills, range(count)):
+            killed, entries = killed + kills, entries + more
+            if why:
+                wrong.append(why)
+            if killed >= count:
+                pool.terminate()
+                break
+    print(f"moments: {killed} hosts of {CLIENTS} clients killed, {entries} entries, {len(wrong)} rounds wrong", flush=True)
+    for why in wrong[:5]:
+        print(f"moments: WRONG: {why}")
+    return len(wrong)
+
+
+def main():
+    what = sys.argv[1] if len(sys.argv) > 1 else "200"
+    failed = try_all([try_judge_of_clients, try_reader, try_rests])
+    if what != "self":
+        failed += kill(int(what)) + try_all([try_cuts, try_other_heads, try_killed_resuming, try_full_disk, try_taken_away])
+    print(f"moments: {failed} wrong")
+    sys.exit(1 if failed else 0)
+
+
+if __name__ == "__main__":
+    main()
