@@ -73,6 +73,15 @@ fn make_beside(rt: &HostRuntime, place: &PathBuf) -> io::Result<(File, String)> 
     Err(io::Error::from(ErrorKind::AlreadyExists))
 }
 
+/// Keeps other programs that ask for it from this file, as long as it is open. Not every system can
+/// lock each file; then it is taken as it is.
+fn lock_alone(file: &File) -> io::Result<()> {
+    match file.try_lock() {
+        Err(TryLockError::WouldBlock) => Err(io::Error::from(ErrorKind::ResourceBusy)),
+        _ => Ok(()),
+    }
+}
+
 impl OutputFile {
     /// This file, to which nothing has gone.
     fn of(file: File, made: Option<NewFile>, is_file: bool) -> OutputFile
@@ -95,7 +104,8 @@ impl OutputFile {
         Ok(OutputFile::of(file, None, false))
     }
 
-    /// The file of a name, to be written behind its end, and what it holds.
+    /// The file of a name, to be written behind its end, and what it holds. No other record may be
+    /// written there meanwhile.
     pub(crate) fn open_record(
         rt: &HostRuntime,
         name: &str,
@@ -112,6 +122,7 @@ impl OutputFile {
             .append(true)
             .create(true)
             .open(rt, name)?;
+        lock_alone(&file)?;
         file.read_to_end(&mut held)?;
         let sent = passed(held.as_slice());
         let it = OutputFile {
