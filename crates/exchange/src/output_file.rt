@@ -62,10 +62,10 @@ fn make_new(rt: &HostRuntime, name: &str) -> io::Result<Option<File>> {
     }
 }
 
-/// Makes a file beside this place: `PLACE.new0`, or with the first number that is free.
+/// Makes a file beside this place: `PLACE.exchange-0`, or with the first number that is free.
 fn make_beside(rt: &HostRuntime, place: &PathBuf) -> io::Result<(File, String)> {
     for number in 0..MAX_NAMES {
-        let name = format!(in rt.alloc(); "{}.new{number}", place.as_str())?;
+        let name = format!(in rt.alloc(); "{}.exchange-{number}", place.as_str())?;
         if let Some(file) = make_new(rt, name.as_str())? {
             return Ok((file, name));
         }
@@ -144,6 +144,7 @@ impl OutputFile {
             Some(false) => return OutputFile::device(rt, name),
             Some(true) => {
                 let file = OpenOptions::new().write(true).open(rt, name)?;
+                lock_alone(&file)?;
                 Some(file.metadata()?.permissions())
             }
             None => None,

@@ -92,7 +92,7 @@ fn head_on(alloc: Global, rack: &Rack, names: &[Text]) -> Result<Vec<u8>, AllocE
 fn holds_more(alloc: Global, name: &Text) -> NoAnswer
     ensures { IsRefused result }
 {
-    let why = "it holds something; with --resume sessions go on behind a record of the same rack";
+    let why = "it isn't empty; --resume goes on with a record of the same rack and clients";
     NoAnswer::Refused {
         why: Unanswered::File,
         note: file_line(alloc, name.as_str(), why),
