@@ -20,9 +20,28 @@ use crossbar::ConfigPort;
 use peek_poke::WireMaker;
 use progress_word::ProgressWord;
 use schedule_certificate::Gate;
+use std::hint::spin_loop;
 use std::marker::Model;
-use std::sync::{Mutex, Wait};
+use std::sync::{Mutex, MutexGuard, Wait};
+use std::thread;
 use std::thread::Threads;
+
+/// How often a call looks in a row whether the lock is free. That takes some microseconds, in which
+/// most calls of others are done.
+const LOOKS: usize = 30;
+
+/// How long it pauses between two looks.
+const PAUSES: usize = 10;
+
+/// How often it lets other threads run, before it sleeps until the lock is free.
+const TURNS: usize = 100;
+
+/// Pauses between two looks.
+fn pause() {
+    for _ in 0..PAUSES {
+        spin_loop();
+    }
+}
 
 /// One exchange for many sessions: a book and its plant behind a lock, and beside the lock a word
 /// that says how far the runs have come. Each session calls from a [`Seat`] of its own. Contracts
@@ -106,6 +125,29 @@ impl<L: ExchangeName, P: ConfigPort, W: WireMaker + Sync, G: Gate + Sync, H: His
     G,
     H,
 > {
+    // The lock, if it comes free within some looks.
+    fn look(&self) -> Option<MutexGuard<'_, Locked<L, P, W, G, H>>> {
+        for _ in 0..LOOKS {
+            if let Some(guard) = self.locked.try_lock() {
+                return Some(guard);
+            }
+            pause();
+        }
+        None
+    }
+
+    // The lock, once it is free. Who sleeps for it is woken by a call of the system, which takes
+    // longer than most calls of a book. So a thread lets others run some times first.
+    fn take<R: Wait>(&self, rt: &R) -> MutexGuard<'_, Locked<L, P, W, G, H>> {
+        for _ in 0..TURNS {
+            if let Some(guard) = self.look() {
+                return guard;
+            }
+            thread::yield_now();
+        }
+        self.locked.lock(rt)
+    }
+
     /// One call of the seat's session, and its reply, where that can be told: it takes the lock,
     /// and applies the call to the book. Call and reply are added to the seat's list, where they
     /// are in the history. The seat has then seen what the reply tells of a run, and nothing new
@@ -127,7 +169,7 @@ impl<L: ExchangeName, P: ConfigPort, W: WireMaker + Sync, G: Gate + Sync, H: His
         ensures asked { IsAsked seat.old call result seat.new }
         ensures loses { OnErr result (H.loses ≡ true) }
     {
-        self.locked.lock(rt).call(rt, &self.word, seat, call)
+        self.take(rt).call(rt, &self.word, seat, call)
     }
 
     /// The same as [`try_call`](Shared::try_call) where the book's history loses no entry, as

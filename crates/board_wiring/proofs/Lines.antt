@@ -4,16 +4,13 @@ use Rattle.std.specs.Prelude.{codes}
 use Rattle.std.proofs.lemmas.Grind.{flat_map-append}
 use Rattle.std.proofs.lemmas.List.{append_cancel_left, append-nil, length_push}
 use Rattle.batch.specs.Text.{IsNumber, number, space, line_feed}
-use Rattle.batch.proofs.Lines.{Ends, ends_line, one_number}
+use Rattle.batch.proofs.Lines.{Ends, ends_line, ends_space, one_number}
 use Rattle.c004_commands.specs.declared.port.TheConstants.{PORTS}
 use Rattle.crossbar.specs.declared.switch.TheConstants.{JOINED_MODULES}
 use Rattle.board_wiring.specs.Faults.{AreModules, HasPorts, IsPort}
 use Rattle.board_wiring.specs.Modules.{are_wired}
 use Rattle.board_wiring.specs.Text.{links, line, lines_of, place}
 use Rattle.board_wiring.specs.declared.wired_module.WiredModule.{WiredModule}
-
-pub ends_space : Ends space
-ends_space d = omega (arith, d)
 
 -- what stands behind words is one
 pub behind_words : (bytes words a b : List ℕ) → bytes ≡ words ++ a → bytes ≡ words ++ b → a ≡ b

@@ -285,10 +285,6 @@ next_placed ws us vs all items i was0 was3 d same lt own own_ws own_us placed e0
     let more_own = subst (λ (x : List WiredModule). IsTrue (are_wired x)) more front in
     subst (Placed vs) (sym more) (one_more ws us vs (take i all) new own_ws own_us placed more_own (rw (sym e0) m0) (rw (sym e3) m3))
 
--- before any module every wiring of all modules is one
-pub none_placed : (ws : List ModuleLinks) (all : List WiredModule) → ws ≡ usual_links → Placed ws (take 0 all)
-none_placed ws all e = record { all = ap length e ∙ length-map-range_with_len usual_on 0 JOINED_MODULES; kept = λ k d lt. absurd (omega (arith, lt)) }
-
 -- ---- the first modules of a wiring
 
 pub next_first : (ws ms : List ModuleLinks) (n : ℕ) (on : ModuleLinks) → IsTrue (is_wiring ws) → n < length ws → ms ≡ take n ws → on ≡ get_or ws n unwired → (ms ++ on ∷ [] ≡ take (n + 1) ws) × IsTrue (is_wiring (ms ++ on ∷ []))

@@ -1,10 +1,8 @@
 //! The writer of a record.
 
-ghost use Rattle.std.specs.Prelude.{◌≡◌, ◌++◌, ◌≤◌, ◌+◌, length, All, OnOk};
-ghost use Rattle.std.specs.Fmt.{decimal};
+ghost use Rattle.std.specs.Prelude.{◌≡◌, ◌++◌, All, OnOk};
 ghost use Rattle.std.specs.List.{flat_map};
 ghost use Rattle.batch.specs.Text.{number, space};
-ghost use Rattle.line_words.specs.declared.limits.TheConstants.{NUMBER_ROOM};
 ghost use Rattle.batch_book.specs.Told.{told};
 ghost use Rattle.client_session.specs.Replies.{with_feed};
 ghost use Rattle.book_record.specs.RecordText.{CanBePut, id_of, call_text, reply_text, entry_text};
@@ -14,18 +12,6 @@ use client_session::SessionCommand;
 use client_session::reply_line::ReplyLine;
 use line_words::Line;
 use std::alloc::AllocError;
-
-/// A word and the number behind it.
-fn named(word: &[u8], n: usize) -> Line
-    requires { length word.now ≤ 20 }
-    ensures text { result ≡ word.now ++ decimal n }
-    ensures room { length result ≤ length word.now + NUMBER_ROOM }
-{
-    let mut line = Line::new();
-    line.put(word);
-    line.put_number(n as u64);
-    line
-}
 
 /// Puts words and a line feed.
 fn push_line(text: &mut Vec<u8>, words: &[u8]) -> Result<(), AllocError>
@@ -40,20 +26,23 @@ fn push_line(text: &mut Vec<u8>, words: &[u8]) -> Result<(), AllocError>
 fn push_call(text: &mut Vec<u8>, call: &ToldCall<SharedBatch>) -> Result<(), AllocError>
     ensures { OnOk result (text.new.items ≡ text.old.items ++ call_text call.now) }
 {
-    let line = match call {
+    let mut line = Line::new();
+    match call {
         ToldCall::Submit(shared) => {
             return text.extend_from_slice(shared.batch().write()?.as_slice());
         }
-        ToldCall::Fetch(id) => named(b"fetch ", *id),
-        ToldCall::Settle(id) => named(b"settle ", *id),
-        ToldCall::Run(id) => SessionCommand::Run(*id).line(),
-        ToldCall::Show(id) => SessionCommand::Show(*id).line(),
-        ToldCall::Discard(id) => SessionCommand::Drop(*id).line(),
-        ToldCall::Peek(module, address) => SessionCommand::Peek(*module, *address).line(),
-        ToldCall::Poke(module, address, word) => {
-            SessionCommand::Poke(*module, *address, *word).line()
+        ToldCall::Fetch(id) => line.put_numbered(b"fetch ", *id),
+        ToldCall::Settle(id) => line.put_numbered(b"settle ", *id),
+        ToldCall::Run(id) => SessionCommand::Run(*id).put(&mut line),
+        ToldCall::Show(id) => SessionCommand::Show(*id).put(&mut line),
+        ToldCall::Discard(id) => SessionCommand::Drop(*id).put(&mut line),
+        ToldCall::Peek(module, address) => {
+            SessionCommand::Peek(*module, *address).put(&mut line);
         }
-    };
+        ToldCall::Poke(module, address, word) => {
+            SessionCommand::Poke(*module, *address, *word).put(&mut line);
+        }
+    }
     push_line(text, line.as_bytes())
 }
 
@@ -61,18 +50,19 @@ fn push_call(text: &mut Vec<u8>, call: &ToldCall<SharedBatch>) -> Result<(), All
 pub fn push_asked(text: &mut Vec<u8>, call: &Call) -> Result<(), AllocError>
     ensures { OnOk result (text.new.items ≡ text.old.items ++ call_text (told call.now)) }
 {
-    let line = match call {
+    let mut line = Line::new();
+    match call {
         Call::Submit(batch) => return text.extend_from_slice(batch.write()?.as_slice()),
-        Call::Fetch(id) => named(b"fetch ", *id),
-        Call::Settle(id, _) => named(b"settle ", *id),
-        Call::Run(id) => SessionCommand::Run(*id).line(),
-        Call::Show(id) => SessionCommand::Show(*id).line(),
-        Call::Discard(id) => SessionCommand::Drop(*id).line(),
-        Call::Peek(module, address) => SessionCommand::Peek(*module, *address).line(),
+        Call::Fetch(id) => line.put_numbered(b"fetch ", *id),
+        Call::Settle(id, _) => line.put_numbered(b"settle ", *id),
+        Call::Run(id) => SessionCommand::Run(*id).put(&mut line),
+        Call::Show(id) => SessionCommand::Show(*id).put(&mut line),
+        Call::Discard(id) => SessionCommand::Drop(*id).put(&mut line),
+        Call::Peek(module, address) => SessionCommand::Peek(*module, *address).put(&mut line),
         Call::Poke(module, address, word) => {
-            SessionCommand::Poke(*module, *address, *word).line()
+            SessionCommand::Poke(*module, *address, *word).put(&mut line);
         }
-    };
+    }
     push_line(text, line.as_bytes())
 }
 
@@ -115,7 +105,8 @@ pub fn push_logged(text: &mut Vec<u8>, id: usize, reply: &LoggedReply) -> Result
 pub fn push_session(text: &mut Vec<u8>, session: usize) -> Result<(), AllocError>
     ensures { OnOk result (text.new.items ≡ text.old.items ++ number session space) }
 {
-    let mut line = named(b"", session);
+    let mut line = Line::new();
+    line.put_number(session as u64);
     line.put(b" ");
     text.extend_from_slice(line.as_bytes())
 }

@@ -3,12 +3,12 @@
 ghost use Rattle.std.specs.Prelude.{◌≡◌, ◌≢◌, ℕ, ◌∷◌, ◌++◌, ◌≤◌, ◌+◌, length, codes, IfSome, IfNone};
 ghost use Rattle.std.specs.Fmt.{decimal};
 ghost use Rattle.batch.specs.Text.{IsNumber, number, space};
-ghost use Rattle.line_words.specs.declared.limits.TheConstants.{NUMBER_ROOM};
 ghost use Rattle.line_words.specs.HexWords.{IsWord, hex8};
 ghost use Rattle.client_session.specs.Commands.{Means, line_of};
 
+use crate::limits::COMMAND_ROOM;
 use batch::number_from_digits;
-use line_words::{Line, behind, hex8_and_rest, number_and_rest, word_from_hex8};
+use line_words::{LINE_ROOM, Line, behind, hex8_and_rest, number_and_rest, word_from_hex8};
 
 /// A line of a session that is in the grammar. Batches go by the numbers under which they were
 /// accepted, modules are counted from 0, and addresses are in bytes.
@@ -70,63 +70,47 @@ fn poke(line: &[u8]) -> Option<(usize, u32, u32)>
     Some((module, address, word))
 }
 
-/// A word and the number behind it.
-fn named(word: &[u8], n: usize) -> Line
-    requires { length word.now ≤ 20 }
-    ensures text { result ≡ word.now ++ decimal n }
-    ensures room { length result ≤ length word.now + NUMBER_ROOM }
+/// Puts a line that peeks there.
+fn put_peek(line: &mut Line, module: usize, address: u32)
+    requires { length line.old + COMMAND_ROOM ≤ LINE_ROOM }
+    ensures text { line.new ≡ line.old ++ line_of (SessionCommand.Peek «module» address) }
+    ensures room { length line.new ≤ length line.old + COMMAND_ROOM }
 {
-    let mut line = Line::new();
-    line.put(word);
-    line.put_number(n as u64);
-    line
-}
-
-/// The line that peeks there.
-fn peek_line(module: usize, address: u32) -> Line
-    ensures { result ≡ line_of (SessionCommand.Peek «module» address) }
-{
-    let mut line = named(b"peek ", module);
+    line.put_numbered(b"peek ", module);
     line.put(b" ");
     line.put_hex8(address);
-    line
 }
 
-/// The line that pokes this there.
-fn poke_line(module: usize, address: u32, word: u32) -> Line
-    ensures { result ≡ line_of (SessionCommand.Poke «module» address word) }
+/// Puts a line that pokes this there.
+fn put_poke(line: &mut Line, module: usize, address: u32, word: u32)
+    requires { length line.old + COMMAND_ROOM ≤ LINE_ROOM }
+    ensures text { line.new ≡ line.old ++ line_of (SessionCommand.Poke «module» address word) }
+    ensures room { length line.new ≤ length line.old + COMMAND_ROOM }
 {
-    let mut line = named(b"poke ", module);
+    line.put_numbered(b"poke ", module);
     line.put(b" ");
     line.put_hex8(address);
     line.put(b" ");
     line.put_hex8(word);
-    line
 }
 
 impl SessionCommand {
-    /// Its line, without a line feed. Takes no memory.
-    pub fn line(self) -> Line
-        ensures { result ≡ line_of self }
+    /// Puts its line, without a line feed, behind what stands there. Takes no memory.
+    pub fn put(self, line: &mut Line)
+        requires { length line.old + COMMAND_ROOM ≤ LINE_ROOM }
+        ensures text { line.new ≡ line.old ++ line_of self }
+        ensures room { length line.new ≤ length line.old + COMMAND_ROOM }
     {
         match self {
-            SessionCommand::Batch(count) => named(b"batch ", count),
-            SessionCommand::Plan(id) => named(b"plan ", id),
-            SessionCommand::Run(id) => named(b"run ", id),
-            SessionCommand::Show(id) => named(b"show ", id),
-            SessionCommand::Drop(id) => named(b"drop ", id),
-            SessionCommand::Peek(module, address) => peek_line(module, address),
-            SessionCommand::Poke(module, address, word) => poke_line(module, address, word),
-            SessionCommand::Progress => {
-                let mut line = Line::new();
-                line.put(b"progress");
-                line
-            }
-            SessionCommand::Bye => {
-                let mut line = Line::new();
-                line.put(b"bye");
-                line
-            }
+            SessionCommand::Batch(count) => line.put_numbered(b"batch ", count),
+            SessionCommand::Plan(id) => line.put_numbered(b"plan ", id),
+            SessionCommand::Run(id) => line.put_numbered(b"run ", id),
+            SessionCommand::Show(id) => line.put_numbered(b"show ", id),
+            SessionCommand::Drop(id) => line.put_numbered(b"drop ", id),
+            SessionCommand::Peek(module, address) => put_peek(line, module, address),
+            SessionCommand::Poke(module, address, word) => put_poke(line, module, address, word),
+            SessionCommand::Progress => line.put(b"progress"),
+            SessionCommand::Bye => line.put(b"bye"),
         }
     }
 

@@ -32,6 +32,6 @@ mod turns;
 pub use asked_reader::{AskedReader, CountedReader};
 pub use command::SessionCommand;
 pub use fault::ServeFault;
-pub use limits::{LINE_BYTES, MAX_READS};
+pub use limits::{COMMAND_ROOM, LINE_BYTES, MAX_READS};
 pub use listener::{Listener, NoListener};
 pub use serving::serve;

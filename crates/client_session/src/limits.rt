@@ -5,3 +5,6 @@ pub const LINE_BYTES: usize = 80;
 
 /// How often a session asks its reader.
 pub const MAX_READS: usize = 1_000_000;
+
+/// How many bytes the line of a command may have, without its line feed.
+pub const COMMAND_ROOM: usize = 43;

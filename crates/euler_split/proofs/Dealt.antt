@@ -19,7 +19,8 @@ use Rattle.link_graph.specs.Marks.{members}
 use Rattle.euler_split.specs.Split.{uses_among, IsSplit}
 use Rattle.euler_split.specs.Pairs.{module_in, modules_in}
 use Rattle.euler_split.specs.Walks.{partner_at, half_at, IsHalved}
-use Rattle.euler_split.specs.Masks.{has_pair, AreToggled}
+use Rattle.link_graph.specs.Masks.{has_pair}
+use Rattle.euler_split.specs.Masks.{AreToggled}
 use Rattle.euler_split.specs.Trails.{pairs_of_module, AreHalved}
 use Rattle.euler_split.specs.Deals.{in_left, odd_among, differ, AreDealt}
 use Rattle.euler_split.specs.Evenness.{uses_pair, pair_count}

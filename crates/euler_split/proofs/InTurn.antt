@@ -10,7 +10,7 @@ use Rattle.std.proofs.Math.Seq.{take-length}
 use Rattle.batch.specs.declared.limits.TheConstants.{MAX_MODULES}
 use Rattle.batch.specs.declared.transfer.Transfer.{Transfer}
 use Rattle.euler_split.specs.Split.{IsSplit}
-use Rattle.euler_split.specs.Masks.{has_pair}
+use Rattle.link_graph.specs.Masks.{has_pair}
 use Rattle.euler_split.specs.Trails.{AreHalved}
 use Rattle.euler_split.specs.Deals.{AreDealt}
 use Rattle.euler_split.specs.Evenness.{uses_pair, pair_count, CanBeHalved, HaveSamePairs}

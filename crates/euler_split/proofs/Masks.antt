@@ -1,25 +1,18 @@
 -- Bits of masks, and how many pairs there are at a link.
-use Rattle.std.proofs.Common.{◌≡◌, ◌==◌, ℕ, zero, suc, ◌+◌, ◌^◌, ◌<◌, ltb, List, get_or, replicate, Bool, true, false, not, ◌&&◌, cond, refl, sym, ◌∙◌, arith}
-use Rattle.std.specs.Int.Bits.{xor_add_and}
-use Rattle.std.specs.Int.RustNames.{bit_xor}
+use Rattle.std.proofs.Common.{◌≡◌, ◌==◌, ℕ, zero, suc, ◌+◌, ◌<◌, ltb, List, get_or, replicate, Bool, false, not, ◌&&◌, cond, refl, sym, ◌∙◌, arith}
 use Rattle.std.proofs.lemmas.Bool.Decides.{nat_tests}
 use Rattle.std.proofs.lemmas.Grind.{elements}
 use Rattle.std.proofs.lemmas.List.{get_or_past}
-use Rattle.std.proofs.lemmas.Nat.Bits.{bit_at_xor, bit_at-pow_same, bit_at-pow_other, bit_at-zero, bit_at-lt, and_pow}
+use Rattle.std.proofs.lemmas.Nat.Bits.{bit_at-zero}
 use Rattle.batch.specs.declared.limits.TheConstants.{MAX_MODULES}
 use Rattle.link_graph.specs.declared.link.End.{End}
 use Rattle.link_graph.specs.declared.link.End.TheVariants.{Zero, Three}
 use Rattle.link_graph.specs.Counts.{count_below}
-use Rattle.euler_split.specs.Masks.{has_bit, has_pair, AreMirrored}
+use Rattle.link_graph.specs.Masks.{has_pair}
+use Rattle.euler_split.specs.Masks.{AreMirrored}
 use Rattle.euler_split.specs.Trails.{pairs_of_module, end_of}
 
--- ---- bits
-
-pub bit_toggled : (n k i : ℕ) → has_bit (bit_xor n (2 ^ k)) i ≡ cond (k == i) (not (has_bit n i)) (has_bit n i)
-bit_toggled n k i = grind (arith, nat_tests, bit_at_xor n (2 ^ k) i, bit_at-pow_same k, bit_at-pow_other k i, bit_at-lt n i)
-
-pub toggled_less : (n k : ℕ) → has_bit n k ≡ true → bit_xor n (2 ^ k) < n
-toggled_less n k had = grind (arith, nat_tests, xor_add_and n (2 ^ k), and_pow n k)
+-- ---- masks
 
 pub empty_mask : (masks : List ℕ) (u v : ℕ) → get_or masks u 0 ≡ 0 → has_pair masks u v ≡ false
 empty_mask masks u v empty = grind (arith, bit_at-zero v)

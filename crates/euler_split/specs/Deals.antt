@@ -8,7 +8,8 @@ use Rattle.link_graph.specs.declared.link.End.TheVariants.{Zero, Three}
 use Rattle.link_graph.specs.declared.link.Link.{Link}
 use Rattle.euler_split.specs.Split.{uses_among}
 use Rattle.euler_split.specs.Pairs.{modules_in}
-use Rattle.euler_split.specs.Masks.{has_pair, toggled}
+use Rattle.link_graph.specs.Masks.{has_pair}
+use Rattle.euler_split.specs.Masks.{toggled}
 use Rattle.euler_split.specs.Trails.{pairs_of_module}
 use Rattle.euler_split.specs.Walks.{half_at}
 use Rattle.euler_split.specs.Evenness.{pair_count}

@@ -1,15 +1,7 @@
 -- Pairs of a link 0 and a link 3, as a mask for each module of the one end: its bits are the
 -- modules of the other end.
-use Rattle.std.specs.Prelude.{◌≡◌, ℕ, List, Bool, true, not, ◌&&◌, ◌==◌, cond, slice_index_or}
-use Rattle.std.specs.Int.{bit_at}
-
--- whether a bit of a mask is set
-abbrev pub has_bit : ℕ → ℕ → Bool
-has_bit mask i = bit_at mask i == 1
-
--- whether the masks have a pair of modules
-abbrev pub has_pair : List ℕ → ℕ → ℕ → Bool
-has_pair masks u v = has_bit (slice_index_or masks u 0) v
+use Rattle.std.specs.Prelude.{◌≡◌, ℕ, List, Bool, true, not, ◌&&◌, ◌==◌, cond}
+use Rattle.link_graph.specs.Masks.{has_pair}
 
 -- the pairs, of which one changes: it comes in where it wasn't in, and else goes out
 abbrev pub toggled : (ℕ → ℕ → Bool) → ℕ → ℕ → ℕ → ℕ → Bool

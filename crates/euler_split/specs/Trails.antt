@@ -5,7 +5,8 @@ use Rattle.batch.specs.declared.limits.TheConstants.{MAX_MODULES}
 use Rattle.link_graph.specs.declared.link.End.{End}
 use Rattle.link_graph.specs.declared.link.End.TheVariants.{Zero, Three}
 use Rattle.link_graph.specs.Counts.{count_below}
-use Rattle.euler_split.specs.Masks.{has_pair, AreWithin}
+use Rattle.link_graph.specs.Masks.{has_pair}
+use Rattle.euler_split.specs.Masks.{AreWithin}
 
 -- how many of the pairs have the link of module m at an end
 unfoldable pub pairs_of_module : (ℕ → ℕ → Bool) → End → ℕ → ℕ

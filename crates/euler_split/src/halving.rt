@@ -4,7 +4,8 @@ ghost use Rattle.link_graph.specs.Certificates.{AreDistinct};
 ghost use Rattle.link_graph.specs.declared.link.End.TheVariants.{Zero, Three};
 ghost use Rattle.euler_split.specs.Split.{IsSplit};
 ghost use Rattle.euler_split.specs.Pairs.{module_in, modules_in};
-ghost use Rattle.euler_split.specs.Masks.{has_pair, AreToggled};
+ghost use Rattle.link_graph.specs.Masks.{has_pair};
+ghost use Rattle.euler_split.specs.Masks.{AreToggled};
 ghost use Rattle.euler_split.specs.Deals.{odd_among, AreDealt};
 
 use crate::pairs::{Masks, Pairs, has, toggle};

@@ -1,7 +1,8 @@
 //! Pairs of a link 0 and a link 3, as masks.
 
 ghost use Rattle.std.specs.Prelude.{◌≡◌, ℕ, ◌<◌, true, false, sum};
-ghost use Rattle.euler_split.specs.Masks.{has_bit, has_pair, toggled, AreMirrored, AreToggled};
+ghost use Rattle.link_graph.specs.Masks.{has_bit, has_pair};
+ghost use Rattle.euler_split.specs.Masks.{toggled, AreMirrored, AreToggled};
 
 use batch::MAX_MODULES;
 

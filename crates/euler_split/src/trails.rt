@@ -4,7 +4,7 @@ ghost use Rattle.std.specs.Prelude.{◌≡◌, ℕ, ◌+◌, ◌<◌, Bool, true
 ghost use Rattle.link_graph.specs.declared.link.End.{End};
 ghost use Rattle.link_graph.specs.declared.link.End.TheVariants.{Zero};
 ghost use Rattle.link_graph.specs.Links.{other_end};
-ghost use Rattle.euler_split.specs.Masks.{has_pair};
+ghost use Rattle.link_graph.specs.Masks.{has_pair};
 ghost use Rattle.euler_split.specs.Trails.{end_of, AreEven, no_surplus, is_left_next, walk_surplus, AreHalved};
 
 use crate::pairs::{Masks, Pairs, lowest, toggle};

@@ -4,8 +4,8 @@
 //! [`Line`]. Neither takes memory, so that a reply whose call was made is never lost for want of
 //! it.
 //!
-//! [`Line::put`], [`Line::put_number`] and [`Line::put_hex8`] put just these bytes or digits behind
-//! what stands there. [`word_from_hex8`] reads eight hexadecimal digits in lower case as the word
+//! [`Line::put`], [`Line::put_number`], [`Line::put_numbered`] and [`Line::put_hex8`] put just these
+//! bytes or digits behind what stands there. [`word_from_hex8`] reads eight hexadecimal digits in lower case as the word
 //! that they spell, and nothing else (`hex8` of `specs/HexWords.antt`). [`number_and_rest`],
 //! [`hex8_and_rest`] and [`behind`] read what a line begins with, exactly where it begins so.
 #![tactic(auto)]

@@ -94,6 +94,16 @@ impl Line {
         self.put_digits(n);
     }
 
+    /// Puts words and a number behind the others.
+    pub fn put_numbered(&mut self, words: &[u8], n: usize)
+        requires { length self.old + (length words.now + NUMBER_ROOM) ≤ LINE_ROOM }
+        ensures text { self.new ≡ self.old ++ (words.now ++ decimal n) }
+        ensures room { length self.new ≤ length self.old + (length words.now + NUMBER_ROOM) }
+    {
+        self.put(words);
+        self.put_number(n as u64);
+    }
+
     /// Puts a word behind the others, in eight hexadecimal digits.
     pub fn put_hex8(&mut self, word: u32)
         requires { length self.old + HEX_DIGITS ≤ LINE_ROOM }

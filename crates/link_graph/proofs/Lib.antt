@@ -14,3 +14,4 @@ pub mod Firsts
 pub mod Sharing
 pub mod Once
 pub mod OneFault
+pub mod Masks

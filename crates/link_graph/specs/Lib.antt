@@ -11,3 +11,4 @@ pub mod ScheduleText
 pub mod ScheduleFaults
 pub mod Laws
 pub mod Rows
+pub mod Masks

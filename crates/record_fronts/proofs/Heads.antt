@@ -15,7 +15,7 @@ use Rattle.line_words.specs.HexWords.{IsWord, hex8, BeginsWithNoHex8}
 use Rattle.line_words.proofs.Numbers.{behind_word}
 use Rattle.book_record.proofs.CallTexts.{one_hex_front}
 use Rattle.record_fronts.specs.Heads.{AreNames, BeginsWithNoHead, BeginsWithNoNames, BeginsWithNoNumbers, BeginsWithNoRackLine, client_line, head_of, letter_x, rack_line}
-use Rattle.record_fronts.specs.Laws.{IsSameHead, OneHead, CutHeadIsNone}
+use Rattle.record_fronts.specs.Laws.{OneHead, CutHeadIsNone}
 use Rattle.record_fronts.proofs.Feeds.{first_line}
 
 pub ends_x : Ends letter_x
@@ -199,10 +199,6 @@ no_names text after e sum n p ws fits is none f other m names rest q wt are same
     let line = one_rack_line e f sum other n (length names) after (flat_map client_line names ++ rest) p q ws wt fits (subst IsNumber (sym are.count) are.number)
     (sym is ∙ same ∙ append_assoc (rack_line f other (length names)) (flat_map client_line names) rest) in
     none names rest (record { count = sym line.count; number = fits; each = are.each }) line.rest
-
-pub no_rack_line : (text : List ℕ) → BeginsWithNoRackLine text → BeginsWithNoHead text
-no_rack_line text none e sum n names rest p ws are same =
-    none e sum (length names) (flat_map client_line names ++ rest) p ws (subst IsNumber (sym are.count) are.number) (same ∙ append_assoc (rack_line e sum (length names)) (flat_map client_line names) rest)
 
 -- the whole head
 pub head_read : (text after rest : List ℕ) (e : Extent) (sum n : ℕ) (names : List (List ℕ)) → text ≡ rack_line e sum n ++ after → AreNames names n → after ≡ flat_map client_line names ++ rest → text ≡ head_of e sum names ++ rest

@@ -1,9 +1,8 @@
 ghost use Rattle.std.specs.Prelude.{◌≡◌, ◌≤◌, ◌+◌, ◌++◌, length};
-ghost use Rattle.std.specs.Fmt.{decimal};
 ghost use Rattle.refusals.specs.Refusals.{link_words, memory_words, port_words, refusal_line, refusal_words, two_numbers};
 
 use batch::{BatchFault, ShapeFault};
-use line_words::{LINE_ROOM, Line, NUMBER_ROOM};
+use line_words::{LINE_ROOM, Line};
 use link_graph::{CheckFault, Link, ScheduleFault};
 use module_memory::{ImageFault, MemoryFault};
 use std::alloc::AllocError;
@@ -226,41 +225,41 @@ impl Refusal {
         ensures room { length line.new ≤ length line.old + 91 }
     {
         match self {
-            Refusal::BatchLine(n) => put_numbered(line, b"batch line ", n),
-            Refusal::MovesLine(n) => put_numbered(line, b"moves line ", n),
+            Refusal::BatchLine(n) => line.put_numbered(b"batch line ", n),
+            Refusal::MovesLine(n) => line.put_numbered(b"moves line ", n),
             Refusal::TooMany => line.put(b"too many"),
-            Refusal::NoModule(t) => put_numbered(line, b"no module ", t),
-            Refusal::NoLink(t) => put_numbered(line, b"no link ", t),
-            Refusal::NoBlock(t) => put_numbered(line, b"no block ", t),
+            Refusal::NoModule(t) => line.put_numbered(b"no module ", t),
+            Refusal::NoLink(t) => line.put_numbered(b"no link ", t),
+            Refusal::NoBlock(t) => line.put_numbered(b"no block ", t),
             Refusal::Count => line.put(b"count"),
             Refusal::Settings => line.put(b"settings"),
-            Refusal::ScheduleLine(n) => put_numbered(line, b"schedule line ", n),
-            Refusal::WiringLine(n) => put_numbered(line, b"wiring line ", n),
+            Refusal::ScheduleLine(n) => line.put_numbered(b"schedule line ", n),
+            Refusal::WiringLine(n) => line.put_numbered(b"wiring line ", n),
             Refusal::NoCertificate => line.put(b"no certificate"),
-            Refusal::CheckUnknown(t) => put_numbered(line, b"check unknown ", t),
-            Refusal::CheckRepeated(t) => put_numbered(line, b"check repeated ", t),
-            Refusal::CheckMissing(t) => put_numbered(line, b"check missing ", t),
+            Refusal::CheckUnknown(t) => line.put_numbered(b"check unknown ", t),
+            Refusal::CheckRepeated(t) => line.put_numbered(b"check repeated ", t),
+            Refusal::CheckMissing(t) => line.put_numbered(b"check missing ", t),
             Refusal::CheckClash(setting, link) => {
-                put_numbered(line, b"check clash ", setting);
+                line.put_numbered(b"check clash ", setting);
                 put_link(line, link);
             }
-            Refusal::CheckWrongLink(t) => put_numbered(line, b"check wrong link ", t),
+            Refusal::CheckWrongLink(t) => line.put_numbered(b"check wrong link ", t),
             Refusal::CheckCertificateRepeats(t) => {
-                put_numbered(line, b"check certificate repeats ", t);
+                line.put_numbered(b"check certificate repeats ", t);
             }
             Refusal::CheckNotTight { settings, named } => {
                 put_two(line, b"check not tight ", settings, named);
             }
-            Refusal::NoSetting(k) => put_numbered(line, b"no setting ", k),
+            Refusal::NoSetting(k) => line.put_numbered(b"no setting ", k),
             Refusal::Shape => line.put(b"shape"),
             Refusal::Image { is, wanted } => put_two(line, b"image ", is, wanted),
             Refusal::Overlap(i, j) => put_two(line, b"overlap ", i, j),
             Refusal::RecordHead => line.put(b"record head"),
-            Refusal::RecordCall(e) => put_numbered(line, b"record call ", e),
-            Refusal::RecordReply(e) => put_numbered(line, b"record reply ", e),
+            Refusal::RecordCall(e) => line.put_numbered(b"record call ", e),
+            Refusal::RecordReply(e) => line.put_numbered(b"record reply ", e),
             Refusal::RecordMore => line.put(b"record more"),
             Refusal::File => line.put(b"file"),
-            Refusal::Ports(wanted) => put_numbered(line, b"ports ", wanted),
+            Refusal::Ports(wanted) => line.put_numbered(b"ports ", wanted),
             Refusal::Port(name) => put_port(line, name),
             Refusal::Threads => line.put(b"threads"),
             Refusal::Line => line.put(b"line"),
@@ -276,23 +275,13 @@ impl Refusal {
     }
 }
 
-/// Puts these words and a number.
-fn put_numbered(line: &mut Line, words: &[u8], n: usize)
-    requires { length line.old + (length words.now + NUMBER_ROOM) ≤ LINE_ROOM }
-    ensures text { line.new ≡ line.old ++ (words.now ++ decimal n) }
-    ensures room { length line.new ≤ length line.old + (length words.now + NUMBER_ROOM) }
-{
-    line.put(words);
-    line.put_number(n as u64);
-}
-
 /// Puts these words and two numbers, with a space between them.
 fn put_two(line: &mut Line, words: &[u8], n: usize, m: usize)
     requires { length line.old + (length words.now + 41) ≤ LINE_ROOM }
     ensures text { line.new ≡ line.old ++ (words.now ++ two_numbers n m) }
     ensures room { length line.new ≤ length line.old + (length words.now + 41) }
 {
-    put_numbered(line, words, n);
+    line.put_numbered(words, n);
     line.put(b" ");
     line.put_number(m as u64);
 }

@@ -39,14 +39,6 @@ same_shape e f apart is =
     let same : not (eqb e.modules f.modules && (eqb e.blocks f.blocks && eqb e.words f.words)) ≡ false = rw modules (rw blocks (rw words refl)) in
     absurd cc
 
--- that of the rack's shape, and of the sum of its image
-pub is_record : (opening : Store) (recorded body : List ℕ) (e : Extent) (sum : ℕ) → IsRead recorded e sum body → e ≡ opening.shape → sum ≡ adler (image_of opening) → IsRecordOn opening recorded body
-is_record opening recorded body e sum read shape word = record {
-  names = read.2.1;
-  are = all_named read.2.1 read.2.0 read.2.2;
-  head = read.2.3 ∙ ap (λ (x : Extent). head_of x sum read.2.1 ++ body) shape ∙ ap (λ (n : ℕ). head_of opening.shape n read.2.1 ++ body) word;
-}
-
 -- what stands behind the head is no more than the record
 pub body_within : (opening : Store) (recorded body : List ℕ) → IsRecordOn opening recorded body → length body ≤ length recorded
 body_within opening recorded body on = omega (arith, ap length on.head, length-append (head_of opening.shape (adler (image_of opening)) on.names) body)

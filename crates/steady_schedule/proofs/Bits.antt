@@ -3,7 +3,7 @@ use Rattle.std.proofs.Common.{◌≡◌, ◌==◌, ℕ, ◌^◌, ◌<◌, List, 
 use Rattle.std.specs.Int.RustNames.{bit_or}
 use Rattle.std.proofs.lemmas.Bool.Decides.{nat_tests, eqb_tells}
 use Rattle.std.proofs.lemmas.Nat.Bits.{bit_at_or, bit_at-pow_same, bit_at-pow_other, bit_at-lt}
-use Rattle.steady_schedule.specs.Masks.{has_bit, has_pair}
+use Rattle.link_graph.specs.Masks.{has_bit, has_pair}
 
 pub bit_added : (n k i : ℕ) → has_bit (bit_or n (2 ^ k)) i ≡ (has_bit n i || k == i)
 bit_added n k i = grind (arith, nat_tests, bit_at_or n (2 ^ k) i, bit_at-pow_same k, bit_at-pow_other k i, bit_at-lt n i)

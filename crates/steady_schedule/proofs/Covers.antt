@@ -6,7 +6,7 @@ use Rattle.std.specs.Int.{bit_at}
 use Rattle.std.proofs.lemmas.Bool.{eq-eqb, false≢true}
 use Rattle.std.proofs.lemmas.Nat.Bits.{bit_at_ones}
 use Rattle.batch.specs.declared.limits.TheConstants.{MAX_MODULES}
-use Rattle.steady_schedule.specs.Masks.{has_bit}
+use Rattle.link_graph.specs.Masks.{has_bit}
 use Rattle.steady_schedule.specs.Matchings.{partner}
 use Rattle.steady_schedule.specs.Covers.{AreCovered}
 

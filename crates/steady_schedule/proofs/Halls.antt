@@ -8,7 +8,7 @@ use Rattle.std.proofs.lemmas.Option.{none-some, same_Some}
 use Rattle.batch.specs.declared.limits.TheConstants.{MAX_MODULES}
 use Rattle.link_graph.specs.declared.link.End.{End}
 use Rattle.link_graph.specs.declared.link.End.TheVariants.{Zero, Three}
-use Rattle.steady_schedule.specs.Masks.{has_bit}
+use Rattle.link_graph.specs.Masks.{has_bit}
 use Rattle.steady_schedule.specs.Matchings.{partner, AreMatched}
 use Rattle.steady_schedule.specs.Reaches.{HaveWay}
 use Rattle.steady_schedule.specs.Waiting.{sum_below, count_at, count_between, waiting, HaveMost}

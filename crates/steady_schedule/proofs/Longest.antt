@@ -9,7 +9,7 @@ use Rattle.batch.specs.declared.limits.TheConstants.{MAX_MODULES}
 use Rattle.link_graph.specs.declared.link.End.{End}
 use Rattle.link_graph.specs.declared.link.End.TheVariants.{Zero, Three}
 use Rattle.steady_schedule.specs.Covers.{KeepsPartners}
-use Rattle.steady_schedule.specs.Masks.{has_bit, has_pair}
+use Rattle.link_graph.specs.Masks.{has_bit, has_pair}
 use Rattle.steady_schedule.specs.Matchings.{partner, AreMatched}
 use Rattle.steady_schedule.specs.Reaches.{HaveHeld, HaveEach, IsOverMask, JoinsNeeded, IsBarred, IsInWay, AreAtMost, HaveWay}
 use Rattle.steady_schedule.specs.Searches.{AllSeen, IsInVain}

@@ -24,7 +24,8 @@ use Rattle.link_graph.specs.Counts.{count_below}
 use Rattle.link_graph.specs.Uses.{start_link}
 use Rattle.link_graph.proofs.Tables.{index_below, before_index, uses_outside}
 use Rattle.link_graph.proofs.Users.{made}
-use Rattle.steady_schedule.specs.Masks.{has_bit, has_pair, bits_set}
+use Rattle.link_graph.specs.Masks.{has_bit, has_pair}
+use Rattle.steady_schedule.specs.Masks.{bits_set}
 use Rattle.steady_schedule.specs.Partners.{joins_to, partners, HasMostPartners, ArePartnerMasks}
 use Rattle.steady_schedule.proofs.Bits.{pair_added}
 use Rattle.steady_schedule.proofs.NeedChanges.{bit, partners_few}

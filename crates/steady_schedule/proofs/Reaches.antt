@@ -7,7 +7,7 @@ use Rattle.std.proofs.lemmas.Bool.Decides.{nat_tests}
 use Rattle.std.proofs.lemmas.Nat.Bits.{bit_at_and, bit_at-lt}
 use Rattle.batch.specs.declared.limits.TheConstants.{MAX_MODULES}
 use Rattle.link_graph.specs.declared.link.End.{End}
-use Rattle.steady_schedule.specs.Masks.{has_bit, has_pair}
+use Rattle.link_graph.specs.Masks.{has_bit, has_pair}
 use Rattle.steady_schedule.specs.Matchings.{AreMatched}
 use Rattle.steady_schedule.specs.Reaches.{AreHeld, HaveHeld, HaveEach}
 use Rattle.steady_schedule.specs.Searches.{JoinsNear}

@@ -1,25 +1,19 @@
 -- Steps of the search for a partner.
-use Rattle.std.proofs.Common.{◌≡◌, ◌≢◌, ℕ, ◌^◌, ◌<◌, List, length, set, Option, Some, None, true, false, not, cond, ◌==◌, refl, sym, ap, ◌∙◌, subst, inl, inr, arith}
+use Rattle.std.proofs.Common.{◌≡◌, ◌≢◌, ℕ, ◌^◌, ◌<◌, List, length, set, Option, Some, None, true, false, refl, sym, ap, ◌∙◌, subst, inl, inr, arith}
 use Rattle.std.specs.Prelude.{IsSome}
-use Rattle.std.specs.Int.Bits.{xor_add_and}
 use Rattle.std.specs.Int.RustNames.{bit_and, bit_xor}
 use Rattle.std.proofs.lemmas.Bool.{cases_eq, cases_Bool, false≢true}
 use Rattle.std.proofs.lemmas.Bool.Decides.{nat_tests}
-use Rattle.std.proofs.lemmas.Nat.Bits.{bit_at_and, bit_at_xor, bit_at-pow_same, bit_at-pow_other, bit_at-zero, bit_at-lt, and_pow}
+use Rattle.std.proofs.lemmas.Nat.Bits.{bit_at_and, bit_at-zero, bit_at-lt}
 use Rattle.std.proofs.lemmas.Option.{none-some, same_Some}
 use Rattle.batch.specs.declared.limits.TheConstants.{MAX_MODULES}
-use Rattle.steady_schedule.specs.Masks.{has_bit, has_pair}
+use Rattle.link_graph.specs.Masks.{has_bit, has_pair}
+use Rattle.link_graph.proofs.Masks.{bit_toggled}
 use Rattle.steady_schedule.specs.Matchings.{partner, AreMatched}
 use Rattle.steady_schedule.specs.Searches.{IsStuck, IsInVain, IsFound, IsFreed}
 use Rattle.steady_schedule.proofs.Matchings.{has_low, at_set, at_other}
 
 -- ---- masks
-
-pub bit_toggled : (n k i : ℕ) → has_bit (bit_xor n (2 ^ k)) i ≡ cond (k == i) (not (has_bit n i)) (has_bit n i)
-bit_toggled n k i = grind (arith, nat_tests, bit_at_xor n (2 ^ k) i, bit_at-pow_same k, bit_at-pow_other k i, bit_at-lt n i)
-
-pub toggled_less : (n k : ℕ) → has_bit n k ≡ true → bit_xor n (2 ^ k) < n
-toggled_less n k had = grind (arith, nat_tests, xor_add_and n (2 ^ k), and_pow n k)
 
 pub both_bits : (m n i : ℕ) → has_bit (bit_and m n) i ≡ true → (has_bit m i ≡ true) × (has_bit n i ≡ true)
 both_bits m n i t = (grind (arith, nat_tests, bit_at_and m n i, bit_at-lt m i, bit_at-lt n i), grind (arith, nat_tests, bit_at_and m n i, bit_at-lt m i, bit_at-lt n i))

@@ -16,7 +16,7 @@ use Rattle.link_graph.specs.declared.link.End.{End}
 use Rattle.link_graph.specs.declared.link.End.TheVariants.{Zero, Three}
 use Rattle.link_graph.specs.Counts.{uses}
 use Rattle.link_graph.proofs.Users.{made, use_of, uses_few}
-use Rattle.steady_schedule.specs.Masks.{has_bit, has_pair}
+use Rattle.link_graph.specs.Masks.{has_bit, has_pair}
 use Rattle.steady_schedule.specs.Waiting.{sum_below, pair_count, pair_index, count_at, waiting, ArePairCounts, AreTold}
 use Rattle.steady_schedule.proofs.NeedChanges.{bit}
 use Rattle.steady_schedule.proofs.Sums.{sum_same, sum_none, sum_both, sum_changed, at_most_sum}

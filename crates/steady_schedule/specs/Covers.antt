@@ -1,6 +1,6 @@
 -- Links that have partners, or are free.
 use Rattle.std.specs.Prelude.{◌≡◌, ℕ, ◌<◌, List, Option, None, IsSome, true, slice_index}
-use Rattle.steady_schedule.specs.Masks.{has_bit}
+use Rattle.link_graph.specs.Masks.{has_bit}
 use Rattle.steady_schedule.specs.Matchings.{partner}
 
 -- no link in the mask has a partner

@@ -7,7 +7,7 @@ use Rattle.link_graph.specs.declared.limits.TheConstants.{LINKS}
 use Rattle.link_graph.specs.declared.link.Link.{Link}
 use Rattle.link_graph.specs.Links.{StandsBefore, link_index, other_end}
 use Rattle.link_graph.specs.Counts.{count_below, module_at}
-use Rattle.steady_schedule.specs.Masks.{has_pair}
+use Rattle.link_graph.specs.Masks.{has_pair}
 
 -- whether the transfer uses the link, and joins it to that of module m
 abbrev pub joins_to : Link → ℕ → Transfer → Bool

@@ -3,7 +3,7 @@ use Rattle.std.specs.Prelude.{◌≡◌, ◌⊎◌, ℕ, ◌+◌, ◌<◌, ◌�
 use Rattle.batch.specs.declared.limits.TheConstants.{MAX_MODULES}
 use Rattle.link_graph.specs.declared.link.End.{End}
 use Rattle.link_graph.specs.declared.link.End.TheVariants.{Zero, Three}
-use Rattle.steady_schedule.specs.Masks.{has_bit, has_pair}
+use Rattle.link_graph.specs.Masks.{has_bit, has_pair}
 use Rattle.steady_schedule.specs.Matchings.{partner}
 use Rattle.steady_schedule.specs.Searches.{AllSeen, IsStuck}
 use Rattle.steady_schedule.specs.Waiting.{count_at, count_between, waiting}

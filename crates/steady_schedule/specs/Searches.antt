@@ -2,7 +2,7 @@
 -- and `near` of the links that they have transfers with; those of the other end have the table
 -- `back`, and a mask of those that are unseen.
 use Rattle.std.specs.Prelude.{◌≡◌, ◌≢◌, ◌⊎◌, ℕ, List, Option, Some, None, IsSome, true, false}
-use Rattle.steady_schedule.specs.Masks.{has_bit, has_pair}
+use Rattle.link_graph.specs.Masks.{has_bit, has_pair}
 use Rattle.steady_schedule.specs.Matchings.{partner}
 
 -- each link has transfers with its partner

@@ -5,7 +5,7 @@ use Rattle.batch.specs.declared.limits.TheConstants.{MAX_MODULES}
 use Rattle.batch.specs.declared.transfer.Transfer.{Transfer}
 use Rattle.link_graph.specs.declared.link.End.{End}
 use Rattle.link_graph.specs.declared.link.End.TheVariants.{Zero, Three}
-use Rattle.steady_schedule.specs.Masks.{has_pair}
+use Rattle.link_graph.specs.Masks.{has_pair}
 
 -- the sum of the first n values
 unfoldable pub sum_below : ℕ → (ℕ → ℕ) → ℕ

@@ -3,7 +3,7 @@
 ghost use Rattle.std.specs.Prelude.{◌≡◌, ◌≢◌, ◌⊎◌, ℕ, ◌+◌, ◌-◌, ◌<◌, ◌≤◌, Some, None, true, false, IfSome, IsSome};
 ghost use Rattle.batch.specs.declared.limits.TheConstants.{MAX_MODULES, MAX_TRANSFERS};
 ghost use Rattle.steady_schedule.specs.Covers.{KeepsPartners};
-ghost use Rattle.steady_schedule.specs.Masks.{has_bit, has_pair};
+ghost use Rattle.link_graph.specs.Masks.{has_bit, has_pair};
 ghost use Rattle.steady_schedule.specs.Matchings.{partner, AreMatched};
 ghost use Rattle.steady_schedule.specs.Reaches.{AreHeld, HaveHeld, HaveEach, IsOverMask, JoinsNeeded, IsBarred, IsInWay, HaveWay, AreAtMost};
 ghost use Rattle.steady_schedule.specs.Searches.{AreNear, JoinsNear};

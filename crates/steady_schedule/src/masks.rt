@@ -1,7 +1,7 @@
 //! Masks of modules.
 
 ghost use Rattle.std.specs.Prelude.{◌≡◌, ◌≢◌, ◌<◌, ℕ, true, false, ◌||◌, ◌==◌};
-ghost use Rattle.steady_schedule.specs.Masks.{has_bit};
+ghost use Rattle.link_graph.specs.Masks.{has_bit};
 
 use batch::MAX_MODULES;
 

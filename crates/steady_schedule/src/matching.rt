@@ -3,7 +3,7 @@
 ghost use Rattle.std.specs.Prelude.{◌≡◌, ◌<◌, ◌≤◌, Some, None, true, false, set};
 ghost use Rattle.batch.specs.declared.limits.TheConstants.{MAX_MODULES};
 ghost use Rattle.steady_schedule.specs.Covers.{AreFree};
-ghost use Rattle.steady_schedule.specs.Masks.{has_bit};
+ghost use Rattle.link_graph.specs.Masks.{has_bit};
 ghost use Rattle.steady_schedule.specs.Matchings.{partner, AreMatched, AreBelow};
 ghost use Rattle.steady_schedule.specs.Searches.{AllSeen, IsStuck, IsInVain, IsFound, IsFreed};
 

@@ -2,7 +2,7 @@
 
 ghost use Rattle.std.specs.Prelude.{◌≡◌, ℕ, ◌+◌, ◌-◌, ◌<◌, ◌≤◌, ◌||◌, ◌&&◌, ◌==◌, false};
 ghost use Rattle.batch.specs.declared.limits.TheConstants.{MAX_MODULES, MAX_TRANSFERS};
-ghost use Rattle.steady_schedule.specs.Masks.{has_pair};
+ghost use Rattle.link_graph.specs.Masks.{has_pair};
 ghost use Rattle.steady_schedule.specs.Reaches.{AreHeld, HaveHeld, IsOverMask};
 
 use crate::masks::{Masks, lowest, with_module, without_module};

@@ -4,7 +4,7 @@ ghost use Rattle.std.specs.Prelude.{◌≡◌, ℕ, ◌+◌, ◌-◌, ◌<◌, �
 ghost use Rattle.batch.specs.Batches.{IsBatch};
 ghost use Rattle.batch.specs.declared.limits.TheConstants.{MAX_MODULES, MAX_TRANSFERS};
 ghost use Rattle.link_graph.specs.declared.link.End.{End};
-ghost use Rattle.steady_schedule.specs.Masks.{has_pair};
+ghost use Rattle.link_graph.specs.Masks.{has_pair};
 ghost use Rattle.steady_schedule.specs.Waiting.{pair_index, count_at, count_between, waiting, ArePairCounts, AreTold, NoneWait};
 
 use crate::masks::{Masks, with_module, without_module};

@@ -42,7 +42,8 @@ impl SwitchState {
     fn drop_begun(&mut self)
         requires { IsSwitchState self.old }
         ensures state { IsSwitchState self.new }
-        ensures dropped { kept_end self.new ≡ record { switch = (kept_end self.old).switch; begun = [] } }
+        ensures dropped { kept_end self.new
+            ≡ record { switch = (kept_end self.old).switch; begun = [] } }
     {
         self.begun = [0; MOST_BEGUN];
         self.begun_count = 0;

@@ -1,6 +1,6 @@
 use Rattle.std.proofs.Common.{◌≡◌, ℕ}
 use Rattle.euler_split.specs.Pairs.{modules_in}
-use Rattle.euler_split.specs.Masks.{has_pair}
+use Rattle.link_graph.specs.Masks.{has_pair}
 use Rattle.euler_split.specs.Deals.{odd_among}
 use Rattle.euler_split.proofs.halving.odd_pairs.Given as goal
 

@@ -4,7 +4,7 @@ use Rattle.std.proofs.lemmas.Bool.Decides.{nat_tests}
 use Rattle.std.proofs.lemmas.Grind.{elements}
 use Rattle.std.proofs.lemmas.List.Sums.{sum_by-set}
 use Rattle.std.proofs.lemmas.Nat.{one_shl}
-use Rattle.euler_split.proofs.Masks.{bit_toggled, toggled_less}
+use Rattle.link_graph.proofs.Masks.{bit_toggled, toggled_less}
 use Rattle.euler_split.proofs.pairs.toggle.Goals as goal
 
 pub returns-clause-toggled : goal.returns-clause-toggled

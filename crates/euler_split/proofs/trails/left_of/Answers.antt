@@ -1,6 +1,6 @@
 use Rattle.std.proofs.Common.{arith}
 use Rattle.batch.specs.declared.limits.TheConstants.{MAX_MODULES}
-use Rattle.euler_split.specs.Masks.{has_pair}
+use Rattle.link_graph.specs.Masks.{has_pair}
 use Rattle.euler_split.proofs.Steps.{halved, none_taken}
 use Rattle.euler_split.proofs.trails.left_of.Goals as goal
 

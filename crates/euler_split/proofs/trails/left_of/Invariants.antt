@@ -1,4 +1,4 @@
-use Rattle.euler_split.specs.Masks.{has_pair}
+use Rattle.link_graph.specs.Masks.{has_pair}
 use Rattle.euler_split.specs.Trails.{AreEven, no_surplus}
 use Rattle.euler_split.proofs.trails.left_of.Given as goal
 

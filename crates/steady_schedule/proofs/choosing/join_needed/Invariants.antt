@@ -1,7 +1,7 @@
 use Rattle.std.proofs.Common.{◌≡◌, ◌⊎◌, ℕ, true}
 use Rattle.std.specs.Prelude.{IsSome}
 use Rattle.steady_schedule.specs.Covers.{KeepsPartners}
-use Rattle.steady_schedule.specs.Masks.{has_bit}
+use Rattle.link_graph.specs.Masks.{has_bit}
 use Rattle.steady_schedule.specs.Matchings.{partner, AreMatched}
 use Rattle.steady_schedule.specs.Searches.{JoinsNear}
 use Rattle.steady_schedule.proofs.choosing.join_needed.Given as goal

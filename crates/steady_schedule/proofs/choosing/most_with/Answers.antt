@@ -1,7 +1,7 @@
 use Rattle.std.proofs.Common.{◌≡◌, ◌∙◌, ℕ, true, get_or, arith, inl, inr, subst, sym}
 use Rattle.std.proofs.lemmas.Bool.{cases_eq, false≢true}
 use Rattle.std.specs.Prelude.{max}
-use Rattle.steady_schedule.specs.Masks.{has_bit}
+use Rattle.link_graph.specs.Masks.{has_bit}
 use Rattle.steady_schedule.proofs.Reaches.{most_begun, most_more}
 use Rattle.steady_schedule.proofs.Searching.{both_bits}
 use Rattle.steady_schedule.proofs.choosing.most_with.Goals as goal

@@ -1,5 +1,5 @@
 use Rattle.std.proofs.Common.{◌≡◌, ◌≤◌, ℕ, true}
-use Rattle.steady_schedule.specs.Masks.{has_bit}
+use Rattle.link_graph.specs.Masks.{has_bit}
 use Rattle.steady_schedule.specs.Reaches.{AreAtMost}
 use Rattle.steady_schedule.proofs.Reaches.{MostSoFar}
 use Rattle.steady_schedule.proofs.choosing.most_with.Given as goal

@@ -1,5 +1,5 @@
 use Rattle.std.proofs.Common.{◌≡◌, ◌<◌, ℕ, Some, true}
-use Rattle.steady_schedule.specs.Masks.{has_pair}
+use Rattle.link_graph.specs.Masks.{has_pair}
 use Rattle.steady_schedule.specs.Matchings.{partner}
 use Rattle.steady_schedule.proofs.choosing.standing.Given as goal
 

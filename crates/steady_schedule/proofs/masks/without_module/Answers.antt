@@ -1,5 +1,6 @@
 use Rattle.std.proofs.lemmas.Nat.{one_shl}
-use Rattle.steady_schedule.proofs.Searching.{toggled_less, out_here, out_other}
+use Rattle.link_graph.proofs.Masks.{toggled_less}
+use Rattle.steady_schedule.proofs.Searching.{out_here, out_other}
 use Rattle.steady_schedule.proofs.masks.without_module.Goals as goal
 
 pub returns : goal.returns

@@ -1,7 +1,7 @@
 use Rattle.std.proofs.Common.{arith}
 use Rattle.std.proofs.lemmas.Bool.Decides.{nat_tests}
 use Rattle.std.proofs.lemmas.Nat.Bits.{shr_and_one}
-use Rattle.steady_schedule.specs.Masks.{has_bit}
+use Rattle.link_graph.specs.Masks.{has_bit}
 use Rattle.steady_schedule.proofs.PartnerMasks.{count_more, bits_set_is}
 use Rattle.steady_schedule.proofs.partners.bits_set.Goals as goal
 

@@ -1,6 +1,6 @@
 use Rattle.std.proofs.Common.{◌≡◌, ◌≤◌}
 use Rattle.link_graph.specs.Counts.{count_below}
-use Rattle.steady_schedule.specs.Masks.{has_bit}
+use Rattle.link_graph.specs.Masks.{has_bit}
 use Rattle.steady_schedule.proofs.partners.bits_set.Given as goal
 
 abbrev pub invariant-loop-module : goal.invariant-loop-module

@@ -1,7 +1,7 @@
 use Rattle.std.proofs.Common.{◌≡◌, ◌<◌, true}
 use Rattle.std.specs.Prelude.{IfSome, ℕ}
 use Rattle.batch.specs.declared.limits.TheConstants.{MAX_MODULES}
-use Rattle.steady_schedule.specs.Masks.{has_bit, has_pair}
+use Rattle.link_graph.specs.Masks.{has_bit, has_pair}
 use Rattle.steady_schedule.specs.Waiting.{count_at}
 use Rattle.steady_schedule.proofs.stepping.best_free.Given as goal
 
