@@ -4,12 +4,12 @@ use Rattle.std.specs.Prelude.{◌≢◌}
 use Rattle.clap.specs.Words.{App, Text, FailsBy, HasKind, HasMatchesOf, fault_of, is_simple, is_simple_and_free, kind_of, subcommand_of, subcommand_rows_of}
 use Rattle.clap.specs.declared.error.Error.{Error}
 use Rattle.clap.specs.declared.error.kind.ErrorKind.{ErrorKind}
-use Rattle.clap.specs.declared.error.kind.ErrorKind.TheVariants.{DisplayHelp, DisplayVersion}
+use Rattle.clap.specs.declared.error.kind.ErrorKind.TheVariants.{DisplayHelp, DisplayVersion, OutOfMemory}
 use Rattle.clap.specs.declared.parser.matches.ArgMatches.{ArgMatches}
 use Rattle.command_words.specs.declared.jobs.Request.{Request}
 use Rattle.command_words.specs.declared.jobs.ArgumentsFault.{ArgumentsFault}
 use Rattle.command_words.specs.declared.jobs.ArgumentsFault.TheVariants.{Clap, NoMemory}
-use Rattle.command_words.specs.Jobs.{GivesRequest, IsFaultBy, IsFaultIn, IsMistake, IsOfArguments, IsTaken, IsToldOf, MayBeDone, faults_of}
+use Rattle.command_words.specs.Jobs.{GivesRequest, IsFaultBy, IsFaultIn, IsMistake, IsTaken, MayBeDone, faults_of}
 use Rattle.command_words.specs.Program.{program}
 use Rattle.command_words.proofs.Wanted.{same_done}
 
@@ -39,15 +39,14 @@ passed_up (Err e) P Q made follows = follows e made
 pub told : (arguments : List Text) (error : Error) (fault : ArgumentsFault) → HasKind (faults_of arguments) error → IsFaultBy error fault → IsFaultIn arguments fault
 told arguments error NoMemory has by = tt
 told arguments error (Clap e) (inl memory) by = absurd (by.0 memory)
-told arguments error (Clap e) (inr among) by =
-    subst (λ (x : Error). IsOfArguments x × IsToldOf arguments x) (sym by.1) (by.0, inl among)
+told arguments error (Clap e) (inr among) by = subst (λ (x : Error). IsFaultIn arguments (Clap x)) (sym by.1) (by.0, inl among)
 
 -- an error of another kind than a demand for help tells a mistake
 pub mistaken : (kind : ErrorKind) (error : Error) (fault : ArgumentsFault) → kind_of error ≡ kind → kind ≢ DisplayHelp → kind ≢ DisplayVersion → IsFaultBy error fault → IsMistake fault
 mistaken kind error NoMemory is help version by = tt
 mistaken kind error (Clap e) is help version by =
     let same : kind_of e ≡ kind = ap kind_of by.1 ∙ is in
-    (subst IsOfArguments (sym by.1) by.0, λ asks. elim asks [ inl h ↦ help (sym same ∙ h) | inr v ↦ version (sym same ∙ v) ])
+    (subst (λ (x : Error). kind_of x ≢ OutOfMemory) (sym by.1) by.0, λ asks. elim asks [ inl h ↦ help (sym same ∙ h) | inr v ↦ version (sym same ∙ v) ])
 
 -- a mistake is told of arguments that fit, where the job that they hold may not be done
 pub declined : (arguments : List Text) (request : Request) (fault : ArgumentsFault) → IsTaken arguments → GivesRequest arguments request → IsMistake fault → (fault ≢ NoMemory → MayBeDone request.job → ⊥) → IsFaultIn arguments fault

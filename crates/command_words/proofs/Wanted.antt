@@ -15,44 +15,20 @@ use Rattle.command_words.specs.declared.jobs.RecordFile.{RecordFile}
 use Rattle.command_words.specs.declared.jobs.Request.{Request}
 use Rattle.plan_answers.specs.declared.source.Source.{Source}
 use Rattle.plan_answers.specs.declared.source.Source.TheVariants as source
-use Rattle.command_words.specs.Program.{command_word}
-use Rattle.command_words.specs.Jobs.{Files, HasJob, HasRecord, HasSome, HasSource, HaveNames, IsJob, IsReading, IsRequest, IsWithinLimits, HasWanted, IsClientName, MayBeDone, client_files, clients_of, file, file_uses, files_beside, files_of, hears_input, of_list, name_of, on_image, port_files, schedule_in, scripts_on}
+use Rattle.command_words.specs.Jobs.{Files, HasJob, HasRecord, HasSource, HaveNames, IsReading, IsRequest, IsWithinLimits, IsClientName, MayBeDone, client_files, clients_of, file, file_uses, files_beside, files_of, hears_input, of_list, name_of, port_files, schedule_in, scripts_on}
 use Rattle.command_words.specs.declared.faults.Lack.{Lack}
 use Rattle.command_words.specs.declared.faults.Lack.TheVariants.{Memory}
 use Rattle.command_words.proofs.CommandNames.{same_word}
 
 -- what is lacking of a part is lacking of the whole
-pub still_lacks : {X : Type 0} (is : X → Type 0) (lack : Lack) (r : Result X Lack) → IsErrAnd r (λ e. e ≡ lack) → (HasSome is → lack ≡ Memory) → IsReading is r
+pub still_lacks : {X : Type 0} (is : X → Type 0) (lack : Lack) (r : Result X Lack) → IsErrAnd r (λ e. e ≡ lack) → ((x : X) → is x → lack ≡ Memory) → IsReading is r
 still_lacks is lack (Ok x) made why = absurd made
-still_lacks is lack (Err e) made why = λ some. made ∙ why some
-
--- the rows of a job have what its command wants
-wanted : (rows : List Row) (job : Job) → HasJob rows job → HasWanted (name_of job) rows
-wanted rows (Plan file planning workers) has = ((file, has.0), (planning, has.1), (workers, has.2))
-wanted rows (Check batch schedule) has = ((batch, has.0), (schedule, has.1))
-wanted rows (Draw batch schedule settings) has = ((batch, has.0), (schedule, has.1))
-wanted rows (Switch batch source wiring workers) has = ((batch, has.0), (source, has.1), (workers, has.3))
-wanted rows (Orders batch source of_module workers) has = ((batch, has.0), (source, has.1), (of_module, has.2), (workers, has.3))
-wanted rows (Drive batch port port_b source wiring first goes_on workers) has =
-    ((batch, has.0), (port, has.1), (source, has.3), (first, has.5), (workers, has.7))
-wanted rows C004 has = tt
-wanted rows (Direct moves) has = (moves, has)
-wanted rows (Apply shape batch image workers) has = ((shape, has.0), (batch, has.1), (image, has.2), (workers, has.3))
-wanted rows (Run shape batch source image workers) has = ((shape, has.0), (batch, has.1), (source, has.2), (workers, has.4))
-wanted rows (Serve rack scripts workers) has = ((rack, has.0), (scripts, has.1), (workers, has.2))
-wanted rows (Host rack clients workers) has = ((rack, has.0), (clients, has.1), (workers, has.2))
-wanted rows (Talk rack) has = (rack, has)
-wanted rows (Replay shape recorded image first) has = ((recorded, has.1), (first, has.3))
-
--- and so of the command that the word calls
-pub wanted_by : (by : CommandName) (word : Text) (rows : List Row) (job : Job) → command_word by ≡ word → IsJob word rows job → HasWanted by rows
-wanted_by by word rows job calls is =
-    subst (λ (n : CommandName). HasWanted n rows) (same_word (name_of job) by (sym is.0 ∙ sym calls)) (wanted rows job is.1)
+still_lacks is lack (Err e) made why = λ x has. made ∙ why x has
 
 -- it has as many clients, or scripts, as may be served
 pub within : (o : Option (Text × List Row)) (request : Request) → MatchOption o ⊥ (λ p. IsRequest p.0 p.1 request) → IsWithinLimits request.job
 within None request is = absurd is
-within (Some p) request is = go request.job is.job.1
+within (Some p) request is = go request.job is.job
   where
     go : (job : Job) → HasJob p.1 job → IsWithinLimits job
     go (Serve rack scripts workers) has = has.1.1
@@ -95,11 +71,11 @@ files_in name.Drive rows = switched_in rows
 files_in name.C004 rows = scripts_on None []
 files_in name.Direct rows = of_list (text_in (codes "MOVES") rows) None None
 files_in name.Apply rows = of_list (text_in (codes "BATCH") rows) (first_of (codes "IMAGE") rows) None
-files_in name.Run rows = on_image (first_of (codes "image") rows) (text_in (codes "BATCH") rows) (first_of (codes "schedule") rows)
+files_in name.Run rows = record (of_list (text_in (codes "BATCH") rows) (first_of (codes "schedule") rows) None) { image = first_of (codes "image") rows }
 files_in name.Serve rows = scripts_on (first_of (codes "image") rows) (unwrap_or (all_of (codes "SCRIPT") rows) [])
 files_in name.Host rows = scripts_on (first_of (codes "image") rows) []
 files_in name.Talk rows = scripts_on (first_of (codes "image") rows) []
-files_in name.Replay rows = on_image (first_of (codes "image") rows) (text_in (codes "RECORD") rows) None
+files_in name.Replay rows = record (of_list (text_in (codes "RECORD") rows) None None) { image = first_of (codes "image") rows }
 
 scheduled : (rows : List Row) (source : Source Text) → HasSource rows source → first_of (codes "schedule") rows ≡ schedule_in source
 scheduled rows (source.Plan planning) has = has.0
@@ -169,10 +145,10 @@ beside_are rows job has = refl
 pub same_done : (o : Option (Text × List Row)) (a b : Request) → MatchOption o ⊥ (λ p. IsRequest p.0 p.1 a) → MatchOption o ⊥ (λ p. IsRequest p.0 p.1 b) → MayBeDone a.job → MayBeDone b.job
 same_done None a b one other done = absurd one
 same_done (Some p) a b one other done =
-    let same = same_word (name_of a.job) (name_of b.job) (sym one.job.0 ∙ other.job.0) in
-    let files = files_are p.1 a.job one.job.1 ∙ ap (λ (n : CommandName). files_in n p.1) same ∙ sym (files_are p.1 b.job other.job.1) in
-    let beside = beside_are p.1 a.job one.job.1 ∙ ap (λ (n : CommandName). beside_in n p.1) same ∙ sym (beside_are p.1 b.job other.job.1) in
-    let clients = clients_are p.1 a.job one.job.1 ∙ ap (λ (n : CommandName). clients_in n p.1) same ∙ sym (clients_are p.1 b.job other.job.1) in
-    let hears = hears_is p.1 a.job one.job.1 ∙ ap (λ (n : CommandName). hears_in n p.1) same ∙ sym (hears_is p.1 b.job other.job.1) in
+    let same = same_word (name_of a.job) (name_of b.job) (sym one.calls ∙ other.calls) in
+    let files = files_are p.1 a.job one.job ∙ ap (λ (n : CommandName). files_in n p.1) same ∙ sym (files_are p.1 b.job other.job) in
+    let beside = beside_are p.1 a.job one.job ∙ ap (λ (n : CommandName). beside_in n p.1) same ∙ sym (beside_are p.1 b.job other.job) in
+    let clients = clients_are p.1 a.job one.job ∙ ap (λ (n : CommandName). clients_in n p.1) same ∙ sym (clients_are p.1 b.job other.job) in
+    let hears = hears_is p.1 a.job one.job ∙ ap (λ (n : CommandName). hears_in n p.1) same ∙ sym (hears_is p.1 b.job other.job) in
     let uses : file_uses a.job ≡ file_uses b.job = rw (files, hears, beside) refl in
     record { files = subst HaveNames uses done.files; clients = subst (All IsClientName) clients done.clients }

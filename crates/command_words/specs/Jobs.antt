@@ -2,7 +2,8 @@
 use Rattle.std.specs.Prelude.{◌≡◌, ◌≢◌, ◌⊎◌, ◌↔◌, ℕ, ◌≤◌, List, [], ◌∷◌, ◌++◌, Some, None, String, codes, length, map, find, flat_map, string_bytes, Option, All, AllPairs, IsTrue, Bool, true, false, not, if◌then◌else◌, option_and_then, option_map, option_to_list, MatchOption, Result, Ok, Err, ⊤}
 use Rattle.std.specs.Str.{bytes_eq}
 use Rattle.std.specs.Str.Parse.{IsNumeral, digits_value, without_leading_plus}
-use Rattle.clap.specs.Words.{Row, Text, Kinds, IsAmong, all_of, fault_of, first_of, found_of, one_of, rows_of, subcommand_of, subcommand_rows_of}
+use Rattle.batch.specs.Numbers.{line_feed}
+use Rattle.clap.specs.Words.{Row, Text, Kinds, IsAmong, all_of, fault_of, first_of, found_of, one_of, rows_of, subcommand_of}
 use Rattle.clap.specs.declared.parser.matches.ArgMatches.{ArgMatches}
 use Rattle.clap.specs.declared.parser.matches.ValueSource.TheVariants.{CommandLine}
 use Rattle.clap.specs.Values.{kind_of}
@@ -43,16 +44,12 @@ IsGiven id rows =
 abbrev pub HasNumeral : Text → ℕ → List Row → Option ℕ → Type 0
 HasNumeral id last rows None = first_of id rows ≡ None
 HasNumeral id last rows (Some n) =
-    (text : Text) × (one_of id rows ≡ Some text) × IsNumeral 10 (without_leading_plus text)
-    × (n ≡ digits_value 10 (without_leading_plus text)) × (n ≤ last)
+    MatchOption (one_of id rows) ⊥ (λ text. IsNumeral 10 (without_leading_plus text)
+    × (n ≡ digits_value 10 (without_leading_plus text)) × (n ≤ last))
 
 -- the number of `--workers`
 abbrev pub HasWorkers : List Row → ℕ → Type 0
 HasWorkers rows n = HasNumeral (codes "workers") MAX_WORKERS rows (Some n) × (1 ≤ n)
-
--- the number of `--from`, of a setting
-abbrev pub HasFirst : List Row → ℕ → Type 0
-HasFirst rows n = HasNumeral (codes "from") MAX_NUMBER rows (Some n)
 
 -- the text of an argument
 abbrev pub HasText : Text → List Row → Text → Type 0
@@ -137,7 +134,8 @@ HasJob rows (Orders batch source of_module workers) =
 HasJob rows (Drive batch port port_b source wiring first goes_on workers) =
     HasText (codes "BATCH") rows batch × HasText (codes "PORT") rows port
     × HasOption (codes "PORT_B") rows port_b × HasSource rows source
-    × HasOption (codes "wiring") rows wiring × HasFirst rows first
+    × HasOption (codes "wiring") rows wiring
+    × HasNumeral (codes "from") MAX_NUMBER rows (Some first)
     × (IsTrue goes_on ↔ IsGiven (codes "go-on") rows) × HasWorkers rows workers
 HasJob rows C004 = ⊤
 HasJob rows (Direct moves) = HasText (codes "MOVES") rows moves
@@ -156,21 +154,18 @@ HasJob rows (Replay shape recorded image first) =
     HasOption (codes "shape") rows shape × HasText (codes "RECORD") rows recorded
     × HasOption (codes "image") rows image × HasNumeral (codes "first") MAX_NUMBER rows first
 
--- the job of the command that this word calls
-abbrev pub IsJob : Text → List Row → Job → Type 0
-IsJob word rows job = (word ≡ command_word (name_of job)) × HasJob rows job
+-- a job of this command, as the rows have it
+abbrev pub IsJob : CommandName → List Row → Job → Type 0
+IsJob name rows job = (name_of job ≡ name) × HasJob rows job
 
 -- the arguments as lists of their bytes
 abbrev pub texts_of : {Z : Type 0} → List (String Z) → List Text
 texts_of arguments = map (λ word. string_bytes word) arguments
 
--- clap's matches are those of the program's arguments
-abbrev pub AreMatchesOf : List Text → ArgMatches → Type 0
-AreMatchesOf arguments found = subcommand_rows_of found ≡ subcommand_of program arguments
-
--- a command's job, and whether nothing is to be told beside its answer
+-- the job of the command that this word calls, and whether nothing is to be told beside its answer
 pub record IsRequest (word : Text) (rows : List Row) (request : Request) : Type 0 where
-  pub job : IsJob word rows request.job
+  pub calls : word ≡ command_word (name_of request.job)
+  pub job : HasJob rows request.job
   pub quiet : IsTrue request.is_quiet ↔ IsGiven (codes "quiet") rows
 
 -- what clap finds in these arguments
@@ -219,11 +214,6 @@ abbrev pub of_list : {A : Type 0} → A → Option A → Option A → Files A
 of_list text other wiring =
     record { image = None; list = Some text; other = other; wiring = wiring; scripts = [] }
 
--- one text, and what may be read with it, on a rack with this image
-abbrev pub on_image : {A : Type 0} → Option A → A → Option A → Files A
-on_image image text other =
-    record { image = image; list = Some text; other = other; wiring = None; scripts = [] }
-
 -- scripts, on a rack with this image
 abbrev pub scripts_on : {A : Type 0} → Option A → List A → Files A
 scripts_on image scripts =
@@ -246,11 +236,13 @@ files_of (Drive batch port port_b source wiring first goes_on workers) =
 files_of C004 = scripts_on None []
 files_of (Direct moves) = of_list moves None None
 files_of (Apply shape batch image workers) = of_list batch (Some image) None
-files_of (Run shape batch source image workers) = on_image image batch (schedule_in source)
+files_of (Run shape batch source image workers) =
+    record (of_list batch (schedule_in source) None) { image = image }
 files_of (Serve rack scripts workers) = scripts_on rack.image scripts
 files_of (Host rack clients workers) = scripts_on rack.image []
 files_of (Talk rack) = scripts_on rack.image []
-files_of (Replay shape recorded image first) = on_image image recorded None
+files_of (Replay shape recorded image first) =
+    record (of_list recorded None None) { image = image }
 
 -- a job hears standard input itself: `c004`, `talk`, and `drive` where it waits for lines
 abbrev pub hears_input : Job → Bool
@@ -325,10 +317,6 @@ abbrev pub clients_of : Job → List Text
 clients_of (Host rack clients workers) = clients
 clients_of job = []
 
--- the byte that ends a line
-abbrev pub line_feed : ℕ
-line_feed = 10
-
 -- a client may have this name: it isn't empty, and stands in one line
 abbrev pub IsClientName : Text → Type 0
 IsClientName name = (name ≢ []) × All (λ byte. byte ≢ line_feed) name
@@ -349,77 +337,29 @@ pub record AskFor (arguments : List Text) (request : Request) : Type 0 where
 abbrev pub AsksForHelp : Error → Type 0
 AsksForHelp error = (kind_of error ≡ DisplayHelp) ⊎ (kind_of error ≡ DisplayVersion)
 
--- the error isn't that there was no memory, so it tells something of the arguments
-abbrev pub IsOfArguments : Error → Type 0
-IsOfArguments error = kind_of error ≢ OutOfMemory
-
 -- a mistake in the arguments is told; or lack of memory, and then nothing is said about them
 abbrev pub IsMistake : ArgumentsFault → Type 0
 IsMistake NoMemory = ⊤
-IsMistake (Clap error) = IsOfArguments error × (AsksForHelp error → ⊥)
+IsMistake (Clap error) = (kind_of error ≢ OutOfMemory) × (AsksForHelp error → ⊥)
 
--- clap's error tells what the grammar finds at fault in the arguments; or a mistake, where they fit
--- it, but ask for nothing that may be done
-abbrev pub IsToldOf : List Text → Error → Type 0
-IsToldOf arguments error =
-    IsAmong (kind_of error) (faults_of arguments)
-    ⊎ (IsTaken arguments × IsMistake (Clap error)
-    × ((request : Request) → AskFor arguments request → ⊥))
-
--- why arguments aren't read: what is at fault in them; or lack of memory, and then nothing is said
--- about them. No error of clap is about memory
+-- why arguments aren't read: what the grammar finds at fault in them; or a mistake, where they fit
+-- it, but ask for nothing that may be done; or lack of memory, and then nothing is said about them.
+-- No error of clap is about memory
 abbrev pub IsFaultIn : List Text → ArgumentsFault → Type 0
 IsFaultIn arguments NoMemory = ⊤
-IsFaultIn arguments (Clap error) = IsOfArguments error × IsToldOf arguments error
+IsFaultIn arguments (Clap error) =
+    (kind_of error ≢ OutOfMemory)
+    × (IsAmong (kind_of error) (faults_of arguments)
+    ⊎ (IsTaken arguments × IsMistake (Clap error)
+    × ((request : Request) → AskFor arguments request → ⊥)))
 
 -- the fault is this error of clap, or lack of memory where that is what it tells
 abbrev pub IsFaultBy : Error → ArgumentsFault → Type 0
 IsFaultBy error NoMemory = kind_of error ≡ OutOfMemory
-IsFaultBy error (Clap told) = IsOfArguments error × (told ≡ error)
-
--- there is something of which this is so
-abbrev pub HasSome : {X : Type 0} → (X → Type 0) → Type 0
-HasSome {X} is = (x : X) × is x
-
--- there is what a command wants
-abbrev pub HasWanted : CommandName → List Row → Type 0
-HasWanted name.Plan rows =
-    HasSome (HasText (codes "FILE") rows) × HasSome (HasPlanning rows) × HasSome (HasWorkers rows)
-HasWanted name.Check rows =
-    HasSome (HasText (codes "BATCH") rows) × HasSome (HasText (codes "SCHEDULE") rows)
-HasWanted name.Draw rows =
-    HasSome (HasText (codes "BATCH") rows) × HasSome (HasText (codes "SCHEDULE") rows)
-HasWanted name.Switch rows =
-    HasSome (HasText (codes "BATCH") rows) × HasSome (HasSource rows) × HasSome (HasWorkers rows)
-HasWanted name.Orders rows =
-    HasSome (HasText (codes "BATCH") rows) × HasSome (HasSource rows)
-    × HasSome (HasNumeral (codes "module") LAST_MODULE rows) × HasSome (HasWorkers rows)
-HasWanted name.Drive rows =
-    HasSome (HasText (codes "BATCH") rows) × HasSome (HasText (codes "PORT") rows)
-    × HasSome (HasSource rows) × HasSome (HasFirst rows) × HasSome (HasWorkers rows)
-HasWanted name.C004 rows = ⊤
-HasWanted name.Direct rows = HasSome (HasText (codes "MOVES") rows)
-HasWanted name.Apply rows =
-    HasSome (HasText (codes "SHAPE") rows) × HasSome (HasText (codes "BATCH") rows)
-    × HasSome (HasText (codes "IMAGE") rows) × HasSome (HasWorkers rows)
-HasWanted name.Run rows =
-    HasSome (HasText (codes "SHAPE") rows) × HasSome (HasText (codes "BATCH") rows)
-    × HasSome (HasSource rows) × HasSome (HasWorkers rows)
-HasWanted name.Serve rows =
-    HasSome (HasRack rows) × HasSome (HasServed (codes "SCRIPT") rows) × HasSome (HasWorkers rows)
-HasWanted name.Host rows =
-    HasSome (HasRack rows) × HasSome (HasServed (codes "CLIENT") rows) × HasSome (HasWorkers rows)
-HasWanted name.Talk rows = HasSome (HasRack rows)
-HasWanted name.Replay rows =
-    HasSome (HasText (codes "RECORD") rows) × HasSome (HasNumeral (codes "first") MAX_NUMBER rows)
+IsFaultBy error (Clap told) = (kind_of error ≢ OutOfMemory) × (told ≡ error)
 
 -- what is read of the rows: something of which this is so; or what is lacking, which is memory
 -- where there is something to read
 abbrev pub IsReading : {X : Type 0} → (X → Type 0) → Result X Lack → Type 0
 IsReading is (Ok x) = is x
-IsReading is (Err lack) = HasSome is → lack ≡ Memory
-
--- what is read of them for a command: its job, where there is what the command wants
-abbrev pub IsReadJob : CommandName → List Row → Result Job Lack → Type 0
-IsReadJob name rows (Ok job) = IsJob (command_word name) rows job
-IsReadJob name rows (Err lack) = HasWanted name rows → lack ≡ Memory
+IsReading {X} is (Err lack) = (x : X) → is x → lack ≡ Memory

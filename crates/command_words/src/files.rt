@@ -51,16 +51,6 @@ fn scripts_on<'a>(image: Option<&'a Text>, scripts: &'a [Text]) -> JobFiles<'a>
     }
 }
 
-/// The name of a file, where there is one.
-pub(crate) fn lent(name: &Option<Text>) -> Option<&Text>
-    ensures { bytes_of result ≡ name.now }
-{
-    match name {
-        Some(name) => Some(name),
-        None => None,
-    }
-}
-
 /// The file that has a schedule, where one has.
 fn schedule_of(source: &Source<Text>) -> Option<&Text>
     ensures { bytes_of result ≡ schedule_in source.now }
@@ -95,7 +85,7 @@ impl Job {
                 source,
                 wiring,
                 ..
-            } => of_list(batch, schedule_of(source), lent(wiring)),
+            } => of_list(batch, schedule_of(source), wiring.as_ref()),
             Job::Orders { batch, source, .. } => of_list(batch, schedule_of(source), None),
             Job::Apply { batch, image, .. } => of_list(batch, Some(image), None),
             Job::Run {
@@ -104,7 +94,7 @@ impl Job {
                 image,
                 ..
             } => JobFiles {
-                image: lent(image),
+                image: image.as_ref(),
                 ..of_list(batch, schedule_of(source), None)
             },
             Job::Replay {
@@ -112,11 +102,11 @@ impl Job {
                 image,
                 ..
             } => JobFiles {
-                image: lent(image),
+                image: image.as_ref(),
                 ..of_list(recorded, None, None)
             },
-            Job::Serve { rack, scripts, .. } => scripts_on(lent(&rack.image), scripts.as_slice()),
-            Job::Host { rack, .. } | Job::Talk { rack } => scripts_on(lent(&rack.image), &[]),
+            Job::Serve { rack, scripts, .. } => scripts_on(rack.image.as_ref(), scripts.as_slice()),
+            Job::Host { rack, .. } | Job::Talk { rack } => scripts_on(rack.image.as_ref(), &[]),
             Job::C004 => scripts_on(None, &[]),
         }
     }

@@ -1,8 +1,8 @@
 //! The commands as clap has them.
 
-ghost use Rattle.std.specs.Prelude.{IfErr, IfOk, OnOk};
-ghost use Rattle.command_words.specs.Jobs.{AreMatchesOf, IsFaultIn, IsTaken, texts_of};
-ghost use Rattle.clap.specs.Words.{app_of, new_app};
+ghost use Rattle.std.specs.Prelude.{◌≡◌, IfErr, IfOk, OnOk};
+ghost use Rattle.command_words.specs.Jobs.{IsFaultIn, IsTaken, texts_of};
+ghost use Rattle.clap.specs.Words.{app_of, new_app, subcommand_of, subcommand_rows_of};
 ghost use Rattle.command_words.specs.Program.{IsArgument, IsCommand, IsLocal, command as command_app, flag, option, program, rule_for, top, with_arguments, with_command, one_argument, client_arguments};
 
 use crate::commands::{Argument, CommandName};
@@ -168,7 +168,8 @@ pub(crate) fn matches_of<'a>(
     alloc: Global,
     arguments: &'a [String],
 ) -> Result<ArgMatches<'a>, ArgumentsFault>
-    ensures matches { IfOk result (AreMatchesOf (texts_of arguments.entry.now)) }
+    ensures matches { IfOk result (λ found.
+        subcommand_rows_of found ≡ subcommand_of program (texts_of arguments.entry.now)) }
     ensures taken { OnOk result (IsTaken (texts_of arguments.entry.now)) }
     ensures fault { IfErr result (IsFaultIn (texts_of arguments.entry.now)) }
 {

@@ -135,7 +135,7 @@ pub(crate) const SWITCH: CommandHelp = CommandHelp {
     example: "Example:\n  ./exchange switch examples/two-pushes.txt",
     notes: "\
 BATCH is a batch text, in the form that `exchange plan --help` shows. Its
-schedule is the plan that a run makes, or that of `exchange plan --steady` with
+schedule is that of `exchange plan`, or that of `exchange plan --steady` with
 --steady. With --schedule it is that of FILE, any schedule text of BATCH, with
 the certificate part or without it. --workers, --steady and --schedule exclude
 each other.
@@ -243,8 +243,9 @@ The last line says how it ended. The switches are left as they are:
                                of switch b are counted from 32
   stopped setting K input      setting K stands, but no line could be read
   left setting K               setting K stands, and standard input ended
-Standard error says more of what stopped it. A switch that says nothing is waited for without end, and a terminal that isn't
-raw alters bytes and may hold them. Both are settled before, for a device:
+Standard error says more of what stopped it. A switch that says nothing is
+waited for without end, and a terminal that isn't raw alters bytes and may hold
+them. Both are settled before, for a device:
   stty -F PORT raw -echo min 0 time 20
 
 Else nothing is sent, and the answer is the first of these that is wrong:
@@ -322,10 +323,8 @@ pub(crate) const APPLY: CommandHelp = CommandHelp {
 Example:
   ./exchange apply 3x2x2 examples/two-pushes.txt examples/before.img > after.img",
     notes: "\
-SHAPE is MxKxW: M modules, from 1 to 32, each of K blocks, from 1 to 64, each
-of W words, from 1 to 256. BATCH is a batch text, in the form that
-`exchange plan --help` shows, with modules below M and blocks below K.
-IMAGE has all words of these modules: module by module and block by block,
+SHAPE is MxKxW and BATCH a batch text, in the forms that `exchange run --help`
+shows. IMAGE has all words of the modules: module by module and block by block,
 each as four bytes, least significant first, so 4*M*K*W bytes.
 
 The batch is run over these words, and the answer is the image with its blocks
@@ -349,12 +348,8 @@ pub(crate) const RUN: CommandHelp = CommandHelp {
     notes: "\
 SHAPE is MxKxW: M modules, from 1 to 32, each of K blocks, from 1 to 64, each
 of W words, from 1 to 256. BATCH is a batch text, in the form that
-`exchange plan --help` shows, with modules below M and blocks below K.
-
-It runs by a plan, by the plan of `exchange plan --steady` with --steady, or with
---schedule by the schedule of FILE, any schedule text of BATCH, with the
-certificate part or without it. --workers, --steady and --schedule exclude each
-other.
+`exchange plan --help` shows, with modules below M and blocks below K. By which
+schedule it is run, `exchange switch --help` tells.
 
 Word j of block b of module m is 65536 m + 256 b + j before the run, or that of
 the image where there is one. The answer is the line
@@ -490,22 +485,23 @@ shows, and here they mean:
 
 --record writes each call with its reply, in the form that
 `exchange replay --help` shows, before the reply is told. FILE has to be empty,
-or not to be there. A host that is killed leaves all that was told, and no line
-`end`. With --resume FILE may have what such a host left, if that had the same
-SHAPE, image and CLIENT words: its calls are made again, what isn't whole is cut
-off, and the clients go on where it ends, each in the session of its place.
-With --sync a reply is told once its entry is on the disk; each call then waits
-for that. --image-out writes the words at the end, in the form that
+or not to be there, or to have no more than the head; else it stays as it was. A
+host that is killed leaves all that was told, and no line `end`. With --resume
+FILE may have what such a host left, if that had the same SHAPE, image and
+CLIENT words: its calls are made again, what isn't whole is cut off, and the
+clients go on where it ends, each in the session of its place. With --sync a
+reply is told once its entry is on the disk; each call then waits for that.
+--image-out writes the words at the end, in the form that
 `exchange apply --help` shows, to a new file that then takes the name FILE.
 
-Else nobody is served and no pipe is opened, every FILE stays as it was, and the
+Else nobody is served, no pipe is opened and no call of a client is made. The
 answer is the first of these that is wrong:
   refused file       the image can't be read, the FILE of --record or --image-out
                      can't be opened, or a file that is written leads to one
-                     that is read or written too, or FILE of --record has
-                     something, and --resume isn't there
+                     that is read or written too
   refused shape      SHAPE is no shape
   refused image L W  the image has L bytes, and the shape wants W
+  refused file       FILE has more than the head, and --resume isn't there
   refused record ..  FILE can't be gone on with, as `exchange replay --help` shows
   refused threads    the system has no thread for each client
 
@@ -533,8 +529,8 @@ The session ends with the input or by `bye`; where it doesn't, its last line is
 `ended ..`, as `exchange serve --help` shows. Of --record, --resume, --sync and
 --image-out `exchange host --help` tells.
 
-Else nothing is read, every FILE stays as it was, and the answer is what is first
-wrong, as `exchange host --help` shows; but no threads are wanted.
+Else no line is read and no call of yours is made, and the answer is what is
+first wrong, as `exchange host --help` shows; but no threads are wanted.
 
 Status: 0 the session ended with its input or by `bye`, 1 it didn't, or it was
 refused, or there was no memory, 2 the words fit no command, 3 the answer, the

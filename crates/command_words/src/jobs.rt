@@ -146,10 +146,7 @@ impl SharedRack {
     pub fn record_name(&self) -> Option<&Text>
         ensures { bytes_of result ≡ recorded_in self.now }
     {
-        match &self.record_out {
-            Some(record) => Some(&record.name),
-            None => None,
-        }
+        self.record_out.as_ref().map(|record| &record.name)
     }
 }
 

@@ -27,12 +27,7 @@ fn have_two_names(one: &FileUse, other: &FileUse) -> bool
 fn is_apart(file: &FileUse, others: &[FileUse]) -> bool
     ensures { IsTrue result ↔ All (λ other. HaveTwoNames other file.now) others.now }
 {
-    for other in others {
-        if !have_two_names(other, file) {
-            return false;
-        }
-    }
-    true
+    others.iter().all(|other| have_two_names(other, file))
 }
 
 /// Whether nothing is written that is read, or written too, and standard input is read once, as far
@@ -60,12 +55,7 @@ fn is_client_name(name: &Text) -> bool
 fn are_client_names(names: &[Text]) -> bool
     ensures { IsTrue result ↔ All IsClientName names.now }
 {
-    for name in names {
-        if !is_client_name(name) {
-            return false;
-        }
-    }
-    true
+    names.iter().all(is_client_name)
 }
 
 /// Whether each of a job's clients has a name that it may have.

@@ -1,10 +1,9 @@
 //! From the arguments to what they ask for, by what clap finds in them.
 
-ghost use Rattle.std.specs.Prelude.{◌≡◌, ◌≢◌, ◌↔◌, IfErr, IfOk, IsTrue, OnOk};
-ghost use Rattle.command_words.specs.declared.jobs.Job.{Job};
-ghost use Rattle.command_words.specs.declared.jobs.Request.{Request};
+ghost use Rattle.std.specs.Prelude.{◌≢◌, ◌↔◌, IfErr, IfOk, IsTrue, OnOk, Some, codes};
+ghost use Rattle.command_words.specs.declared.limits.TheConstants.{MAX_NUMBER};
 ghost use Rattle.command_words.specs.declared.faults.Lack.TheVariants.{Memory};
-ghost use Rattle.command_words.specs.Jobs.{AskFor, HasFirst, HasNumeral, HasOption, HasPlanning, HasServed, HasRack, HasRecord, HasSource, HasText, HasWorkers, GivesRequest, IsFaultIn, IsGiven, IsReading, IsReadJob, IsRequest, IsTaken, IsWithinLimits, MayBeDone, rows_in, texts_of};
+ghost use Rattle.command_words.specs.Jobs.{AskFor, HasNumeral, HasOption, HasPlanning, HasServed, HasRack, HasRecord, HasSource, HasText, HasWorkers, GivesRequest, IsFaultIn, IsGiven, IsJob, IsReading, IsRequest, IsTaken, IsWithinLimits, MayBeDone, rows_in, texts_of};
 
 use crate::commands::CommandName;
 use crate::faults::{Lack, fault_of};
@@ -75,7 +74,8 @@ fn workers_of(matches: &ArgMatches<'_>) -> Result<WorkerCount, Lack>
 
 /// The number of `--from`.
 fn first_of(matches: &ArgMatches<'_>) -> Result<usize, Lack>
-    ensures { IsReading (HasFirst (rows_in matches.now)) result }
+    ensures { IsReading
+        (λ n. HasNumeral (codes "from") MAX_NUMBER (rows_in matches.now) (Some n)) result }
 {
     number_of(matches, "from", MAX_NUMBER)?.ok_or(Lack::Word)
 }
@@ -91,13 +91,11 @@ fn is_given(matches: &ArgMatches<'_>, id: &str) -> bool
 fn planning_of(matches: &ArgMatches<'_>) -> Result<Planning, Lack>
     ensures { IsReading (HasPlanning (rows_in matches.now)) result }
 {
-    if !is_given(matches, "steady") {
-        return Ok(Planning::Plain);
+    match (is_given(matches, "steady"), is_given(matches, "workers")) {
+        (false, _) => Ok(Planning::Plain),
+        (true, false) => Ok(Planning::Steady),
+        (true, true) => Err(Lack::Planning),
     }
-    if is_given(matches, "workers") {
-        return Err(Lack::Planning);
-    }
-    Ok(Planning::Steady)
 }
 
 /// Where a schedule is to come from.
@@ -119,18 +117,15 @@ fn record_of(alloc: Global, matches: &ArgMatches<'_>) -> Result<Option<RecordFil
 {
     let resumes = is_given(matches, "resume");
     let syncs = is_given(matches, "sync");
-    let Some(name) = option_of(alloc, matches, "record")? else {
-        return if resumes || syncs {
-            Err(Lack::Record)
-        } else {
-            Ok(None)
-        };
-    };
-    Ok(Some(RecordFile {
-        name,
-        resumes,
-        syncs,
-    }))
+    match option_of(alloc, matches, "record")? {
+        Some(name) => Ok(Some(RecordFile {
+            name,
+            resumes,
+            syncs,
+        })),
+        None if resumes || syncs => Err(Lack::Record),
+        None => Ok(None),
+    }
 }
 
 /// The rack of an exchange.
@@ -147,7 +142,7 @@ fn rack_of(alloc: Global, matches: &ArgMatches<'_>) -> Result<SharedRack, Lack>
 
 /// The job of a command by its matches.
 fn job_of(alloc: Global, name: CommandName, found: &ArgMatches<'_>) -> Result<Job, Lack>
-    ensures { IsReadJob name (rows_in found.now) result }
+    ensures { IsReading (IsJob name (rows_in found.now)) result }
 {
     match name {
         CommandName::Plan => Ok(Job::Plan {
@@ -227,9 +222,7 @@ fn job_of(alloc: Global, name: CommandName, found: &ArgMatches<'_>) -> Result<Jo
 
 /// The job of the command that this word calls, by its matches, and whether it is quiet.
 fn request_of(alloc: Global, word: &str, found: &ArgMatches<'_>) -> Result<Request, Lack>
-    ensures request { IfOk result (IsRequest word.now (rows_in found.now)) }
-    ensures lack { IfErr result (λ lack. (request : Request) →
-        IsRequest word.now (rows_in found.now) request → lack ≡ Memory) }
+    ensures { IsReading (IsRequest word.now (rows_in found.now)) result }
 {
     let Some(name) = CommandName::of(word) else {
         return Err(Lack::Word);

@@ -6,14 +6,9 @@ use std::alloc::{AllocError, Global};
 use std::marker::Model;
 
 /// A text of its own, as one argument of the command line. Contracts see its bytes.
+#[derive(Drop)]
 pub struct Text {
     text: String,
-}
-
-impl Drop for Text {
-    fn drop(self) {
-        let Text { text: _ } = self;
-    }
 }
 
 impl Model for Text {

@@ -6,14 +6,9 @@ use std::marker::Model;
 
 /// Texts of their own, as arguments of the command line that stand for one thing each. Contracts
 /// see the list of their bytes.
+#[derive(Drop)]
 pub struct TextList {
     texts: Vec<Text>,
-}
-
-impl Drop for TextList {
-    fn drop(self) {
-        let TextList { texts: _ } = self;
-    }
 }
 
 impl Model for TextList {

@@ -4,7 +4,6 @@ ghost use Rattle.std.specs.Prelude.{◌≡◌, ◌↔◌, ◌++◌, ◌∷◌, [
 ghost use Rattle.plan_answers.specs.Lent.{bytes_of};
 ghost use Rattle.command_words.specs.Jobs.{Exclude, client_files, file, files_beside, files_read, kept_files, port_files, file_uses as the_uses};
 
-use crate::files::lent;
 use crate::jobs::{Job, SharedRack};
 use crate::text::Text;
 use std::alloc::{AllocError, Global};
@@ -117,7 +116,7 @@ impl Gathered {
         ensures { OnOk result (self.new ≡ self.old ++ kept_files rack.now) }
     {
         self.add_option(Access::Write, rack.record_name())?;
-        self.add_option(Access::Write, lent(&rack.image_out))
+        self.add_option(Access::Write, rack.image_out.as_ref())
     }
 
     /// The files of clients.
@@ -156,7 +155,7 @@ impl Gathered {
             }
             Job::Drive { port, port_b, .. } => {
                 self.add_port(Some(port))?;
-                self.add_port(lent(port_b))
+                self.add_port(port_b.as_ref())
             }
             _ => Ok(()),
         }

@@ -5,5 +5,5 @@ use Rattle.command_words.proofs.reading.workers_of.Goals as goal
 
 pub returns-in_err-number : goal.returns-in_err-number
 returns-in_err-number c =
-    still_lacks (HasWorkers (rows_in c.args.matches.now)) _ c.from_residual.result c.from_residual.ensures.1 (λ some.
-    c.in_err-number.ensures (Some some.0, some.1.0))
+    still_lacks (HasWorkers (rows_in c.args.matches.now)) _ c.from_residual.result c.from_residual.ensures.1 (λ n has.
+    c.in_err-number.ensures (Some n) has.0)
