@@ -8,17 +8,19 @@ use Rattle.session_answers.specs.HostAnswers.{SessionEnd}
 use Rattle.command_words.specs.Jobs.{Files, files_of}
 use Rattle.command_words.specs.declared.jobs.Job.{Job}
 use Rattle.command_words.specs.declared.jobs.Job.TheVariants.{C004, Drive, Host, Serve, Talk}
-use Rattle.exchange.specs.Contents.{AreContents}
-use Rattle.exchange.specs.Outcomes.{HasTold, IsFinished, IsMissed, IsNoAnswer, IsNothing, IsRefused, IsUnanswered, response_of}
-use Rattle.exchange.specs.Outputs.{AreKept, AreKeptBut, lost_none}
-use Rattle.exchange.specs.Records.{Closed}
+use Rattle.named_files.specs.Contents.{AreContents}
+use Rattle.exchange.specs.Outcomes.{HasTold, IsFinished, IsMissed, IsNothing, IsUnanswered, response_of}
+use Rattle.named_files.specs.Notes.{IsNoAnswer, IsRefused}
+use Rattle.exchange.specs.Keeping.{AreKept, AreKeptBut}
+use Rattle.named_files.specs.Outputs.{lost_none}
+use Rattle.named_files.specs.Streams.{Closed}
 use Rattle.exchange.specs.Responses.{Given, IsAnswerTo, IsJobAnswer, IsJobCut, IsPlainAnswer, IsTextAnswer, IsToldCut, KeepsPorts, LeavesRest, given_by}
-use Rattle.exchange.specs.declared.found.Found.{Found}
-use Rattle.exchange.specs.declared.lost.Lost.{Lost}
-use Rattle.exchange.specs.declared.notes.Answered.{Answered}
-use Rattle.exchange.specs.declared.notes.NoAnswer.{NoAnswer}
-use Rattle.exchange.specs.declared.notes.NoAnswer.TheVariants as missed
-use Rattle.exchange.specs.declared.outputs.Receipts.{Receipts}
+use Rattle.kept_sessions.specs.declared.found.Found.{Found}
+use Rattle.named_files.specs.declared.lost.Lost.{Lost}
+use Rattle.exchange.specs.declared.answered.Answered.{Answered}
+use Rattle.named_files.specs.declared.notes.NoAnswer.{NoAnswer}
+use Rattle.named_files.specs.declared.notes.NoAnswer.TheVariants as missed
+use Rattle.named_files.specs.declared.outputs.Receipts.{Receipts}
 
 pub ok_so : {X E : Type 0} (r : Result X E) (P Q : X → Type 0) → ((x : X) → P x → Q x) → IfOk r P → IfOk r Q
 ok_so (Ok x) P Q f is = f x is

@@ -13,9 +13,10 @@ use Rattle.drive_answers.specs.declared.fault.DriveFault.{DriveFault}
 use Rattle.drive_answers.specs.declared.fault.DriveFault.TheVariants.{Untold, NoMemory}
 use Rattle.drive_answers.proofs.Told.{told_answer, told_failure}
 use Rattle.exchange.specs.Drives.{IsDriveBy, IsDriveCut}
-use Rattle.exchange.specs.Outcomes.{HasTold, IsMissedFor, IsNoAnswer}
-use Rattle.exchange.specs.declared.notes.NoAnswer.{NoAnswer}
-use Rattle.exchange.specs.declared.notes.NoAnswer.TheVariants.{Refused, Unwritten}
+use Rattle.exchange.specs.Outcomes.{HasTold, IsMissedFor}
+use Rattle.named_files.specs.Notes.{IsNoAnswer}
+use Rattle.named_files.specs.declared.notes.NoAnswer.{NoAnswer}
+use Rattle.named_files.specs.declared.notes.NoAnswer.TheVariants.{Refused, Unwritten}
 
 -- where there was no memory, nothing was told, and no port was opened
 none_where_refused : (hears : Dialogue → ℕ → List ℕ → Cue → Dialogue → Type 0) (source : Source (List ℕ)) (batch : List ℕ) (wiring : Option (List ℕ)) (first : ℕ) (names : Names) (was opens : Ways) (told tells : Dialogue) (fault : DriveFault)

@@ -1,35 +1,35 @@
 -- What is printed behind what a session was told, and what is told beside it.
-use Rattle.std.proofs.Common.{ℕ, Bool, ◌++◌, ◌∷◌, List, Option, Some, None, Result, Ok, Err, IfOk, IfErr, OnOk, OnErr, ap, ◌∙◌, append_assoc, append-nil, IfSome, ◌⊎◌, inl, inr, refl, subst, sym, ◌≡◌, []}
-use Rattle.std.specs.Prelude.{String, option_map, string_bytes}
+use Rattle.std.proofs.Common.{ℕ, Bool, ◌++◌, ◌∷◌, List, Option, Some, None, Result, Ok, Err, IfOk, IfErr, OnErr, ap, ◌∙◌, append_assoc, append-nil, ◌⊎◌, inl, inr, refl, subst, sym, ◌≡◌, []}
+use Rattle.std.specs.Prelude.{String}
 use Rattle.std.specs.Global.{Global}
 use Rattle.std.specs.Io.KnownBytes.{Appends}
-use Rattle.byte_streams.specs.Writing.{IsCutShort}
 use Rattle.std.proofs.KnownBytes.{Appends-nil, Appends-trans}
 use Rattle.plan_answers.specs.Refusals.{Printed}
 use Rattle.command_words.specs.declared.jobs.Job.{Job}
-use Rattle.exchange.specs.declared.notes.NoAnswer.TheVariants as missed
+use Rattle.named_files.specs.declared.notes.NoAnswer.TheVariants as missed
 use Rattle.command_words.specs.declared.jobs.Request.{Request}
 use Rattle.batch_book.specs.History.{Account}
-use Rattle.refusals.specs.declared.refusal.Refusal.TheVariants as refusal
-use Rattle.exchange.specs.declared.unwritten.Unwritten.{Unwritten}
-use Rattle.exchange.specs.declared.unwritten.Unwritten.TheVariants as unwritten
-use Rattle.exchange.specs.declared.unanswered.Unanswered.{Unanswered}
-use Rattle.exchange.specs.declared.unanswered.Unanswered.TheVariants.{File, NoMemory}
-use Rattle.exchange.specs.Outputs.{lost_none}
-use Rattle.exchange.specs.declared.notes.Answered.{Answered}
-use Rattle.exchange.specs.declared.notes.NoAnswer.{NoAnswer}
-use Rattle.exchange.specs.Apart.{AreSeenApart}
+use Rattle.named_files.specs.declared.unwritten.Unwritten.{Unwritten}
+use Rattle.named_files.specs.declared.unwritten.Unwritten.TheVariants as unwritten
+use Rattle.named_files.specs.declared.unanswered.Unanswered.{Unanswered}
+use Rattle.named_files.specs.declared.unanswered.Unanswered.TheVariants.{NoMemory}
+use Rattle.named_files.specs.Outputs.{lost_none}
+use Rattle.exchange.specs.declared.answered.Answered.{Answered}
+use Rattle.named_files.specs.declared.notes.NoAnswer.{NoAnswer}
+use Rattle.named_files.specs.Apart.{AreSeenApart}
 use Rattle.drive_answers.specs.Ways.{Ways}
 use Rattle.session_answers.specs.HostAnswers.{SessionEnd}
 use Rattle.session_answers.specs.declared.ended_session.Ending.{Ending}
-use Rattle.exchange.specs.Clients.{ends_of}
-use Rattle.exchange.specs.Responses.{Given, IsJobAnswer, Named, Response, unanswered}
-use Rattle.exchange.specs.Notes.{AreToldLines, HasJobOverlap, IsToldInPart, IsBeside, IsNoteOn, IsNoted, IsToldUnless, IsWholeLine}
-use Rattle.exchange.specs.Outcomes.{HasTold, IsAnswered, IsRefused}
+use Rattle.named_files.specs.Clients.{ends_of}
+use Rattle.exchange.specs.Responses.{Given, IsJobAnswer, Named, Response}
+use Rattle.named_files.specs.Notes.{unanswered, AreToldLines, IsToldInPart, IsNoteOn, IsToldUnless, IsWholeLine, IsRefused}
+use Rattle.exchange.specs.Notes.{HasJobOverlap, IsBeside, IsNoted}
+use Rattle.exchange.specs.Outcomes.{HasTold, IsAnswered}
 use Rattle.command_words.specs.declared.jobs.ArgumentsFault.TheVariants as arguments_fault
 use Rattle.command_words.specs.Jobs.{AskFor, file_uses}
 use Rattle.exchange.specs.declared.limits.TheConstants.{UNWRITTEN}
 use Rattle.exchange.specs.Ends.{Leaving, Streams, IsDone, IsEndForArguments, IsCutFor, IsFaultEnd, IsPrinted, IsUnwrittenOf, streams_of}
+use Rattle.named_files.proofs.Told.{bytes_of_line}
 
 -- nothing was told before what is answered, or refused
 pub told_nothing : {X : Type 0} (r : Result X NoAnswer) (before : Option (List ℕ)) (is : List ℕ → X → Type 0) (behind cut : List ℕ → Type 0) → behind [] → IfErr r IsRefused → IfOk r (is []) → HasTold before before is behind cut r
@@ -54,10 +54,6 @@ pub told_line_more : (a b c : Option (List ℕ)) (lines : List (List ℕ)) (line
 told_line_more a b c [] line are whole told = (c, whole, subst (λ (x : Option (List ℕ)). IsToldInPart x c line) are told, refl)
 told_line_more a b c (first ∷ lines) line are whole told = (are.0, are.1, are.2, told_line_more are.0 b c lines line are.3 whole told)
 
--- the bytes of a line, if there is one
-abbrev pub bytes_of_line : Option (String Global) → Option (List ℕ)
-bytes_of_line note = option_map (λ line. string_bytes line) note
-
 -- what is told of an answer
 noted : (overlap : Type 0) (request : Request) (end : Printed) (note : Option (List ℕ)) (eb em ea : Option (List ℕ))
     → IsNoteOn end note → IsBeside overlap request eb em → IsToldUnless request.is_quiet note em ea → IsNoted overlap request end eb ea
@@ -66,11 +62,6 @@ noted overlap request end None eb em ea on beside (inr t) = absurd (let bad : No
 noted overlap request end (Some line) eb em ea on beside (inr t) =
     let same : t.1 ≡ line = (let e : Some line ≡ Some t.1 = t.2 in cc) in
     (em, beside, inr (t.0, t.1, rw same on, t.3))
-
--- what is told of a file that can't be read
-pub file_told : (r : Option (String Global)) → IfSome r (λ line. IsWholeLine (string_bytes line)) → IsNoteOn (unanswered File) (bytes_of_line r)
-file_told None h = tt
-file_told (Some text) h = record { refused = refl; of = inl (refusal.File, (λ e. cc), refl); whole = h }
 
 -- an answer that is printed behind it
 pub answered : {E : Type 0} (r : Result ℕ E) (named : Named) (keeps : Job → Response → Type 0) (given : Given) (request : Request) (told : List ℕ) (left : Option Account) (ports : Ways) (ends : List SessionEnd) (done : Answered) (out_before out_after has eb em ea : Option (List ℕ))
@@ -123,6 +114,7 @@ printed_in_part before mid after told text first t = (told ++ t.0, t.1, ap (λ (
 -- what couldn't be written of an answer
 of_answer : (done : Answered) (what : Unwritten) (before after : Option (List ℕ)) → IsUnwrittenOf done before after what → IsToldInPart before after done.answer.text
 of_answer done (unwritten.Answer error lost) before after is = is.1
+of_answer done unwritten.Nowhere before after is = absurd is
 of_answer done (unwritten.Setting reason) before after is = absurd is
 of_answer done (unwritten.Kept lost) before after is = (done.answer.text, [], sym (append-nil done.answer.text), is.0)
 
@@ -151,11 +143,6 @@ asked (Err e) named keeps none arguments given request streams ask is = tt
 pub without_arguments : {E : Type 0} (r : Result ℕ E) (out_before has err : Option (List ℕ)) → IfOk r (IsPrinted out_before has (unanswered NoMemory)) → IfOk r (IsFaultEnd arguments_fault.NoMemory (streams_of out_before has err err))
 without_arguments (Ok status) out_before has err is = (is, Appends-nil err)
 without_arguments (Err e) out_before has err is = tt
-
--- as much of a line as could be written
-pub begun : {T E : Type 0} (r : Result T E) (before after : Option (List ℕ)) (line : List ℕ) → OnOk r (Appends before after line) → OnErr r (IsCutShort before after line) → IsToldInPart before after line
-begun (Ok x) before after line went cut = (line, [], sym (append-nil line), went)
-begun (Err e) before after line went cut = (cut.front, cut.missing, cut.bytes_are, cut.appended)
 
 -- what was told, and then a note
 pub told_more : (quiet : Bool) (note : Option (List ℕ)) (a b c : Option (List ℕ)) (told : List ℕ) → Appends a b told → IsToldUnless quiet note b c → (more : List ℕ) × Appends a c more

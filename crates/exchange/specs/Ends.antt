@@ -1,5 +1,5 @@
 -- How the program ends.
-use Rattle.std.specs.Prelude.{◌≡◌, ◌≢◌, ◌⊎◌, ◌++◌, ℕ, List, [], Option, Some, None, Result, Ok, Err, IfErr, IfOk, ⊤, codes}
+use Rattle.std.specs.Prelude.{◌≡◌, ◌≢◌, ◌⊎◌, ◌++◌, ℕ, List, [], Option, None, Result, Ok, Err, IfErr, IfOk, ⊤}
 use Rattle.std.specs.Io.KnownBytes.{Appends}
 use Rattle.plan_answers.specs.Refusals.{Printed}
 use Rattle.plan_answers.specs.declared.limits.TheConstants.{DONE}
@@ -10,17 +10,19 @@ use Rattle.command_words.specs.declared.jobs.ArgumentsFault.{ArgumentsFault}
 use Rattle.command_words.specs.declared.jobs.ArgumentsFault.TheVariants as arguments_fault
 use Rattle.command_words.specs.Jobs.{AskFor, AsksForHelp, IsFaultIn}
 use Rattle.exchange.specs.declared.limits.TheConstants.{MISUSED}
-use Rattle.exchange.specs.declared.unanswered.Unanswered.TheVariants.{NoMemory}
+use Rattle.named_files.specs.declared.unanswered.Unanswered.TheVariants.{NoMemory}
 use Rattle.session_answers.specs.HostAnswers.{SessionEnd}
-use Rattle.exchange.specs.Responses.{Given, IsJobCut, IsResponseTo, Named, Response, unanswered}
-use Rattle.exchange.specs.Notes.{HasJobOverlap, IsNoted, IsToldInPart}
-use Rattle.exchange.specs.Contents.{Holding}
-use Rattle.exchange.specs.Outputs.{AreKept, AreKeptInPart, IsLostTold, lost_none, none_opened}
-use Rattle.exchange.specs.Records.{Closed}
-use Rattle.exchange.specs.declared.outputs.Receipts.{Receipts}
-use Rattle.exchange.specs.declared.notes.Answered.{Answered}
-use Rattle.exchange.specs.declared.unwritten.Unwritten.{Unwritten}
-use Rattle.exchange.specs.declared.unwritten.Unwritten.TheVariants.{Answer, Setting, Kept}
+use Rattle.exchange.specs.Responses.{Given, IsJobCut, IsResponseTo, Named, Response}
+use Rattle.named_files.specs.Notes.{unanswered, IsToldInPart}
+use Rattle.exchange.specs.Notes.{HasJobOverlap, IsNoted}
+use Rattle.named_files.specs.Contents.{Holding}
+use Rattle.exchange.specs.Keeping.{AreKept, AreKeptInPart}
+use Rattle.named_files.specs.Outputs.{lost_none, none_opened}
+use Rattle.named_files.specs.Streams.{Closed}
+use Rattle.named_files.specs.declared.outputs.Receipts.{Receipts}
+use Rattle.exchange.specs.declared.answered.Answered.{Answered}
+use Rattle.named_files.specs.declared.unwritten.Unwritten.{Unwritten}
+use Rattle.named_files.specs.declared.unwritten.Unwritten.TheVariants.{Answer, Kept, Nowhere, Setting}
 
 -- so is what is left of what was opened for a job, where this comes of it
 abbrev pub Keeping : Type 1
@@ -48,18 +50,10 @@ pub record IsPrinted (before after : Option (List ℕ)) (printed : Printed) (cod
 abbrev pub IsUnwrittenOf : Answered → Option (List ℕ) → Option (List ℕ) → Unwritten → Type 0
 IsUnwrittenOf done before after (Answer error lost) =
     (lost ≡ done.lost) × IsToldInPart before after done.answer.text
+IsUnwrittenOf done before after Nowhere = ⊥
 IsUnwrittenOf done before after (Setting reason) = ⊥
 IsUnwrittenOf done before after (Kept lost) =
     Appends before after done.answer.text × (lost ≡ done.lost) × (lost ≢ lost_none)
-
--- what was told of it on standard error; where an answer couldn't be written, or a reason is known,
--- it may be any text
-abbrev pub IsUnwrittenTold : Unwritten → Option (List ℕ) → Option (List ℕ) → Type 0
-IsUnwrittenTold (Answer error lost) before after = ⊤
-IsUnwrittenTold (Setting (Some error)) before after = ⊤
-IsUnwrittenTold (Setting None) before after =
-    IsToldInPart before after (codes "exchange: a setting that stands can't be told\n")
-IsUnwrittenTold (Kept lost) before after = IsLostTold lost before after
 
 -- what stood on standard output and on standard error, and stands there in the end
 pub record Streams : Type 0 where

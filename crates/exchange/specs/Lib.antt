@@ -1,11 +1,6 @@
-pub mod Apart
-pub mod Contents
-pub mod Clients
 pub mod Drives
-pub mod Records
-pub mod Responses
-pub mod Outputs
+pub mod Ends
 pub mod Notes
 pub mod Outcomes
-pub mod Live
-pub mod Ends
+pub mod Keeping
+pub mod Responses

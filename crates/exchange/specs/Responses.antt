@@ -1,5 +1,5 @@
 -- What the program prints for a job.
-use Rattle.std.specs.Prelude.{◌≡◌, ◌⊎◌, ◌++◌, ℕ, Bool, List, [], Option, Some, None, ⊤, is_some, unwrap_or}
+use Rattle.std.specs.Prelude.{◌≡◌, ◌⊎◌, ◌++◌, ℕ, List, [], Option, None, ⊤, unwrap_or}
 use Rattle.std.specs.Io.KnownBytes.{Consumes, IsAtEnd}
 use Rattle.batch.specs.Extent.{widest}
 use Rattle.plan_answers.specs.Answers.{IsPlanned, IsChecked}
@@ -12,32 +12,23 @@ use Rattle.plan_answers.specs.Schedules.{source_map}
 use Rattle.plan_answers.specs.declared.source.Source.{Source}
 use Rattle.crossbar.specs.Switch.{idle}
 use Rattle.batch_book.specs.History.{Account}
-use Rattle.module_memory.specs.Store.{Store}
-use Rattle.clap.specs.Words.{Text}
-use Rattle.session_answers.specs.HostAnswers.{KnownClients, SessionEnd, AreHosted}
+use Rattle.session_answers.specs.HostAnswers.{KnownClients, SessionEnd}
 use Rattle.switch_end.specs.End.{EndState}
 use Rattle.switch_end.specs.Answering.{HasRun}
-use Rattle.plan_answers.specs.Refusals.{Printed, Refuses}
+use Rattle.plan_answers.specs.Refusals.{Printed}
 use Rattle.session_answers.specs.Serving.{IsServeAnswer}
-use Rattle.session_answers.specs.Talking.{HasTalked, IsUntouched}
-use Rattle.rack_answers.specs.Openings.{IsRackOf, IsWrongRack}
-use Rattle.record_replay.specs.declared.fault.RecordFault.{RecordFault}
-use Rattle.replay_answers.specs.Replays.{IsReplayPrinted, of_record}
+use Rattle.replay_answers.specs.Replays.{IsReplayPrinted}
 use Rattle.plan_answers.specs.declared.limits.TheConstants.{DONE, REFUSED}
 use Rattle.command_words.specs.Jobs.{Files, file_uses, files_of}
 use Rattle.command_words.specs.declared.jobs.Job.{Job}
-use Rattle.command_words.specs.declared.jobs.SharedRack.{SharedRack}
 use Rattle.command_words.specs.declared.jobs.Job.TheVariants.{Plan, Check, Draw, Switch, Orders, Drive, C004, Direct, Apply, Run, Serve, Host, Talk, Replay}
-use Rattle.refusals.specs.declared.refusal.Refusal.{Refusal}
-use Rattle.refusals.specs.declared.refusal.Refusal.TheVariants as refusal
-use Rattle.refusals.specs.Refusals.{refusal_line}
-use Rattle.exchange.specs.Apart.{AreSeenApart, Leading}
-use Rattle.exchange.specs.Contents.{AreContents, Holding}
+use Rattle.named_files.specs.Apart.{AreSeenApart, Leading}
+use Rattle.named_files.specs.Contents.{AreContents, Holding}
 use Rattle.drive_answers.specs.Ways.{Ways}
-use Rattle.exchange.specs.Records.{BeginsFor, IsWrongFor}
 use Rattle.exchange.specs.Drives.{IsDriveBy, IsDriveCut, names_in}
-use Rattle.exchange.specs.declared.unanswered.Unanswered.{Unanswered}
-use Rattle.exchange.specs.declared.unanswered.Unanswered.TheVariants.{File, NoMemory}
+use Rattle.named_files.specs.declared.unanswered.Unanswered.{Unanswered}
+use Rattle.named_files.specs.Notes.{unanswered}
+use Rattle.kept_sessions.specs.Answers.{IsLiveAnswer, hosting, talking}
 
 -- what is given to a job besides its files: what is left of standard input, as far as that is
 -- known, the ports, and what is known of clients by their names
@@ -100,56 +91,6 @@ IsTextAnswer (Run shape batch source image workers) files end =
 IsTextAnswer (Replay shape recorded image first) files end =
     IsReplayPrinted shape (text_in files.list) files.image first end
 IsTextAnswer job files end = ⊥
-
--- how sessions go on from one book to another, what is so where none begins, and why none may where
--- rack and record are right
-pub record Sessions : Type 1 where
-  pub served : Account → Account → Type 0
-  pub unserved : Type 0
-  pub may_refuse : Refusal → Type 0
-
--- why no session begins: the rack is wrong, or else its record
-abbrev pub IsWrongStart : Holding → SharedRack → List Text → Option (List ℕ) → Refusal → Type 0
-IsWrongStart holds rack names image refusal =
-    IsWrongRack rack.shape image refusal
-    ⊎ ((opening : Store) × IsRackOf rack.shape image opening
-    × (fault : RecordFault) × IsWrongFor holds rack.record_out opening names fault
-    × (refusal ≡ of_record fault))
-
--- Sessions on the rack of the shape and the image, by clients of these names, began with the book
--- of their record, and leave this book; or there is a refusal, and none is left.
-abbrev pub IsLiveAnswer : Holding → SharedRack → List Text → Option (List ℕ) → Sessions → Printed
-    → Option Account → Type 0
-IsLiveAnswer holds rack names image sessions end None =
-    sessions.unserved × ((refusal : Refusal) × Refuses refusal end
-    × (IsWrongStart holds rack names image refusal
-    ⊎ ((opening : Store) × IsRackOf rack.shape image opening × sessions.may_refuse refusal)))
-IsLiveAnswer holds rack names image sessions end (Some book) =
-    (opening : Store) × IsRackOf rack.shape image opening
-    × (was : Account) × BeginsFor holds rack.record_out opening names was
-    × sessions.served was book
-
--- an entry of such a record may be lost
-abbrev pub loses : SharedRack → Bool
-loses rack = is_some rack.record_out
-
--- the sessions of a host's clients, which ended so
-abbrev pub hosting : SharedRack → KnownClients → List SessionEnd → Printed → Sessions
-hosting rack clients ends end =
-    record {
-      served = λ was book. AreHosted (loses rack) was clients ends end book;
-      unserved = ends ≡ [];
-      may_refuse = λ why. why ≡ refusal.Threads;
-    }
-
--- the session of one client, which was told this
-abbrev pub talking : SharedRack → Option (List ℕ) → Option (List ℕ) → List ℕ → Printed → Sessions
-talking rack before after told end =
-    record {
-      served = λ was book. HasTalked (loses rack) was before after told end book;
-      unserved = IsUntouched before after told;
-      may_refuse = λ why. ⊥;
-    }
 
 -- the answer to a job that has no sessions, where this is left of standard input, and the ports are
 -- left so; it was told this before
@@ -235,15 +176,6 @@ IsJobCut holds given job ports ends told =
 abbrev pub IsTalk : Job → Type 0
 IsTalk (Talk rack) = ⊤
 IsTalk job = ⊥
-
--- which refusal that is
-abbrev pub refusal_of : Unanswered → Refusal
-refusal_of File = refusal.File
-refusal_of NoMemory = refusal.NoMemory
-
--- what is printed where there is no answer
-abbrev pub unanswered : Unanswered → Printed
-unanswered why = record { text = refusal_line (refusal_of why); status = REFUSED }
 
 -- what a system has by name: what its files hold, and where names lead
 pub record Named : Type 1 where

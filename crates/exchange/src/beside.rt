@@ -2,8 +2,8 @@
 
 ghost use Rattle.std.specs.Prelude.{◌≡◌};
 
-use crate::notes::tell_line;
 use client_session::Listener;
+use named_files::tell_line;
 use refusal_notes::session_line;
 use refusals::Refusal;
 use std::alloc::Global;

@@ -4,21 +4,20 @@ ghost use Rattle.std.specs.Prelude.{◌≡◌, [], List, ℕ, IfOk, IfErr};
 ghost use Rattle.std.specs.Io.KnownBytes.{Appends};
 ghost use Rattle.drive_answers.specs.Ways.{names_of};
 ghost use Rattle.drive_answers.specs.declared.fault.DriveFault.TheVariants.{NoMemory, Untold};
-ghost use Rattle.exchange.specs.Contents.{contents_in};
+ghost use Rattle.named_files.specs.Contents.{contents_in};
 ghost use Rattle.exchange.specs.Drives.{IsDriveBy, IsDriveCut};
-ghost use Rattle.exchange.specs.Outcomes.{HasTold, IsMissedFor, IsNoAnswer};
+ghost use Rattle.exchange.specs.Outcomes.{HasTold, IsMissedFor};
+ghost use Rattle.named_files.specs.Notes.{IsNoAnswer};
 ghost use Rattle.exchange.specs.Responses.{source_in, text_in};
 
-use crate::contents::{Contents, slice_of, source_with, text_of};
-use crate::found::{Found, Lack};
-use crate::notes::NoAnswer;
-use crate::unwritten::Unwritten;
 use command_words::Text;
 use crossbar::Chip;
 use drive_answers::{
     DriveEnd, DriveFault, PortFailure, PortFile, PortNames, Ports, Sight, answer_drive,
 };
 use exchange_limits::WorkerCount;
+use kept_sessions::Found;
+use named_files::{Contents, Lack, NoAnswer, Unwritten, slice_of, source_with, text_of};
 use plan_answers::Source;
 use refusals::PortName;
 use std::alloc::{AllocError, Global};

@@ -5,33 +5,33 @@ ghost use Rattle.std.specs.Io.KnownBytes.{Appends};
 ghost use Rattle.batch_book.specs.History.{Account};
 ghost use Rattle.plan_answers.specs.Lent.{bytes_of};
 ghost use Rattle.command_words.specs.Jobs.{IsWithinLimits, file_uses, files_of};
-ghost use Rattle.exchange.specs.Apart.{AreSeenApart};
-ghost use Rattle.exchange.specs.Contents.{AreContents, contents_in};
-ghost use Rattle.exchange.specs.Clients.{clients_by, ends_of};
+ghost use Rattle.named_files.specs.Apart.{AreSeenApart};
+ghost use Rattle.named_files.specs.Contents.{AreContents, contents_in};
+ghost use Rattle.named_files.specs.Clients.{clients_by, ends_of};
 ghost use Rattle.exchange.specs.Responses.{IsAnswerTo, IsC004By, IsC004Cut, IsJobAnswer, HasNoSessions, IsJobCut, IsOfTexts, IsPlainAnswer, IsTextAnswer, IsToldCut, KeepsPorts, LeavesRest, given_by, text_in as the_text};
 ghost use Rattle.exchange.specs.Notes.{HasJobOverlap, HasOverlap, IsBeside};
-ghost use Rattle.exchange.specs.Outputs.{AreKept, AreKeptBut, AreNamed, AreOpened, begins_with, is_live, lost_none, output_of, record_of};
-ghost use Rattle.exchange.specs.Outcomes.{HasNote, HasTold, IsNoAnswer, IsNothing, IsRefused, IsUnanswered, response_of};
+ghost use Rattle.exchange.specs.Keeping.{AreKept, AreKeptBut};
+ghost use Rattle.named_files.specs.Outputs.{AreNamed, AreOpened, begins_with, is_live, lost_none, output_of, record_of};
+ghost use Rattle.exchange.specs.Outcomes.{HasNote, HasTold, IsNothing, IsUnanswered, response_of};
+ghost use Rattle.named_files.specs.Notes.{IsNoAnswer, IsRefused};
 
+use crate::answered::{Answered, finished};
 use crate::beside::Beside;
-use crate::contents::{Contents, read_contents, slice_of, source_with, text_of};
 use crate::driving::drive;
-use crate::found::Found;
-use crate::live::Kept;
-use crate::lost::Lost;
-use crate::notes::{Answered, NoAnswer, finished, reason_line, tell_note};
-use crate::outputs::{Outputs, Receipts, close_outputs, open_apart};
 use crate::overlaps::{tell_overlap, tell_overlap_beside};
 use crate::peers::Peers;
-use crate::sessions::{host, serve, talk};
-use crate::system::{Runtime, System};
 use crate::torn::tell_torn;
 use crate::unopened::{no_lacks, tell_lacks};
-use crate::unwritten::Unwritten;
+use crate::unserved::{close_outputs, without_sessions};
 use client_session::NoListener;
 use command_words::{Job, Request, Text};
 use drive_answers::{PortNames, Ports};
 use exchange_limits::WorkerCount;
+use kept_sessions::{Found, Kept, host, serve, talk};
+use named_files::{
+    Contents, Lost, NoAnswer, Outputs, Receipts, Runtime, System, Unwritten, open_apart,
+    read_contents, reason_line, slice_of, source_with, tell_note, text_of,
+};
 use plan_answers::{Answer, answer_check, answer_direct, answer_draw, answer_plan};
 use rack_answers::{answer_apply, answer_orders, answer_run, answer_switch};
 use replay_answers::answer_replay;
@@ -137,26 +137,6 @@ fn read_opened<S: System, I: Read>(
 {
     opened?;
     read_contents(system, alloc, job.files(), input)
-}
-
-/// What comes of a job by whose sessions nothing is written.
-fn without_sessions<S: System>(
-    system: &S,
-    job: &Job,
-    end: Result<Found, NoAnswer>,
-    outputs: Outputs<'_, S::Stream>,
-) -> Kept<S::Receipt>
-    requires { AreOpened S.Stream.contents (begins_with (S.holds system.now) (is_live job.now))
-        (record_of job.now) (output_of job.now) outputs }
-    ensures end { result.end ≡ end }
-    ensures lost { result.lost ≡ lost_none }
-    ensures unkept { AreKept (S.holds system.now) S.received job.now None result.receipts }
-{
-    Kept {
-        end,
-        receipts: close_outputs(system, job, outputs),
-        lost: Lost::none(),
-    }
 }
 
 /// What comes of a job whose files contain this, and of the files that are open for it.

@@ -20,39 +20,23 @@
 //! of `specs/Notes.antt`).
 #![tactic(auto)]
 
-mod apart;
+mod answered;
 mod beside;
-mod client_streams;
-mod contents;
 mod driving;
-mod found;
-mod host_system;
 mod jobs;
 mod limits;
-mod live;
-mod lost;
-mod notes;
-mod output_file;
-mod outputs;
 mod overlaps;
 mod peers;
-mod ports;
-mod recording;
 mod responding;
-mod sent_file;
-mod sessions;
-mod system;
 mod texts;
 mod torn;
-mod unanswered;
 mod unopened;
-mod unwritten;
+mod unserved;
 
 use crate::limits::UNWRITTEN;
 use crate::peers::Peers;
-use crate::ports::HostPorts;
 use crate::responding::{Left, respond};
-use crate::unwritten::Unwritten;
+use named_files::{HostPorts, Unwritten};
 use std::fs::{File, OpenOptions};
 use std::os::fd::{AsRawFd, IntoRawFd};
 use std::process::ExitCode;

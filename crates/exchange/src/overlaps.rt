@@ -2,14 +2,14 @@
 //! It is no refusal, since the switch doesn't mind.
 
 ghost use Rattle.std.specs.Prelude.{◌≡◌, IfSome, string_bytes};
-ghost use Rattle.exchange.specs.Contents.{contents_in};
-ghost use Rattle.exchange.specs.Notes.{HasOverlap, IsBeside, IsWholeLine, SetsSwitches};
+ghost use Rattle.named_files.specs.Contents.{contents_in};
+ghost use Rattle.exchange.specs.Notes.{HasOverlap, IsBeside, SetsSwitches};
+ghost use Rattle.named_files.specs.Notes.{IsWholeLine};
 ghost use Rattle.exchange.specs.Responses.{text_in};
 
-use crate::contents::{Contents, text_of};
-use crate::notes::tell_line;
 use batch::{Batch, Shape};
 use command_words::{Job, Request};
+use named_files::{Contents, tell_line, text_of};
 use plan_answers::Answer;
 use refusal_notes::{Named, Texts, second_line};
 use refusals::Refusal;

@@ -4,24 +4,20 @@
 ghost use Rattle.std.specs.Prelude.{◌≡◌, [], ◌⊎◌, IfErr, IfOk, OnErr, option_map, string_bytes};
 ghost use Rattle.std.specs.Process.{exit_status};
 ghost use Rattle.command_words.specs.Jobs.{texts_of};
-ghost use Rattle.exchange.specs.Responses.{given_by, named_by, unanswered};
-ghost use Rattle.exchange.specs.Notes.{IsToldInPart, IsToldUnless};
-ghost use Rattle.exchange.specs.Clients.{clients_by, ends_of};
-ghost use Rattle.exchange.specs.Outputs.{lost_none};
-ghost use Rattle.exchange.specs.Ends.{IsLeft, IsNoneLeft, IsPrinted, leaving, streams_of, IsCutFor, IsEndForArguments, IsEndWithoutArguments, IsFaultCut, IsFaultEnd};
-ghost use Rattle.exchange.specs.Ends.{IsUnwrittenOf, IsUnwrittenTold};
+ghost use Rattle.exchange.specs.Responses.{given_by, named_by};
+ghost use Rattle.named_files.specs.Notes.{unanswered, IsToldInPart, IsToldUnless};
+ghost use Rattle.named_files.specs.Clients.{clients_by, ends_of};
+ghost use Rattle.named_files.specs.Outputs.{lost_none, IsUnwrittenTold};
+ghost use Rattle.exchange.specs.Ends.{IsLeft, IsNoneLeft, IsPrinted, leaving, streams_of, IsCutFor, IsEndForArguments, IsEndWithoutArguments, IsFaultCut, IsFaultEnd, IsUnwrittenOf};
 
+use crate::answered::Answered;
 use crate::jobs::{Ended, answer_to};
 use crate::limits::{MISUSED, UNWRITTEN};
-use crate::notes::{Answered, NoAnswer, tell_note};
-use crate::outputs::Receipts;
 use crate::peers::Peers;
-use crate::system::{Runtime, System};
-use crate::unanswered::Unanswered;
-use crate::unwritten::Unwritten;
 use byte_streams::write_bytes;
 use command_words::{ArgumentsFault, read_arguments};
 use drive_answers::Ports;
+use named_files::{NoAnswer, Receipts, Runtime, System, Unanswered, Unwritten, tell_note};
 use plan_answers::{Answer, DONE, REFUSED};
 use refusals::Refusal;
 use std::alloc::{AllocError, Global};
@@ -253,7 +249,7 @@ fn print_noted<O: Write, E: Write>(
 }
 
 /// Prints why there is no answer, then tells what there is to tell beside it, and gives the status
-/// of a refusal.
+/// of a refusal. Where standard output is a file of the job, nothing is printed there.
 fn refuse_noted<O: Write, E: Write>(
     why: Unanswered,
     note: &Option<String>,
@@ -268,6 +264,10 @@ fn refuse_noted<O: Write, E: Write>(
     ensures told { IsToldUnless is_quiet (option_map (λ line. string_bytes line) note.now)
         (E.contents err.old) (E.contents err.new) }
 {
+    if let Unanswered::Output = why {
+        tell_note(note, is_quiet, err);
+        return Err(Unwritten::Nowhere);
+    }
     let status = refuse(why, out)?;
     tell_note(note, is_quiet, err);
     Ok(status)

@@ -1,9 +1,9 @@
 //! What the second line of a refusal is told of.
 
-use crate::contents::{Contents, slice_of};
-use crate::found::Found;
 use batch::position_of;
 use command_words::{Job, Text};
+use kept_sessions::Found;
+use named_files::{Contents, slice_of};
 use record_replay::RecordError;
 use refusal_notes::{Listing, Named, Texts};
 use refusals::Refusal;

@@ -1,10 +1,9 @@
 //! What is told on standard error beside `replay`: how far a record goes that hasn't ended.
 
-ghost use Rattle.exchange.specs.Notes.{HasToldLines};
+ghost use Rattle.named_files.specs.Notes.{HasToldLines};
 
-use crate::found::Lack;
-use crate::notes::{lack_line, tell_line};
 use command_words::Text;
+use named_files::{Lack, lack_line, tell_line};
 use replay_answers::Torn;
 use std::alloc::{AllocError, Global};
 use std::io::Write;

@@ -1,10 +1,9 @@
 //! What is told on standard error beside `host`: which files of clients couldn't be opened, and
 //! why.
 
-ghost use Rattle.exchange.specs.Notes.{HasToldLines};
+ghost use Rattle.named_files.specs.Notes.{HasToldLines};
 
-use crate::found::Lack;
-use crate::notes::{lack_line, tell_line};
+use named_files::{Lack, lack_line, tell_line};
 use std::alloc::{AllocError, Global};
 use std::io::Write;
 use std::sync::OnceLock;

@@ -1,6 +1,6 @@
 use Rattle.std.proofs.Common.{ap, rules}
 use Rattle.drive_answers.specs.Ways.{names_of}
-use Rattle.exchange.specs.Contents.{contents_in}
+use Rattle.named_files.specs.Contents.{contents_in}
 use Rattle.exchange.specs.Responses.{source_in, text_in}
 use Rattle.exchange.proofs.Lines.{by_lines, cut_by, driven_by}
 use Rattle.exchange.proofs.driving.answer_lines.Goals as goal

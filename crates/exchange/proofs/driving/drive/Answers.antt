@@ -1,6 +1,6 @@
 use Rattle.std.proofs.Common.{ℕ, List, Err}
 use Rattle.std.specs.Prelude.{⊤}
-use Rattle.exchange.specs.declared.found.Found.{Found}
+use Rattle.kept_sessions.specs.declared.found.Found.{Found}
 use Rattle.exchange.proofs.Lines.{missed_behind}
 use Rattle.exchange.proofs.driving.drive.Goals as goal
 

@@ -1,7 +1,7 @@
 use Rattle.std.proofs.Common.{[], refl}
 use Rattle.std.proofs.KnownBytes.{Appends-nil}
-use Rattle.exchange.specs.Clients.{clients_by}
-use Rattle.exchange.specs.Contents.{contents_in}
+use Rattle.named_files.specs.Clients.{clients_by}
+use Rattle.named_files.specs.Contents.{contents_in}
 use Rattle.exchange.specs.Responses.{given_by}
 use Rattle.exchange.proofs.Comes.{err_so, leaves_rest, none_of, ok_so, on_err, told_kept, told_plain}
 use Rattle.exchange.proofs.Told.{none_served}

@@ -1,4 +1,4 @@
-use Rattle.exchange.specs.Contents.{contents_in}
+use Rattle.named_files.specs.Contents.{contents_in}
 use Rattle.exchange.proofs.jobs.answer_texts.Goals as goal
 
 pub returns-in_ok-answer_plan-in-Plan : goal.returns-in_ok-answer_plan-in-Plan

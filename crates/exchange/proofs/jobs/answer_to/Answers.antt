@@ -1,8 +1,8 @@
 use Rattle.std.proofs.Common.{[], refl}
 use Rattle.std.proofs.KnownBytes.{Appends-nil}
 use Rattle.exchange.specs.Outcomes.{IsUnanswered}
-use Rattle.exchange.specs.Clients.{clients_by, ends_of}
-use Rattle.exchange.specs.Contents.{contents_in}
+use Rattle.named_files.specs.Clients.{clients_by, ends_of}
+use Rattle.named_files.specs.Contents.{contents_in}
 use Rattle.exchange.specs.Responses.{IsJobCut, given_by}
 use Rattle.exchange.proofs.Comes.{always, err_finished, finish, none_of, refused_so, so_where_ok}
 use Rattle.exchange.proofs.Told.{beside_of, none_served}

@@ -1,9 +1,9 @@
 use Rattle.std.proofs.Common.{List, ℕ, subst}
 use Rattle.std.specs.Prelude.{IfOk}
 use Rattle.command_words.specs.Jobs.{Files}
-use Rattle.exchange.specs.Contents.{AreContents, contents_in}
+use Rattle.named_files.specs.Contents.{AreContents, contents_in}
 use Rattle.exchange.proofs.Comes.{ok_so}
-use Rattle.exchange.proofs.Reading.{as_many}
+use Rattle.named_files.proofs.Reading.{as_many}
 use Rattle.exchange.proofs.jobs.read_opened.Goals as goal
 
 pub returns-clause-contents : goal.returns-clause-contents

@@ -1,10 +1,12 @@
 use Rattle.std.proofs.Common.{◌≡◌, [], None, refl, subst, sym}
-use Rattle.exchange.specs.Clients.{clients_by, ends_of}
+use Rattle.named_files.specs.Clients.{clients_by, ends_of}
 use Rattle.exchange.specs.Ends.{IsLeft, IsNoneLeft, leaving, streams_of}
-use Rattle.exchange.specs.Outcomes.{IsNoAnswer, IsUnanswered}
-use Rattle.exchange.specs.Outputs.{AreKeptBut, lost_none}
-use Rattle.exchange.specs.Responses.{Response, given_by, named_by, unanswered}
-use Rattle.exchange.specs.declared.notes.NoAnswer.TheVariants.{Refused}
+use Rattle.named_files.specs.Notes.{IsNoAnswer, unanswered}
+use Rattle.exchange.specs.Outcomes.{IsUnanswered}
+use Rattle.exchange.specs.Keeping.{AreKeptBut}
+use Rattle.named_files.specs.Outputs.{lost_none}
+use Rattle.exchange.specs.Responses.{Response, given_by, named_by}
+use Rattle.named_files.specs.declared.notes.NoAnswer.TheVariants.{Refused}
 use Rattle.exchange.proofs.Told.{answered, answered_in_part, asked, not_answered, refused_in_part}
 use Rattle.exchange.proofs.responding.print_response.Goals as goal
 

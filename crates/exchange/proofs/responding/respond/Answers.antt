@@ -1,6 +1,6 @@
 use Rattle.std.proofs.Common.{ℕ, List, Option, refl}
 use Rattle.command_words.specs.Jobs.{texts_of}
-use Rattle.exchange.specs.Clients.{clients_by, ends_of}
+use Rattle.named_files.specs.Clients.{clients_by, ends_of}
 use Rattle.exchange.specs.Ends.{IsEndForArguments, IsEndWithoutArguments, IsLeft, IsNoneLeft, streams_of}
 use Rattle.exchange.specs.Responses.{given_by, named_by}
 use Rattle.exchange.proofs.Told.{ended, ended_so, ended_status, none_served}

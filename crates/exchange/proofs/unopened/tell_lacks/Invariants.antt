@@ -1,5 +1,5 @@
 use Rattle.std.proofs.Common.{ℕ, List}
-use Rattle.exchange.specs.Notes.{AreToldLines}
+use Rattle.named_files.specs.Notes.{AreToldLines}
 use Rattle.exchange.proofs.unopened.tell_lacks.Given as goal
 
 abbrev pub invariant-loop-lack : goal.invariant-loop-lack

@@ -1,5 +1,0 @@
-use Rattle.exchange.proofs.Told.{begun}
-use Rattle.exchange.proofs.notes.tell_line.Goals as goal
-
-pub returns : goal.returns
-returns g c = begun c.write_bytes.result _ _ _ c.write_bytes.ensures.went c.write_bytes.ensures.cut

@@ -1,0 +1,46 @@
+//! What comes of a job by whose sessions nothing is written.
+
+ghost use Rattle.std.specs.Prelude.{◌≡◌, None};
+ghost use Rattle.named_files.specs.Outputs.{AreOpened, begins_with, is_live, lost_none, output_of, record_of};
+ghost use Rattle.exchange.specs.Keeping.{AreKept};
+
+use command_words::Job;
+use kept_sessions::{Found, Kept};
+use named_files::{Lost, NoAnswer, Outputs, Receipts, System, close_file};
+
+/// Closes the files that are open, where nothing went to them.
+pub(crate) fn close_outputs<S: System>(
+    system: &S,
+    job: &Job,
+    outputs: Outputs<'_, S::Stream>,
+) -> Receipts<S::Receipt>
+    requires { AreOpened S.Stream.contents (begins_with (S.holds system.now) (is_live job.now))
+        (record_of job.now) (output_of job.now) outputs }
+    ensures { AreKept (S.holds system.now) S.received job.now None result }
+{
+    let Outputs { recorded, image } = outputs;
+    Receipts {
+        recorded: close_file(system, recorded),
+        image: close_file(system, image),
+    }
+}
+
+/// What comes of a job by whose sessions nothing is written.
+pub(crate) fn without_sessions<S: System>(
+    system: &S,
+    job: &Job,
+    end: Result<Found, NoAnswer>,
+    outputs: Outputs<'_, S::Stream>,
+) -> Kept<S::Receipt>
+    requires { AreOpened S.Stream.contents (begins_with (S.holds system.now) (is_live job.now))
+        (record_of job.now) (output_of job.now) outputs }
+    ensures end { result.end ≡ end }
+    ensures lost { result.lost ≡ lost_none }
+    ensures unkept { AreKept (S.holds system.now) S.received job.now None result.receipts }
+{
+    Kept {
+        end,
+        receipts: close_outputs(system, job, outputs),
+        lost: Lost::none(),
+    }
+}

@@ -1,0 +1,5 @@
+pub mod Begun
+pub mod Held
+pub mod Lived
+pub mod Served
+pub mod Started

@@ -1,0 +1,126 @@
+-- How live sessions begin.
+use Rattle.std.proofs.Common.{◌≡◌, ◌≢◌, ◌⊎◌, ◌∙◌, ◌++◌, ◌∷◌, rules, ℕ, Bool, List, [], Option, Some, None, IfSome, IfOk, IfErr, Result, Ok, Err, true, false, is_some, append-nil, ap, inl, inr, sym, subst, refl, take}
+use Rattle.std.specs.Prelude.{option_map}
+use Rattle.clap.specs.Words.{Text}
+use Rattle.module_memory.specs.Store.{Store}
+use Rattle.batch_book.specs.History.{Account, AreUnstopped, new_account}
+use Rattle.plan_answers.specs.Refusals.{Refuses}
+use Rattle.rack_answers.specs.Openings.{IsRackOf, IsWrongRack}
+use Rattle.refusals.specs.declared.refusal.Refusal.{Refusal}
+use Rattle.refusals.specs.declared.refusal.Refusal.TheVariants.{NoMemory}
+use Rattle.replay_answers.specs.Replays.{of_record}
+use Rattle.command_words.specs.declared.jobs.RecordFile.{RecordFile}
+use Rattle.command_words.specs.declared.jobs.SharedRack.{SharedRack}
+use Rattle.kept_sessions.specs.Live.{HasFront, IsStarted, IsUnstarted}
+use Rattle.named_files.specs.Notes.{IsRefused}
+use Rattle.kept_sessions.specs.Outcomes.{IsToldOf, IsUnbegun, IsUnbegunFor}
+use Rattle.named_files.specs.Outputs.{IsOpened}
+use Rattle.kept_sessions.specs.Records.{BeginsAs, IsAsBegun, IsBegun, head_for, record_front}
+use Rattle.named_files.specs.Streams.{Closed, closed}
+use Rattle.kept_sessions.specs.Answers.{IsWrongStart}
+use Rattle.kept_sessions.specs.declared.found.Found.{Found}
+use Rattle.kept_sessions.specs.declared.live.Start.{Start}
+use Rattle.kept_sessions.specs.declared.live.Unstarted.{Unstarted}
+use Rattle.named_files.specs.declared.notes.NoAnswer.{NoAnswer}
+use Rattle.named_files.specs.declared.outputs.OutFile.{OutFile}
+use Rattle.kept_sessions.specs.declared.recording.Unbegun.{Unbegun}
+use Rattle.kept_sessions.specs.declared.recording.Unbegun.TheVariants.{Missed, Wrong}
+
+-- nothing stands before nothing
+none_before : (front rest : List ℕ) → front ++ rest ≡ [] → front ≡ []
+none_before [] rest is = refl
+none_before (x ∷ front) rest is = absurd cc
+
+-- what stands where the head couldn't be written whole
+front_begun : (resumes : Bool) (rack : Store) (names : List Text) (was : Account) (held head text front rest : List ℕ) (kept : ℕ)
+    → BeginsAs resumes held rack names was → take kept held ++ head ≡ record_front names was → ((kept ≡ 0) × (was ≡ new_account rack)) ⊎ (head ≡ []) → head ≡ front ++ rest → text ≡ take kept held ++ front → IsBegun resumes held names text
+front_begun resumes rack names was held head text front rest kept begins is (inl new) parts said =
+    let none : take kept held ≡ [] = ap (λ (n : ℕ). take n held) new.0 in
+    let new_front : record_front names was ≡ head_for rack names = ap (record_front names) new.1 ∙ append-nil (head_for rack names) in
+    let whole : head ≡ head_for rack names = sym (ap (λ (x : List ℕ). x ++ head) none) ∙ is ∙ new_front in
+    let text_is : text ≡ front = said ∙ ap (λ (x : List ℕ). x ++ front) none in
+    (rack, was, begins, inl (rest, new.1, sym whole ∙ parts ∙ ap (λ (x : List ℕ). x ++ rest) (sym text_is)))
+front_begun resumes rack names was held head text front rest kept begins is (inr none) parts said =
+    let nothing : front ≡ [] = none_before front rest (sym parts ∙ none) in
+    let kept_is : take kept held ≡ record_front names was = sym (append-nil (take kept held)) ∙ ap (λ (x : List ℕ). take kept held ++ x) (sym none) ∙ is in
+    (rack, was, begins, inr ([], [], [], refl, said ∙ ap (λ (x : List ℕ). take kept held ++ x) nothing ∙ ap (λ (x : List ℕ). x ++ []) kept_is))
+
+-- how a file is left that couldn't begin
+pub unstarted_file : {C : Type 0} (received : C → Closed) (resumes : Bool) (rack : Store) (names : List Text) (was : Account) (held lent head said : List ℕ) (kept : ℕ) (after : Option (List ℕ)) (receipt : Option C)
+    → lent ≡ held → said ≡ head → BeginsAs resumes held rack names was → take kept held ++ head ≡ record_front names was → ((kept ≡ 0) × (was ≡ new_account rack)) ⊎ (head ≡ [])
+    → ((text : List ℕ) × (after ≡ Some text) × ((text ≡ lent) ⊎ ((front rest : List ℕ) × (said ≡ front ++ rest) × (text ≡ take kept lent ++ front))))
+    → option_map received receipt ≡ Some (closed after false) → IfSome receipt (λ r. (text : List ℕ) × (received r ≡ closed (Some text) false) × ((text ≡ held) ⊎ IsBegun resumes held names text))
+unstarted_file received resumes rack names was held lent head said kept after None same is begins front new t closed_is = tt
+unstarted_file received resumes rack names was held lent head said kept after (Some r) same is begins front new t closed_is =
+    let one : received r ≡ closed after false = (let e : Some (received r) ≡ Some (closed after false) = closed_is in cc) in
+    let two : received r ≡ closed (Some t.0) false = one ∙ ap (λ (b : Option (List ℕ)). closed b false) t.1 in (
+      t.0,
+      two,
+      elim t.2 [
+        | inl all ↦ inl (all ∙ same)
+        | inr part ↦ inr (front_begun resumes rack names was held head t.0 part.0 part.1 kept begins front new (sym is ∙ part.2) (part.3 ∙ ap (λ (x : List ℕ). take kept x ++ part.0) same))
+      ],
+    )
+
+-- what sessions begin with whose record has a file
+pub started_in : {F U : Type 0} (r : Result (Start F) U) (holds : List ℕ → List ℕ → Type 0) (contents : F → Option (List ℕ)) (record_out : Option RecordFile) (rack : Store) (names : List Text) (resumes : Bool) (out : OutFile F)
+    → IsOpened contents holds (option_map (λ (o : RecordFile). o.name) record_out) (Some out) → IfSome record_out (λ o. resumes ≡ o.resumes)
+    → IfOk r (λ start. BeginsAs resumes out.held.items rack names start.book × (start.book.whole ≡ true) × AreUnstopped start.book.history × (is_some start.stream ≡ true) × HasFront contents names start.book start.stream)
+    → IfOk r (IsStarted holds contents record_out rack names)
+started_in (Err e) holds contents record_out rack names resumes out opened resume is = tt
+started_in (Ok start) holds contents None rack names resumes out opened resume is = absurd (let bad : None ≡ Some out.name.now = opened.0 in cc)
+started_in (Ok start) holds contents (Some file) rack names resumes out opened resume is =
+    let name : out.name.now ≡ file.name = (let e : Some file.name ≡ Some out.name.now = opened.0 in cc) in
+    record {
+      begins = (out.held.items, subst (λ (n : Text). holds n out.held.items) name opened.1, subst (λ (b : Bool). BeginsAs b out.held.items rack names start.book) resume is.0);
+      whole = is.1;
+      unstopped = is.2;
+      stream = is.3;
+      front = is.4;
+    }
+
+-- why they don't begin
+unbegun_for : (holds : List ℕ → List ℕ → Type 0) (file : RecordFile) (rack : Store) (names : List Text) (resumes : Bool) (held : List ℕ) (why : Unbegun) → resumes ≡ file.resumes → holds file.name held → IsUnbegun resumes held (head_for rack names) rack why → IsUnbegunFor holds (Some file) rack names why
+unbegun_for holds file rack names resumes held (Missed missed) same has is = is
+unbegun_for holds file rack names resumes held (Wrong error) same has is = (sym same ∙ is.0, held, has, is.1)
+
+left_in : {C : Type 0} (holds : List ℕ → List ℕ → Type 0) (received : C → Closed) (file : RecordFile) (names : List Text) (resumes : Bool) (held : List ℕ) (receipt : Option C) → resumes ≡ file.resumes → holds file.name held
+    → IfSome receipt (λ r. (text : List ℕ) × (received r ≡ closed (Some text) false) × ((text ≡ held) ⊎ IsBegun resumes held names text)) → IsAsBegun holds received (Some file) names receipt
+left_in holds received file names resumes held None same has is = tt
+left_in holds received file names resumes held (Some r) same has is =
+    (held, is.0, has, is.1, subst (λ (b : Bool). (is.0 ≡ held) ⊎ IsBegun b held names is.0) same is.2)
+
+pub unstarted_in : {F C : Type 0} (r : Result (Start F) (Unstarted C)) (holds : List ℕ → List ℕ → Type 0) (contents : F → Option (List ℕ)) (received : C → Closed) (record_out : Option RecordFile) (rack : Store) (names : List Text) (resumes : Bool) (out : OutFile F)
+    → IsOpened contents holds (option_map (λ (o : RecordFile). o.name) record_out) (Some out) → IfSome record_out (λ o. resumes ≡ o.resumes)
+    → IfErr r (λ end. IsUnbegun resumes out.held.items (head_for rack names) rack end.why × IfSome end.receipt (λ r. (text : List ℕ) × (received r ≡ closed (Some text) false) × ((text ≡ out.held.items) ⊎ IsBegun resumes out.held.items names text)))
+    → IfErr r (IsUnstarted holds received record_out rack names)
+unstarted_in (Ok start) holds contents received record_out rack names resumes out opened resume is = tt
+unstarted_in (Err end) holds contents received None rack names resumes out opened resume is = absurd (let bad : None ≡ Some out.name.now = opened.0 in cc)
+unstarted_in (Err end) holds contents received (Some file) rack names resumes out opened resume is =
+    let name : out.name.now ≡ file.name = (let e : Some file.name ≡ Some out.name.now = opened.0 in cc) in
+    let has = subst (λ (n : Text). holds n out.held.items) name opened.1 in
+    record { why = unbegun_for holds file rack names resumes out.held.items end.why resume has is.0; left = left_in holds received file names resumes out.held.items end.receipt resume has is.1 }
+
+-- what they begin with without a record
+pub started_none : {F : Type 0} (holds : List ℕ → List ℕ → Type 0) (contents : F → Option (List ℕ)) (record_out : Option RecordFile) (rack : Store) (names : List Text) (book : Account) → None ≡ option_map (λ (o : RecordFile). o.name) record_out → book ≡ new_account rack → IsStarted holds contents record_out rack names (record { book = book; stream = None })
+started_none holds contents (Some file) rack names book none is = absurd (let bad : None ≡ Some file.name = none in cc)
+started_none holds contents None rack names book none is =
+    record { begins = is; whole = ap (λ (a : Account). a.whole) is; unstopped = subst (λ (a : Account). AreUnstopped a.history) (sym is) (search rules); stream = refl; front = tt }
+
+-- the refusal of a rack
+pub wrong_rack : (r : Result Found NoAnswer) (holds : List ℕ → List ℕ → Type 0) (shared : SharedRack) (names : List Text) (image : Option (List ℕ)) (why : Refusal) → IfOk r (λ found. Refuses why found.answer) → (why ≢ NoMemory → IsWrongRack shared.shape image why)
+    → IfOk r (λ found. (refusal : Refusal) × Refuses refusal found.answer × IsWrongStart holds shared names image refusal)
+wrong_rack (Err e) holds shared names image why refuses wrong = tt
+wrong_rack (Ok found) holds shared names image why refuses wrong = (why, refuses, inl (wrong refuses.0))
+
+-- that of a record
+pub told_unbegun : (why : Unbegun) (r : Result Found NoAnswer) (holds : List ℕ → List ℕ → Type 0) (shared : SharedRack) (names : List Text) (image : Option (List ℕ)) (rack : Store) → IsRackOf shared.shape image rack → IsUnbegunFor holds shared.record_out rack names why → IsToldOf why r
+    → IfOk r (λ found. (refusal : Refusal) × Refuses refusal found.answer × IsWrongStart holds shared names image refusal)
+told_unbegun why (Err e) holds shared names image rack is unbegun told = tt
+told_unbegun (Missed missed) (Ok found) holds shared names image rack is unbegun told = absurd told
+told_unbegun (Wrong error) (Ok found) holds shared names image rack is unbegun told = (of_record error.fault, told, inr (rack, is, error.fault, unbegun, refl))
+
+pub told_missed : (why : Unbegun) (r : Result Found NoAnswer) (holds : List ℕ → List ℕ → Type 0) (shared : SharedRack) (names : List Text) (rack : Store) → IsUnbegunFor holds shared.record_out rack names why → IsToldOf why r → IfErr r IsRefused
+told_missed why (Ok found) holds shared names rack unbegun told = tt
+told_missed (Missed missed) (Err e) holds shared names rack unbegun told = subst IsRefused (sym told) unbegun
+told_missed (Wrong error) (Err e) holds shared names rack unbegun told = told

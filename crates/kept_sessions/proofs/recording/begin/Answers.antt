@@ -1,0 +1,17 @@
+use Rattle.std.proofs.Common.{◌∙◌, ℕ, List, drop, inl, length, sym}
+use Rattle.std.proofs.lemmas.Slice.Eq.{starts_is}
+use Rattle.std.proofs.lemmas.Bool.Decides.{Decides-eqb}
+use Rattle.kept_sessions.proofs.Begun.{resumed_front}
+use Rattle.kept_sessions.proofs.recording.begin.Goals as goal
+
+pub returns-then-starts_with-clause-begins : goal.returns-then-starts_with-clause-begins
+returns-then-starts_with-clause-begins g c =
+    let held = c.args.held.now in
+    let head : List ℕ = c.as_slice.result.now in
+    let is = (starts_is Decides-eqb head held c.starts_with.result c.starts_with.ensures.value).0 c.if-starts_with.true in
+    inl (drop (length held) head, sym c.in_ok-head.ensures ∙ sym c.as_slice.ensures.value ∙ is, c.in_ok-new_book.ensures)
+
+pub returns-clause-front : goal.returns-clause-front
+returns-clause-front g c =
+    let t = c.in_ok-book.ensures.resumed in
+    resumed_front c.args.held.now c.as_slice-2.result.now c.args.rack c.args.names.now c.in_ok-book.book c.in_ok-book.kept c.new-head.result.items (c.as_slice-2.ensures.value ∙ c.in_ok-head.ensures) t.0 t.1 c.new-head.ensures.items

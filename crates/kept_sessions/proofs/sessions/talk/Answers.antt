@@ -1,0 +1,30 @@
+use Rattle.std.proofs.Common.{Bool, refl, subst}
+use Rattle.std.proofs.KnownBytes.{Appends-nil}
+use Rattle.std.specs.Prelude.{◌≡◌, [], Some}
+use Rattle.named_files.specs.Contents.{contents_in}
+use Rattle.kept_sessions.specs.Live.{IsTalkOver}
+use Rattle.kept_sessions.specs.Records.{record_front}
+use Rattle.kept_sessions.specs.Answers.{talking}
+use Rattle.kept_sessions.proofs.Served.{lived, talk_ending, unserved_lived}
+use Rattle.kept_sessions.proofs.sessions.talk.Goals as goal
+
+pub returns-in-Err-clause-session : goal.returns-in-Err-clause-session
+returns-in-Err-clause-session g c =
+    let old = g.I.Read.remaining c.args.input.now in
+    ([], Appends-nil _, unserved_lived (g.S.System.holds c.args.system.now) g.S.System.received c.args.shared.now [] (contents_in c.args.contents.now).image (talking c.args.shared.now old old []) ([] ≡ []) c.in-Err.kept c.in-Err.ensures.unserved (λ p. (refl, refl)) refl)
+
+pub returns-clause-session : goal.returns-clause-session
+returns-clause-session g c =
+    let shared = c.args.shared.now in
+    let old = g.I.Read.remaining c.args.input.now in
+    let rest = g.I.Read.remaining c.talk_from-over.new.input in
+    let begun = c.in-Ok.begun.0 in
+    let s = c.in-Ok.ensures.started in
+    let o = c.talk_from-over.ensures.session in
+    let over = o.3.1 (Some (record_front [] begun.book)) s.2.front in
+    let ended = subst (λ (b : Bool). IsTalkOver b begun.book old rest o.0 c.talk_from-over.result.end o.1) s.2.stream o.4 in (
+      o.0,
+      o.2,
+      lived (g.S.System.holds c.args.system.now) g.S.System.received shared [] (contents_in c.args.contents.now).image (talking shared old rest o.0) (o.0 ≡ []) c.talk_from-over.result.end begun.book o.1 s.0 c.end_live.result s.1 s.2.begins c.end_live.ensures.told (c.end_live.ensures.kept s.0 [] begun.book o.1 s.2.begins over)
+          (talk_ending shared old rest o.0 begun.book o.1 c.talk_from-over.result.end ended),
+    )

@@ -1,0 +1,5 @@
+pub mod Live
+pub mod Outcomes
+pub mod Keeping
+pub mod Records
+pub mod Answers

@@ -1,0 +1,90 @@
+-- How the record of live sessions begins, and what its file holds.
+use Rattle.std.specs.Prelude.{◌≡◌, ◌≢◌, ◌⊎◌, ◌++◌, ℕ, Bool, true, false, List, Option, Some, None, IfSome, MatchOption, flat_map}
+use Rattle.clap.specs.Words.{Text}
+use Rattle.module_memory.specs.Images.{image_of}
+use Rattle.module_memory.specs.Store.{Store}
+use Rattle.batch_book.specs.declared.entry.Entry.{Entry}
+use Rattle.batch_book.specs.History.{Account, new_account}
+use Rattle.book_record.specs.RecordText.{entry_text}
+use Rattle.record_fronts.specs.Fronts.{end_line}
+use Rattle.record_fronts.specs.Heads.{adler, head_of}
+use Rattle.record_replay.specs.Replays.{IsRecordError, IsRemade}
+use Rattle.record_replay.specs.declared.fault.RecordError.{RecordError}
+use Rattle.record_replay.specs.declared.fault.RecordFault.{RecordFault}
+use Rattle.record_replay.specs.declared.fault.RecordFault.TheVariants.{Head}
+use Rattle.command_words.specs.declared.jobs.RecordFile.{RecordFile}
+use Rattle.named_files.specs.Contents.{Holding}
+use Rattle.named_files.specs.Streams.{Closed, IsFrontOf, closed}
+
+-- the head of the record of sessions on a rack that has these words at first
+abbrev pub head_for : Store → List Text → List ℕ
+head_for opening names = head_of opening.shape (adler (image_of opening)) names
+
+-- what a record tells of a book so far
+abbrev pub record_front : List Text → Account → List ℕ
+record_front names book = head_for book.opening names ++ flat_map entry_text book.history
+
+-- the whole record of a book whose sessions have ended
+abbrev pub whole_record : List Text → Account → List ℕ
+whole_record names book = record_front names book ++ end_line
+
+-- the head stands there, and the entries behind it were made again
+pub record IsResumed (held head : List ℕ) (opening : Store) (was : Account) : Type 0 where
+  pub text : List ℕ
+  pub rest : List ℕ
+  pub held_is : held ≡ head ++ text
+  pub is_opening : was.opening ≡ opening
+  pub remade : IsRemade text opening None was.history was.machine rest
+
+-- The file holds as much of the head as may have been written, or all of it: sessions begin anew.
+-- Else, where they are to go on, the head of the same rack and the same clients stands there, and
+-- the entries behind it were made again.
+abbrev pub BeginsAs : Bool → List ℕ → Store → List Text → Account → Type 0
+BeginsAs resumes held opening names was =
+    ((missing : List ℕ) × (head_for opening names ≡ held ++ missing) × (was ≡ new_account opening))
+    ⊎ ((resumes ≡ true) × IsResumed held (head_for opening names) opening was)
+
+-- the book with which sessions begin, where their record goes to this file, or to none
+abbrev pub BeginsFor : Holding → Option RecordFile → Store → List Text → Account → Type 0
+BeginsFor holds None opening names was = was ≡ new_account opening
+BeginsFor holds (Some out) opening names was =
+    (held : List ℕ) × holds out.name held × BeginsAs out.resumes held opening names was
+
+-- what is wrong with a record that is to have this head: it has another, or this is wrong behind it
+abbrev pub IsWrongRecord : List ℕ → List ℕ → Store → RecordFault → Type 0
+IsWrongRecord held head opening fault =
+    (((text : List ℕ) → held ≢ head ++ text) × (fault ≡ Head))
+    ⊎ ((text : List ℕ) × (error : RecordError) × (held ≡ head ++ text)
+    × IsRecordError text opening None error × (fault ≡ error.fault))
+
+-- sessions were to go on, and can't, since the record is wrong
+abbrev pub IsWrongFor : Holding → Option RecordFile → Store → List Text → RecordFault → Type 0
+IsWrongFor holds None opening names fault = ⊥
+IsWrongFor holds (Some out) opening names fault =
+    (out.resumes ≡ true) × (held : List ℕ) × holds out.name held
+    × IsWrongRecord held (head_for opening names) opening fault
+
+-- What a record's file that held this has where nobody was told more: of a new book a front of the
+-- head; or all that the record tells of the book with which sessions began, and behind that maybe a
+-- front of entries that nobody was told.
+abbrev pub IsBegun : Bool → List ℕ → List Text → List ℕ → Type 0
+IsBegun resumes held names text =
+    (opening : Store) × (was : Account) × BeginsAs resumes held opening names was
+    × (((missing : List ℕ) × (was ≡ new_account opening)
+    × (head_for opening names ≡ text ++ missing))
+    ⊎ ((untold : List Entry) × (front rest : List ℕ)
+    × (flat_map entry_text untold ≡ front ++ rest) × (text ≡ record_front names was ++ front)))
+
+-- The file of the record, if it was opened, holds what it held, or has begun so; and no other file
+-- was opened.
+abbrev pub IsAsBegun : {C : Type 0} → Holding → (C → Closed) → Option RecordFile → List Text
+    → Option C → Type 0
+IsAsBegun holds received record_out names receipt =
+    IfSome receipt (λ receipt. MatchOption record_out ⊥ (λ out. (held text : List ℕ)
+    × holds out.name held × (received receipt ≡ closed (Some text) false)
+    × ((text ≡ held) ⊎ IsBegun out.resumes held names text)))
+
+-- what a record tells so far stands there; where it isn't whole, a front
+abbrev pub IsSoFar : Bool → List ℕ → Option (List ℕ) → Type 0
+IsSoFar true text after = after ≡ Some text
+IsSoFar false text after = IsFrontOf text after

@@ -1,0 +1,53 @@
+//! What comes of a job.
+
+ghost use Rattle.std.specs.Prelude.{◌≡◌};
+
+use named_files::Lack;
+use plan_answers::Answer;
+use record_replay::RecordError;
+use replay_answers::{Replayed, Torn};
+
+/// The answer to a job, and what is known beside it.
+#[derive(Drop)]
+pub struct Found {
+    pub answer: Answer,
+    /// Where a record is wrong, and what is due there, where it is refused.
+    pub error: Option<RecordError>,
+    /// What the file of that held, where sessions were to go on with it.
+    pub held: Option<Vec<u8>>,
+    /// How far a record goes that hasn't ended.
+    pub torn: Option<Torn>,
+    /// What stopped a drive, where something did, or why a port can't be opened.
+    pub lack: Option<Lack>,
+}
+
+impl Found {
+    /// An answer alone.
+    pub fn alone(answer: Answer) -> Found
+        ensures { result.answer ≡ answer }
+    {
+        Found {
+            answer,
+            error: None,
+            held: None,
+            torn: None,
+            lack: None,
+        }
+    }
+
+    /// What a replay answers.
+    pub fn replayed(replayed: Replayed) -> Found
+        ensures { result.answer ≡ replayed.answer }
+    {
+        let Replayed {
+            answer,
+            error,
+            torn,
+        } = replayed;
+        Found {
+            error,
+            torn,
+            ..Found::alone(answer)
+        }
+    }
+}

@@ -1,0 +1,471 @@
+//! Live sessions over a book whose entries go to a record, if they go anywhere.
+
+ghost use Rattle.std.specs.Prelude.{◌≡◌, ◌⊎◌, ◌++◌, ◌≤◌, ℕ, List, None, Some, IfOk, IfErr, IfSome, OnErr, OnOk, false, is_some, length, option_map, take, true};
+ghost use Rattle.batch.specs.Text.{IsNumber};
+ghost use Rattle.batch_book.specs.History.{Account, AreUnstopped};
+ghost use Rattle.clap.specs.Words.{Text};
+ghost use Rattle.command_words.specs.Jobs.{recorded_in};
+ghost use Rattle.module_memory.specs.Images.{image_of};
+ghost use Rattle.module_memory.specs.Store.{Store};
+ghost use Rattle.plan_answers.specs.Refusals.{Refuses};
+ghost use Rattle.rack_answers.specs.Openings.{IsRackOf};
+ghost use Rattle.record_fronts.specs.Fronts.{end_line};
+ghost use Rattle.record_stream.specs.Streams.{IsWritten as IsStreamed};
+ghost use Rattle.named_files.specs.Contents.{contents_in};
+ghost use Rattle.kept_sessions.specs.Live.{HasFront, IsOver, IsStarted, IsUnserved, IsUnstarted, left_by};
+ghost use Rattle.named_files.specs.Notes.{IsRefused};
+ghost use Rattle.kept_sessions.specs.Outcomes.{IsToldBy, IsToldOf, IsUnbegun};
+ghost use Rattle.kept_sessions.specs.Keeping.{AreLiveKept, AreWritten};
+ghost use Rattle.named_files.specs.Outputs.{AreNamed, AreOpened, IsFileWritten, IsOpened, IsUnput, is_new, name_of};
+ghost use Rattle.kept_sessions.specs.Records.{BeginsAs, BeginsFor, IsBegun, IsSoFar, head_for, record_front};
+ghost use Rattle.named_files.specs.Streams.{IsFrontOf, IsWrittenBy, closed};
+
+use crate::found::Found;
+use crate::recording::{Begun, Unbegun, begin, new_book, refusal_of};
+use batch_book::{BareBook, Book, History, Silent};
+use byte_streams::write_bytes;
+use command_words::{SharedRack, Text};
+use exchange_limits::WorkerCount;
+use module_memory::Rack;
+use named_files::{
+    Contents, Lost, NoAnswer, OutFile, Outputs, Reason, Receipts, System, close_file, close_stream,
+    keep_file, leave_file, put_written, slice_of, unread,
+};
+use plan_answers::Answer;
+use rack_answers::read_rack;
+use record_stream::{StreamName, Streamed, stream_off};
+use refusals::Refusal;
+use std::alloc::Global;
+use std::io;
+use std::io::{ErrorKind, Write};
+use std::thread::Threads;
+
+/// What comes of sessions, and what is left of what was opened for them to be written.
+pub struct Kept<C> {
+    pub end: Result<Found, NoAnswer>,
+    pub receipts: Receipts<C>,
+    pub lost: Lost,
+}
+
+/// What sessions begin with.
+pub(crate) struct Start<F> {
+    pub(crate) book: Book<Silent>,
+    /// The stream of their record, which has what the book has.
+    pub(crate) stream: Option<F>,
+}
+
+/// Why they don't begin.
+pub(crate) struct Unstarted<C> {
+    pub(crate) why: Unbegun,
+    /// What the file of their record held.
+    pub(crate) held: Vec<u8>,
+    /// What is left of that.
+    pub(crate) receipt: Option<C>,
+}
+
+/// What sessions leave.
+pub(crate) struct Over<F> {
+    pub(crate) end: Result<Answer, Refusal>,
+    pub(crate) bare: BareBook,
+    pub(crate) stream: Option<F>,
+    /// Whether each entry stands where it belongs.
+    pub(crate) is_whole: bool,
+}
+
+/// Makes a record's file hold what sessions begin with: so many bytes that it has, and these.
+fn write_front<S: System>(
+    system: &S,
+    file: &mut S::Stream,
+    held: &[u8],
+    kept: usize,
+    head: &[u8],
+) -> io::Result<()>
+    requires held { S.Stream.contents file.old ≡ Some held.now }
+    requires kept { kept ≤ length held.now }
+    ensures written { OnOk result
+        (S.Stream.contents file.new ≡ Some (take kept held.now ++ head.now)) }
+    ensures cut { OnErr result ((text : List ℕ) × (S.Stream.contents file.new ≡ Some text)
+        × ((text ≡ held.now) ⊎ ((front rest : List ℕ) × (head.now ≡ front ++ rest)
+        × (text ≡ take kept held.now ++ front)))) }
+{
+    system.cut(file, held, kept)?;
+    write_bytes(file, head)
+}
+
+/// Sessions don't begin, since this is left of their record's file.
+fn not_started<S: System>(
+    system: &S,
+    why: Unbegun,
+    held: Vec<u8>,
+    file: S::Stream,
+) -> Unstarted<S::Receipt>
+    ensures why { result.why ≡ why }
+    ensures receipt { option_map S.received result.receipt
+        ≡ Some (closed (S.Stream.contents file) false) }
+{
+    Unstarted {
+        why,
+        held,
+        receipt: Some(system.close(file)),
+    }
+}
+
+/// Makes this file begin as sessions do on this rack.
+fn start_in<R: Threads + Sync, S: System>(
+    rt: &R,
+    system: &S,
+    alloc: Global,
+    rack: Rack,
+    resumes: bool,
+    names: &[Text],
+    workers: WorkerCount,
+    out: OutFile<'_, S::Stream>,
+) -> Result<Start<S::Stream>, Unstarted<S::Receipt>>
+    requires number { IsNumber (length names.now) }
+    requires contents { S.Stream.contents out.file ≡ Some out.held.items }
+    ensures started { IfOk result (λ start.
+        BeginsAs resumes out.entry.held.items rack names.now start.book
+        × (start.book.whole ≡ true) × AreUnstopped start.book.history
+        × (is_some start.stream ≡ true)
+        × HasFront S.Stream.contents names.now start.book start.stream) }
+    ensures unstarted { IfErr result (λ end.
+        IsUnbegun resumes out.entry.held.items (head_for rack names.now) rack end.why
+        × IfSome end.receipt (λ receipt. (text : List ℕ)
+        × (S.received receipt ≡ closed (Some text) false)
+        × ((text ≡ out.entry.held.items)
+        ⊎ IsBegun resumes out.entry.held.items names.now text))) }
+{
+    let OutFile {
+        name,
+        mut file,
+        held,
+    } = out;
+    let begun = begin(
+        rt,
+        alloc,
+        rack,
+        name,
+        resumes,
+        names,
+        held.as_slice(),
+        workers,
+    );
+    let Begun { book, kept, head } = match begun {
+        Ok(begun) => begun,
+        Err(why) => return Err(not_started(system, why, held, file)),
+    };
+    match write_front(system, &mut file, held.as_slice(), kept, head.as_slice()) {
+        Ok(()) => Ok(Start {
+            book,
+            stream: Some(file),
+        }),
+        Err(error) => {
+            let why = Unbegun::Missed(unread(alloc, name, &error));
+            Err(not_started(system, why, held, file))
+        }
+    }
+}
+
+/// Whether sessions go on with a record.
+fn resumes(shared: &SharedRack) -> bool
+    ensures { IfSome shared.now.record_out (λ out. result ≡ out.resumes) }
+{
+    match &shared.record_out {
+        Some(record) => record.resumes,
+        None => false,
+    }
+}
+
+/// What sessions on this rack begin with.
+fn start_on<R: Threads + Sync, S: System>(
+    rt: &R,
+    system: &S,
+    alloc: Global,
+    rack: Rack,
+    shared: &SharedRack,
+    names: &[Text],
+    workers: WorkerCount,
+    out: Option<OutFile<'_, S::Stream>>,
+) -> Result<Start<S::Stream>, Unstarted<S::Receipt>>
+    requires number { IsNumber (length names.now) }
+    requires opened { IsOpened S.Stream.contents (S.holds system.now) (recorded_in shared.now) out }
+    requires named { name_of out ≡ recorded_in shared.now }
+    ensures started { IfOk result (IsStarted (S.holds system.now) S.Stream.contents
+        shared.now.record_out rack names.now) }
+    ensures unstarted { IfErr result (IsUnstarted (S.holds system.now) S.received
+        shared.now.record_out rack names.now) }
+{
+    match out {
+        Some(out) => start_in(
+            rt,
+            system,
+            alloc,
+            rack,
+            resumes(shared),
+            names,
+            workers,
+            out,
+        ),
+        None => match new_book(alloc, rack) {
+            Ok(book) => Ok(Start { book, stream: None }),
+            Err(error) => Err(Unstarted {
+                why: Unbegun::from(error),
+                held: Vec::new(alloc),
+                receipt: None,
+            }),
+        },
+    }
+}
+
+/// The refusal of what is wrong, where it isn't want of memory.
+fn refused(alloc: Global, refusal: Refusal) -> Result<Found, NoAnswer>
+    ensures answer { IfOk result (λ found. Refuses refusal found.answer) }
+    ensures missed { IfErr result IsRefused }
+{
+    Ok(Found::alone(Answer::refused(alloc, refusal)?))
+}
+
+/// What is told where sessions don't begin.
+fn found_of(alloc: Global, why: Unbegun, held: Vec<u8>) -> Result<Found, NoAnswer>
+    ensures { IsToldOf why result }
+{
+    match why {
+        Unbegun::Missed(missed) => Err(missed),
+        Unbegun::Wrong(error) => {
+            let found = refused(alloc, refusal_of(error.fault))?;
+            Ok(Found {
+                error: Some(error),
+                held: Some(held),
+                ..found
+            })
+        }
+    }
+}
+
+/// What sessions on a rack begin with, by clients of these names, and the file for the image that
+/// they leave; or what comes of them where they don't begin.
+pub(crate) fn begin_live<'a, R: AllocGlobal + Threads + Sync, S: System>(
+    rt: &R,
+    system: &S,
+    shared: &SharedRack,
+    names: &[Text],
+    contents: &Contents,
+    workers: WorkerCount,
+    outputs: Outputs<'a, S::Stream>,
+) -> Result<(Start<S::Stream>, Option<OutFile<'a, S::Stream>>), Kept<S::Receipt>>
+    requires number { IsNumber (length names.now) }
+    requires opened { AreOpened S.Stream.contents (S.holds system.now) (recorded_in shared.now)
+        shared.now.image_out outputs }
+    requires named { AreNamed (recorded_in shared.now) shared.now.image_out outputs }
+    ensures started { IfOk result (λ begun. (opening : Store)
+        × IsRackOf shared.now.shape (contents_in contents.now).image opening
+        × IsStarted (S.holds system.now) S.Stream.contents shared.now.record_out opening names.now
+        begun.0) }
+    ensures image { IfOk result (λ begun. begun.1 ≡ outputs.entry.image) }
+    ensures unserved { IfErr result (IsUnserved (S.holds system.now) S.received shared.now names.now
+        (contents_in contents.now).image) }
+{
+    let Outputs { recorded, image } = outputs;
+    let alloc = rt.alloc();
+    let words = slice_of(&contents.image);
+    let rack = match read_rack(alloc, shared.shape.as_str().as_bytes(), words) {
+        Ok(rack) => rack,
+        Err(refusal) => {
+            return Err(Kept {
+                end: refused(alloc, refusal),
+                receipts: Receipts {
+                    recorded: close_file(system, recorded),
+                    image: close_file(system, image),
+                },
+                lost: Lost::none(),
+            });
+        }
+    };
+    match start_on(rt, system, alloc, rack, shared, names, workers, recorded) {
+        Ok(start) => Ok((start, image)),
+        Err(Unstarted { why, held, receipt }) => Err(Kept {
+            end: found_of(alloc, why, held),
+            receipts: Receipts {
+                recorded: receipt,
+                image: close_file(system, image),
+            },
+            lost: Lost::none(),
+        }),
+    }
+}
+
+/// What sessions leave that have no record.
+pub(crate) fn over_silent<F>(end: Result<Answer, Refusal>, book: Book<Silent>) -> Over<F>
+    ensures end { result.end ≡ end }
+    ensures machine { result.bare.machine ≡ book.machine }
+    ensures whole { result.is_whole ≡ book.whole }
+    ensures stream { result.stream ≡ None }
+{
+    let is_whole = book.log().is_whole();
+    let (bare, _) = book.part();
+    Over {
+        end,
+        bare,
+        stream: None,
+        is_whole,
+    }
+}
+
+/// What sessions leave whose record is a stream.
+pub(crate) fn over_recorded<F: Write, N: StreamName>(
+    end: Result<Answer, Refusal>,
+    book: Book<Streamed<F, N>>,
+) -> Over<F>
+    ensures end { result.end ≡ end }
+    ensures machine { result.bare.machine ≡ book.machine }
+    ensures whole { result.is_whole ≡ book.whole }
+    ensures stream { is_some result.stream ≡ true }
+    ensures text { IfSome result.stream (λ file.
+        IsStreamed N.held (F.contents file) N.earlier book.history book.whole) }
+{
+    let is_whole = book.log().is_whole();
+    let (bare, stream) = stream_off(book);
+    Over {
+        end,
+        bare,
+        stream: Some(stream),
+        is_whole,
+    }
+}
+
+/// Writes the last line of a record whose sessions have ended, if each entry stands there.
+fn write_end<S: System>(system: &S, file: &mut S::Stream, is_whole: bool) -> io::Result<()>
+    ensures { (text : List ℕ) → IsSoFar is_whole text (S.Stream.contents file.old)
+        → IsWrittenBy result (text ++ end_line) (S.Stream.contents file.new) }
+{
+    if is_whole {
+        return write_bytes(file, b"end\n");
+    }
+    match system.failure(file) {
+        Some(error) => Err(error),
+        None => Err(io::Error::from(ErrorKind::OutOfMemory)),
+    }
+}
+
+/// Ends the record of sessions, where they have one.
+fn end_record<S: System>(
+    system: &S,
+    alloc: Global,
+    shared: &SharedRack,
+    stream: Option<S::Stream>,
+    is_whole: bool,
+) -> (Option<S::Receipt>, Option<Reason>)
+    requires { is_some stream ≡ is_some shared.now.record_out }
+    ensures { (text : List ℕ)
+        → IfSome stream (λ file. IsSoFar is_whole text (S.Stream.contents file))
+        → IsFileWritten S.received (recorded_in shared.now) (text ++ end_line) result.0 result.1 }
+{
+    let Some(mut file) = stream else {
+        return (None, None);
+    };
+    let end = write_end(system, &mut file, is_whole);
+    let (receipt, end) = put_written(system, file, end);
+    (
+        Some(receipt),
+        Reason::why(alloc, shared.record_name(), &end),
+    )
+}
+
+/// Keeps the image of the rack that sessions leave. Where their record isn't kept it is put nowhere:
+/// it could have more than the record tells.
+pub(crate) fn keep_image<S: System>(
+    system: &S,
+    alloc: Global,
+    rack: &Rack,
+    is_kept: bool,
+    image: Option<OutFile<'_, S::Stream>>,
+) -> (Option<S::Receipt>, Option<Reason>)
+    requires { IsOpened S.Stream.contents is_new (name_of image) image }
+    ensures written { IsFileWritten S.received (name_of image.entry) (image_of rack.now) result.0
+        result.1 }
+    ensures unput { is_kept ≡ false → IsUnput S.received result.0 }
+{
+    let Some(out) = image else {
+        return (None, None);
+    };
+    if is_kept {
+        keep_file(system, alloc, rack.image(), Some(out))
+    } else {
+        leave_file(system, alloc, Some(out))
+    }
+}
+
+/// Ends what sessions leave that have ended: the record, and then the image, if that is whole.
+fn keep_live<S: System>(
+    system: &S,
+    alloc: Global,
+    shared: &SharedRack,
+    bare: &BareBook,
+    stream: Option<S::Stream>,
+    is_whole: bool,
+    image: Option<OutFile<'_, S::Stream>>,
+) -> (Receipts<S::Receipt>, Lost)
+    requires stream { is_some stream ≡ is_some shared.now.record_out }
+    requires opened { IsOpened S.Stream.contents is_new (name_of image) image }
+    requires named { name_of image ≡ shared.now.image_out }
+    ensures written { (names : List Text) → (left : Account) → bare.now.machine ≡ left.machine
+        → IfSome stream (λ file. IsSoFar is_whole (record_front names left)
+        (S.Stream.contents file))
+        → AreWritten S.received (recorded_in shared.now) shared.now.image_out names left result.0
+        result.1 }
+    ensures broken { is_whole ≡ false → IsUnput S.received result.0.image }
+    ensures lost { is_some result.1.recorded ≡ true → IsUnput S.received result.0.image }
+{
+    let (recorded, unrecorded) = end_record(system, alloc, shared, stream, is_whole);
+    let is_kept = is_whole && unrecorded.is_none();
+    let (image, unput) = keep_image(system, alloc, bare.rack(), is_kept, image);
+    let lost = Lost {
+        recorded: unrecorded,
+        image: unput,
+    };
+    (Receipts { recorded, image }, lost)
+}
+
+/// Ends what sessions leave, or leaves files as they are where none began.
+pub(crate) fn end_live<S: System>(
+    system: &S,
+    alloc: Global,
+    shared: &SharedRack,
+    over: Over<S::Stream>,
+    image: Option<OutFile<'_, S::Stream>>,
+) -> Kept<S::Receipt>
+    requires stream { is_some over.stream ≡ is_some shared.now.record_out }
+    requires opened { IsOpened S.Stream.contents is_new (name_of image) image }
+    requires named { name_of image ≡ shared.now.image_out }
+    ensures told { IsToldBy over.end result.end }
+    ensures kept { (opening : Store) → (names : List Text) → (was : Account) → (left : Account)
+        → BeginsFor (S.holds system.now) shared.now.record_out opening names was
+        → IsOver S.Stream.contents names was left over
+        → AreLiveKept (S.holds system.now) S.received shared.now names (left_by over.end left)
+        result.receipts result.lost }
+{
+    let Over {
+        end,
+        bare,
+        stream,
+        is_whole,
+    } = over;
+    match end {
+        Ok(answer) => {
+            let (receipts, lost) = keep_live(system, alloc, shared, &bare, stream, is_whole, image);
+            Kept {
+                end: Ok(Found::alone(answer)),
+                receipts,
+                lost,
+            }
+        }
+        Err(refusal) => Kept {
+            end: refused(alloc, refusal),
+            receipts: Receipts {
+                recorded: close_stream(system, stream),
+                image: close_file(system, image),
+            },
+            lost: Lost::none(),
+        },
+    }
+}

@@ -1,0 +1,197 @@
+//! How the record of live sessions begins.
+
+ghost use Rattle.std.specs.Prelude.{◌≡◌, ◌⊎◌, [], ◌≤◌, ◌++◌, ◌-◌, IfErr, IfOk, true, length, map, take};
+ghost use Rattle.batch.specs.Text.{IsNumber};
+ghost use Rattle.batch_book.specs.History.{AreUnstopped, new_account};
+ghost use Rattle.replay_answers.specs.Replays.{of_record};
+ghost use Rattle.named_files.specs.Notes.{IsRefused};
+ghost use Rattle.kept_sessions.specs.Outcomes.{IsUnbegun, IsUnremade};
+ghost use Rattle.kept_sessions.specs.Records.{BeginsAs, IsResumed, head_for, record_front};
+
+use batch_book::{Book, Silent};
+use command_words::Text;
+use exchange_limits::WorkerCount;
+use line_words::behind;
+use module_memory::Rack;
+use named_files::{NoAnswer, Unanswered};
+use record_fronts::{head_text, sum_of};
+use record_replay::{RecordError, RecordFault, Remade, replay};
+use refusal_notes::file_line;
+use refusals::Refusal;
+use std::alloc::{AllocError, Global};
+use std::thread::Threads;
+
+/// The book with which sessions begin, and how the record's file begins with it.
+#[derive(Drop)]
+pub(crate) struct Begun {
+    pub(crate) book: Book<Silent>,
+    /// How many bytes of the file stay.
+    pub(crate) kept: usize,
+    /// What is written behind them.
+    pub(crate) head: Vec<u8>,
+}
+
+/// Why sessions don't begin.
+#[derive(Drop)]
+pub(crate) enum Unbegun {
+    /// There is no answer.
+    Missed(NoAnswer),
+    /// The record is wrong.
+    Wrong(RecordError),
+}
+
+impl From<AllocError> for Unbegun {
+    ghost use Rattle.std.specs.Prelude.{◌≡◌, None};
+    ghost use Rattle.named_files.specs.declared.notes.NoAnswer.TheVariants.{Refused};
+    ghost use Rattle.kept_sessions.specs.declared.recording.Unbegun.TheVariants.{Missed};
+    ghost use Rattle.named_files.specs.declared.unanswered.Unanswered.TheVariants.{NoMemory};
+
+    ghost from_gives = { λ _ unbegun. unbegun ≡ Missed (Refused NoMemory None) };
+
+    fn from(error: AllocError) -> Unbegun {
+        Unbegun::Missed(NoAnswer::from(error))
+    }
+}
+
+/// The refusal of what is wrong with a record.
+pub(crate) fn refusal_of(fault: RecordFault) -> Refusal
+    ensures { result ≡ of_record fault }
+{
+    match fault {
+        RecordFault::Head => Refusal::RecordHead,
+        RecordFault::Call(e) => Refusal::RecordCall(e),
+        RecordFault::Reply(e) => Refusal::RecordReply(e),
+        RecordFault::More => Refusal::RecordMore,
+        RecordFault::NoMemory => Refusal::NoMemory,
+    }
+}
+
+/// The bytes of names.
+fn bytes_of_names<'a>(alloc: Global, names: &'a [Text]) -> Result<Vec<&'a [u8]>, AllocError>
+    ensures { IfOk result (λ lent. map (λ name. name.now) lent.items ≡ names.entry.now) }
+{
+    let mut lent = Vec::new(alloc);
+    for name in names {
+        lent.push(name.as_str().as_bytes())?;
+    }
+    Ok(lent)
+}
+
+/// The head of the record of sessions on this rack.
+fn head_on(alloc: Global, rack: &Rack, names: &[Text]) -> Result<Vec<u8>, AllocError>
+    requires { IsNumber (length names.now) }
+    ensures { IfOk result (λ head. head.items ≡ head_for rack.now names.now) }
+{
+    let lent = bytes_of_names(alloc, names)?;
+    let image = rack.image()?;
+    let sum = sum_of(image.as_slice());
+    head_text(alloc, rack.shape(), sum, lent.as_slice())
+}
+
+/// Why a record that has something isn't begun anew.
+fn holds_more(alloc: Global, name: &Text) -> NoAnswer
+    ensures { IsRefused result }
+{
+    let why = "it isn't empty; --resume goes on with a record of the same rack and clients";
+    NoAnswer::Refused {
+        why: Unanswered::File,
+        note: file_line(alloc, name.as_str(), why),
+    }
+}
+
+/// A new book of this rack.
+pub(crate) fn new_book(alloc: Global, rack: Rack) -> Result<Book<Silent>, AllocError>
+    ensures { IfOk result (λ book. book ≡ new_account rack) }
+{
+    match Book::with(alloc, rack, Silent::new()) {
+        Ok(book) => Ok(book),
+        Err(_) => Err(AllocError),
+    }
+}
+
+/// What is wrong behind a head of so many bytes, as it is told of the whole record.
+fn wrong_behind(head: usize, error: RecordError) -> Unbegun
+    ensures { IsUnremade error result }
+{
+    if error.fault == RecordFault::NoMemory {
+        return Unbegun::from(AllocError);
+    }
+    Unbegun::Wrong(RecordError {
+        fault: error.fault,
+        offset: head.saturating_add(error.offset),
+        due: error.due,
+    })
+}
+
+/// The book of the entries that stand behind this head, which is that of the rack's record, and how
+/// many bytes the head and they have.
+fn resume<R: Threads + Sync>(
+    rt: &R,
+    alloc: Global,
+    rack: Rack,
+    held: &[u8],
+    head: &[u8],
+    workers: WorkerCount,
+) -> Result<(Book<Silent>, usize), Unbegun>
+    ensures resumed { IfOk result (λ r. (resumed : IsResumed held.now head.now rack r.0)
+        × (r.1 ≡ length held.now - length resumed.rest)) }
+    ensures whole { IfOk result (λ r. r.0.whole ≡ true) }
+    ensures unbegun { IfErr result (IsUnbegun true held.now head.now rack) }
+{
+    let Some(text) = behind(held, head) else {
+        return Err(Unbegun::Wrong(RecordError {
+            fault: RecordFault::Head,
+            offset: 0,
+            due: None,
+        }));
+    };
+    match replay(rt, alloc, rack, text, None, workers) {
+        Ok(Remade { book, rest, .. }) => {
+            // Asked for only for its contract, which says that the book is whole.
+            book.log();
+            Ok((book, held.len().saturating_sub(rest.len())))
+        }
+        Err(error) => Err(wrong_behind(head.len(), error)),
+    }
+}
+
+/// The book with which sessions on this rack begin, where the file for their record holds this.
+/// Entries that it tells are made again by so many workers.
+pub(crate) fn begin<R: Threads + Sync>(
+    rt: &R,
+    alloc: Global,
+    rack: Rack,
+    name: &Text,
+    resumes: bool,
+    names: &[Text],
+    held: &[u8],
+    workers: WorkerCount,
+) -> Result<Begun, Unbegun>
+    requires { IsNumber (length names.now) }
+    ensures begins { IfOk result (λ begun.
+        BeginsAs resumes held.now rack names.now begun.book) }
+    ensures kept { IfOk result (λ begun. begun.kept ≤ length held.now) }
+    ensures front { IfOk result (λ begun.
+        take begun.kept held.now ++ begun.head.items ≡ record_front names.now begun.book) }
+    ensures new { IfOk result (λ begun. ((begun.kept ≡ 0) × (begun.book ≡ new_account rack))
+        ⊎ (begun.head.items ≡ [])) }
+    ensures ready { IfOk result (λ begun.
+        (begun.book.whole ≡ true) × AreUnstopped begun.book.history) }
+    ensures unbegun { IfErr result
+        (IsUnbegun resumes held.now (head_for rack names.now) rack) }
+{
+    let head = head_on(alloc, &rack, names)?;
+    if head.as_slice().starts_with(held) {
+        return Ok(Begun {
+            book: new_book(alloc, rack)?,
+            kept: 0,
+            head,
+        });
+    }
+    if !resumes {
+        return Err(Unbegun::Missed(holds_more(alloc, name)));
+    }
+    let (book, kept) = resume(rt, alloc, rack, held, head.as_slice(), workers)?;
+    let head = Vec::new(alloc);
+    Ok(Begun { book, kept, head })
+}

@@ -1,0 +1,7 @@
+use Rattle.std.proofs.Common.{map, take}
+use Rattle.named_files.specs.Contents.{AreRead}
+use Rattle.named_files.proofs.contents.read_files.Given as goal
+
+abbrev pub invariant-loop-name : goal.invariant-loop-name
+invariant-loop-name g l =
+    AreRead (g.S.System.holds l.system) (g.I.Read.remaining l.fn.input) (take l.name-index l.names) (map (λ file. file.items) l.files.items) (g.I.Read.remaining l.input)

@@ -1,0 +1,6 @@
+pub mod Apart
+pub mod Clients
+pub mod Contents
+pub mod Outputs
+pub mod Notes
+pub mod Streams

@@ -1,0 +1,81 @@
+-- What is told beside an answer, or where there is none.
+use Rattle.std.specs.Prelude.{◌≡◌, ◌≢◌, ◌⊎◌, ◌++◌, ⊤, ℕ, Bool, false, List, [], ◌∷◌, Option, Some, IfSome, codes, option_map, string_bytes}
+use Rattle.std.specs.Io.KnownBytes.{Appends}
+use Rattle.plan_answers.specs.Refusals.{Printed}
+use Rattle.plan_answers.specs.declared.limits.TheConstants.{REFUSED}
+use Rattle.refusals.specs.declared.refusal.Refusal.{Refusal}
+use Rattle.refusals.specs.Refusals.{refusal_line}
+use Rattle.refusal_notes.specs.Told.{line_told}
+use Rattle.named_files.specs.declared.notes.NoAnswer.{NoAnswer}
+use Rattle.named_files.specs.declared.notes.NoAnswer.TheVariants.{Refused, Unwritten}
+use Rattle.refusals.specs.declared.refusal.Refusal.TheVariants as refusal
+use Rattle.named_files.specs.declared.unanswered.Unanswered.{Unanswered}
+use Rattle.named_files.specs.declared.unanswered.Unanswered.TheVariants.{File, NoMemory, Output}
+
+-- this line says a refusal, which isn't want of memory
+abbrev pub SaysRefusal : List ℕ → Type 0
+SaysRefusal line = (why : Refusal) × (why ≢ refusal.NoMemory) × (line ≡ refusal_line why)
+
+-- it says that a drive stopped
+abbrev pub SaysStop : List ℕ → Type 0
+SaysStop line = (words : List ℕ) × (line ≡ codes "stopped " ++ words)
+
+-- it is a whole line that begins with the program's name
+abbrev pub IsWholeLine : List ℕ → Type 0
+IsWholeLine line = (words : List ℕ) × (line ≡ line_told words)
+
+-- the line is told of an answer: of a refusal, or where a drive stopped, and of nothing else
+pub record HasSecondLine (printed : Printed) (line : List ℕ) : Type 0 where
+  pub refused : printed.status ≡ REFUSED
+  pub of : SaysRefusal printed.text ⊎ SaysStop printed.text
+  pub whole : IsWholeLine line
+
+-- what is told of what is printed, if anything is
+abbrev pub IsNoteOn : Printed → Option (List ℕ) → Type 0
+IsNoteOn printed note = IfSome note (HasSecondLine printed)
+
+-- as much of the line as could be written stands behind what was there
+abbrev pub IsToldInPart : Option (List ℕ) → Option (List ℕ) → List ℕ → Type 0
+IsToldInPart before after line =
+    (told rest : List ℕ) × (line ≡ told ++ rest) × Appends before after told
+
+-- what was told of a note: nothing where there is none, or none is wanted
+abbrev pub IsToldUnless : Bool → Option (List ℕ) → Option (List ℕ) → Option (List ℕ) → Type 0
+IsToldUnless quiet note before after =
+    Appends before after []
+    ⊎ ((quiet ≡ false) × (line : List ℕ) × (note ≡ Some line) × IsToldInPart before after line)
+
+-- whole lines were told, one after another, each as far as it could be written
+abbrev pub AreToldLines : Option (List ℕ) → Option (List ℕ) → List (List ℕ) → Type 0
+AreToldLines before after [] = after ≡ before
+AreToldLines before after (line ∷ lines) =
+    (mid : Option (List ℕ)) × IsWholeLine line × IsToldInPart before mid line
+    × AreToldLines mid after lines
+
+-- such lines were told, unless none are wanted
+abbrev pub HasToldLines : Bool → Option (List ℕ) → Option (List ℕ) → Type 0
+HasToldLines quiet before after =
+    (after ≡ before)
+    ⊎ ((quiet ≡ false) × ((lines : List (List ℕ)) × AreToldLines before after lines))
+
+-- which refusal that is
+abbrev pub refusal_of : Unanswered → Refusal
+refusal_of File = refusal.File
+refusal_of Output = refusal.File
+refusal_of NoMemory = refusal.NoMemory
+
+-- what is printed where there is no answer
+abbrev pub unanswered : Unanswered → Printed
+unanswered why = record { text = refusal_line (refusal_of why); status = REFUSED }
+
+-- what is told where there is no answer; what couldn't be written is told otherwise
+abbrev pub IsNoAnswer : NoAnswer → Type 0
+IsNoAnswer (Refused why note) =
+    IsNoteOn (unanswered why) (option_map (λ line. string_bytes line) note)
+IsNoAnswer (Unwritten what) = ⊤
+
+-- it is refused, with what is told of that
+abbrev pub IsRefused : NoAnswer → Type 0
+IsRefused (Refused why note) =
+    IsNoteOn (unanswered why) (option_map (λ line. string_bytes line) note)
+IsRefused (Unwritten what) = ⊥

@@ -1,0 +1,103 @@
+//! The files of the clients of a host.
+
+ghost use Rattle.std.specs.Prelude.{◌≡◌, ℕ, List, IfOk};
+
+use crate::lack::Lack;
+use crate::sent_file::SentFile;
+use command_words::Text;
+use contract_data::PassedBytes;
+use session_answers::{AllThere, ClientStreams};
+use std::alloc::Global;
+use std::fs::File;
+use std::io;
+use std::io::ErrorKind;
+use std::sync::OnceLock;
+
+/// What opens the files of clients, in the thread of each, once all threads are there.
+pub trait ClientFiles: Sync {
+    /// What has gone to the file of this name before it is opened.
+    ghost had: { Self → List ℕ → List ℕ };
+
+    /// Opens the file from which a client is heard.
+    fn open_heard(&self, there: &AllThere, name: &str) -> io::Result<File>;
+
+    /// Opens the file by which a client is told: it is made where it isn't there, and emptied.
+    fn open_told(&self, there: &AllThere, name: &str) -> io::Result<SentFile>
+        ensures { IfOk result (λ told. told.sent ≡ had self.now name.now) };
+}
+
+/// The files of clients by their names: a client says what `NAME.in` has, and is told what goes to
+/// `NAME.out`.
+#[derive(Drop)]
+pub struct FileStreams<'a, S> {
+    pub system: &'a S,
+    pub alloc: Global,
+    pub clients: &'a [Text],
+    /// Of each client the file that couldn't be opened, where one couldn't, and why.
+    pub unopened: &'a [OnceLock<Lack>],
+}
+
+impl<'a, S> FileStreams<'a, S> {
+    /// Keeps which file of a client couldn't be opened, and why, where there is memory for that.
+    fn keep(&self, client: usize, name: String, error: &io::Error) {
+        if error.kind() == ErrorKind::OutOfMemory {
+            return;
+        }
+        if let Some(unopened) = self.unopened.get(client)
+            && let Ok(why) = error.to_string(self.alloc)
+        {
+            let _ = unopened.try_set(Lack { name, why });
+        }
+    }
+}
+
+impl<'a, S: ClientFiles> ClientStreams for FileStreams<'a, S> {
+    ghost use Rattle.std.specs.Prelude.{Some};
+    ghost use Rattle.named_files.specs.Clients.{clients_by};
+
+    type Reader = File;
+
+    type Writer = SentFile;
+
+    type Receipt = PassedBytes;
+
+    ghost known = { λ d. clients_by (S.had d.system.now) d.clients.now };
+
+    ghost received = { λ sent. Some sent };
+
+    fn clients(&self) -> usize {
+        self.clients.len()
+    }
+
+    fn name(&self, client: usize) -> &str {
+        match self.clients.get(client) {
+            Some(name) => name.as_str(),
+            None => "",
+        }
+    }
+
+    // What the client says is opened first.
+    fn open(&self, there: AllThere, client: usize) -> io::Result<(File, SentFile)> {
+        let name = self.name(client);
+        let said = format!(in self.alloc; "{name}.in")?;
+        let told = format!(in self.alloc; "{name}.out")?;
+        let reader = match self.system.open_heard(&there, said.as_str()) {
+            Ok(reader) => reader,
+            Err(error) => {
+                self.keep(client, said, &error);
+                return Err(error);
+            }
+        };
+        match self.system.open_told(&there, told.as_str()) {
+            Ok(writer) => Ok((reader, writer)),
+            Err(error) => {
+                self.keep(client, told, &error);
+                Err(error)
+            }
+        }
+    }
+
+    fn close(&self, writer: SentFile) -> PassedBytes {
+        writer.into_sent()
+    }
+}

@@ -1,0 +1,69 @@
+//! The files of the real system. Which bytes they hold contracts don't say.
+
+use crate::client_streams::ClientFiles;
+use crate::output_file::{ClosedFile, OutputFile};
+use crate::sent_file::SentFile;
+use crate::system::System;
+use session_answers::AllThere;
+use std::fs::{File, OpenOptions};
+use std::{fs, io};
+
+impl System for HostRuntime {
+    ghost use Rattle.std.specs.Prelude.{⊤, Some};
+    ghost use Rattle.named_files.specs.Streams.{closed};
+
+    type Stream = OutputFile;
+
+    type Receipt = ClosedFile;
+
+    ghost holds = { λ _ _ _. ⊤ };
+
+    ghost received = { λ file. closed (Some file.sent) file.stands };
+
+    fn read(&self, name: &str) -> io::Result<Vec<u8>> {
+        fs::read(self, name)
+    }
+
+    fn open_record(&self, name: &str, syncs: bool) -> io::Result<(OutputFile, Vec<u8>)> {
+        OutputFile::open_record(self, name, syncs)
+    }
+
+    fn open_new(&self, name: &str) -> io::Result<OutputFile> {
+        OutputFile::open_new(self, name)
+    }
+
+    fn cut(&self, stream: &mut OutputFile, held: &[u8], kept: usize) -> io::Result<()> {
+        stream.cut(held, kept)
+    }
+
+    fn failure(&self, stream: &OutputFile) -> Option<io::Error> {
+        stream.failure
+    }
+
+    fn close(&self, stream: OutputFile) -> ClosedFile {
+        stream.close(self)
+    }
+
+    fn put(&self, stream: OutputFile) -> (ClosedFile, io::Result<()>) {
+        stream.put(self)
+    }
+}
+
+impl ClientFiles for HostRuntime {
+    ghost use Rattle.std.specs.Prelude.{[]};
+
+    ghost had = { λ _ _. [] };
+
+    fn open_heard(&self, _there: &AllThere, name: &str) -> io::Result<File> {
+        File::open(self, name)
+    }
+
+    fn open_told(&self, _there: &AllThere, name: &str) -> io::Result<SentFile> {
+        let file = OpenOptions::new()
+            .write(true)
+            .create(true)
+            .truncate(true)
+            .open(self, name)?;
+        Ok(SentFile::of(file))
+    }
+}

@@ -1,0 +1,47 @@
+//! What the program asks of the system by name: files that it reads, files that sessions write, the
+//! files of live clients, and the ports of switches.
+//!
+//! [`System`] and [`ClientFiles`] say what each call does to the file of which name, [`Places`] to
+//! which file a name leads. `HostRuntime` is the one implementation over the real system, of which
+//! contracts know nothing but names, and [`HostPorts`] is that of `drive_answers`' ports. Streams and
+//! receipts aren't `Drop`: each that is opened is closed, and its receipt is handed out.
+//!
+//! [`read_contents`] reads a job's files in their order (`AreContents` of `specs/Contents.antt`).
+//! [`open_apart`] opens the files that sessions write, once it has looked that no file is read and
+//! written (`AreOpened` of `specs/Outputs.antt`, `AreSeenApart` of `specs/Apart.antt`). [`keep_file`]
+//! writes one and puts it in its place, or says why not all of it stands there (`IsFileWritten`).
+//! Where something can't be read or opened there is no answer, and a line that tells why
+//! (`IsRefused` of `specs/Notes.antt`).
+#![tactic(auto)]
+
+mod apart;
+mod client_streams;
+mod contents;
+mod host_system;
+mod lack;
+mod lost;
+mod notes;
+mod output_file;
+mod outputs;
+mod ports;
+mod sent_file;
+mod system;
+mod unanswered;
+mod unwritten;
+
+pub use apart::{Place, Places};
+pub use client_streams::{ClientFiles, FileStreams};
+pub use contents::{Contents, read_contents, slice_of, source_with, text_of};
+pub use lack::Lack;
+pub use lost::{Lost, Reason};
+pub use notes::{NoAnswer, lack_line, reason_line, tell_line, tell_note, unread};
+pub use output_file::{ClosedFile, OutputFile};
+pub use outputs::{
+    OutFile, Outputs, Receipts, close_file, close_stream, keep_file, leave_file, open_apart,
+    put_written,
+};
+pub use ports::HostPorts;
+pub use sent_file::SentFile;
+pub use system::{Runtime, System};
+pub use unanswered::Unanswered;
+pub use unwritten::Unwritten;

@@ -1,0 +1,92 @@
+//! Why there is no answer, and what is told of it.
+
+ghost use Rattle.std.specs.Prelude.{◌≡◌, IfSome, option_map, string_bytes};
+ghost use Rattle.named_files.specs.Notes.{IsRefused, IsToldInPart, IsToldUnless, IsWholeLine};
+
+use crate::lack::Lack;
+use crate::unanswered::Unanswered;
+use crate::unwritten::Unwritten;
+use byte_streams::write_bytes;
+use command_words::Text;
+use refusal_notes::file_line;
+use std::alloc::{AllocError, Global};
+use std::io;
+use std::io::{ErrorKind, Write};
+
+/// Why there is no answer.
+#[derive(Drop)]
+pub enum NoAnswer {
+    /// It is refused, with the line that is told beside that.
+    Refused {
+        why: Unanswered,
+        note: Option<String>,
+    },
+    /// What stands before it couldn't be written.
+    Unwritten(Unwritten),
+}
+
+impl From<AllocError> for NoAnswer {
+    ghost use Rattle.std.specs.Prelude.{◌≡◌, None};
+    ghost use Rattle.named_files.specs.declared.notes.NoAnswer.TheVariants.{Refused};
+    ghost use Rattle.named_files.specs.declared.unanswered.Unanswered.TheVariants.{NoMemory};
+
+    ghost from_gives = { λ _ missed. missed ≡ Refused NoMemory None };
+
+    fn from(_error: AllocError) -> NoAnswer {
+        NoAnswer::Refused {
+            why: Unanswered::NoMemory,
+            note: None,
+        }
+    }
+}
+
+/// What is told of what lacks.
+pub fn lack_line(alloc: Global, lack: &Lack) -> Option<String>
+    ensures { IfSome result (λ line. IsWholeLine (string_bytes line)) }
+{
+    file_line(alloc, lack.name.as_str(), lack.why.as_str())
+}
+
+/// Why there is no answer where a file of this name can't be read, or opened, and what is told of
+/// it.
+pub fn unread(alloc: Global, name: &Text, error: &io::Error) -> NoAnswer
+    ensures { IsRefused result }
+{
+    match error.kind() {
+        ErrorKind::OutOfMemory => NoAnswer::from(AllocError),
+        _ => NoAnswer::Refused {
+            why: Unanswered::File,
+            note: reason_line(alloc, name.as_str(), error),
+        },
+    }
+}
+
+/// What is told of a file of this name for this reason.
+pub fn reason_line(alloc: Global, name: &str, error: &io::Error) -> Option<String>
+    ensures { IfSome result (λ line. IsWholeLine (string_bytes line)) }
+{
+    match error.to_string(alloc) {
+        Ok(reason) => file_line(alloc, name, reason.as_str()),
+        Err(_) => None,
+    }
+}
+
+/// Tells a note on standard error, where there is one and none is left out.
+pub fn tell_note<E: Write>(note: &Option<String>, is_quiet: bool, err: &mut E)
+    ensures { IsToldUnless is_quiet (option_map (λ line. string_bytes line) note.now)
+        (E.contents err.old) (E.contents err.new) }
+{
+    if is_quiet {
+        return;
+    }
+    if let Some(line) = note {
+        tell_line(line.as_str().as_bytes(), err);
+    }
+}
+
+/// Tells a line, as far as it can be written. Whether it can changes no answer.
+pub fn tell_line<E: Write>(line: &[u8], err: &mut E)
+    ensures { IsToldInPart (E.contents err.old) (E.contents err.new) line.now }
+{
+    let _ = write_bytes(err, line);
+}

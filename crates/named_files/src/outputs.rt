@@ -1,0 +1,324 @@
+//! The files to which go the record of sessions and the image that they leave.
+
+ghost use Rattle.std.specs.Prelude.{◌≡◌, ℕ, List, [], Some, IfErr, IfOk, None, OnErr, OnOk, false, is_ok, option_map};
+ghost use Rattle.command_words.specs.Jobs.{file_uses as the_uses, recorded_in};
+ghost use Rattle.named_files.specs.Apart.{AreSeenApart};
+ghost use Rattle.named_files.specs.Notes.{IsRefused};
+ghost use Rattle.named_files.specs.Outputs.{AreNamed, AreOpened, IsFileWritten, IsOpened, IsUnput, begins_with, is_live as live, is_new, name_of, none_open, none_opened, output_of, record_of};
+ghost use Rattle.named_files.specs.Streams.{IsWrittenBy, closed};
+
+use crate::apart::look_apart;
+use crate::lost::Reason;
+use crate::notes::{NoAnswer, unread};
+use crate::system::System;
+use byte_streams::write_bytes;
+use command_words::{Job, SharedRack, Text};
+use std::alloc::{AllocError, Global};
+use std::io;
+use std::io::Write;
+
+/// A file that is open to be written.
+pub struct OutFile<'a, F> {
+    /// Its name, or that of the place where it goes.
+    pub name: &'a Text,
+    pub file: F,
+    /// What it held as it was opened.
+    pub held: Vec<u8>,
+}
+
+/// The files to which go what sessions leave, where they are named.
+pub struct Outputs<'a, F> {
+    /// That of the record.
+    pub recorded: Option<OutFile<'a, F>>,
+    /// That of the image.
+    pub image: Option<OutFile<'a, F>>,
+}
+
+impl<'a, F> Outputs<'a, F> {
+    /// None is open.
+    fn none() -> Outputs<'a, F>
+        ensures { result ≡ none_open }
+    {
+        Outputs {
+            recorded: None,
+            image: None,
+        }
+    }
+}
+
+/// What is left of those that were opened, once they are closed.
+#[derive(Drop)]
+pub struct Receipts<C> {
+    /// What is left of that of the record.
+    pub recorded: Option<C>,
+    /// What is left of that of the image.
+    pub image: Option<C>,
+}
+
+impl<C> Receipts<C> {
+    /// None was opened.
+    pub fn none() -> Receipts<C>
+        ensures { result ≡ none_opened }
+    {
+        Receipts {
+            recorded: None,
+            image: None,
+        }
+    }
+}
+
+/// Opens a new file for this name.
+fn open_new<'a, S: System>(
+    system: &S,
+    alloc: Global,
+    name: &'a Text,
+) -> Result<OutFile<'a, S::Stream>, NoAnswer>
+    ensures opened { IfOk result (λ out.
+        IsOpened S.Stream.contents is_new (Some name.entry.now) (Some out)) }
+    ensures note { IfErr result (λ missed. IsRefused missed) }
+{
+    match system.open_new(name.as_str()) {
+        Ok(file) => Ok(OutFile {
+            name,
+            file,
+            held: Vec::new(alloc),
+        }),
+        Err(error) => Err(unread(alloc, name, &error)),
+    }
+}
+
+/// Opens the file of this name to go on with it.
+fn open_held<'a, S: System>(
+    system: &S,
+    alloc: Global,
+    name: &'a Text,
+    syncs: bool,
+) -> Result<OutFile<'a, S::Stream>, NoAnswer>
+    ensures opened { IfOk result (λ out.
+        IsOpened S.Stream.contents (S.holds system.now) (Some name.entry.now) (Some out)) }
+    ensures note { IfErr result (λ missed. IsRefused missed) }
+{
+    match system.open_record(name.as_str(), syncs) {
+        Ok((file, held)) => Ok(OutFile { name, file, held }),
+        Err(error) => Err(unread(alloc, name, &error)),
+    }
+}
+
+/// Opens the file for a record, where one is named: that of live sessions to go on with it.
+fn open_record<'a, S: System>(
+    system: &S,
+    alloc: Global,
+    rack: &'a SharedRack,
+    is_live: bool,
+) -> Result<Option<OutFile<'a, S::Stream>>, NoAnswer>
+    ensures named { IfOk result (λ out. name_of out ≡ recorded_in rack.entry.now) }
+    ensures opened { IfOk result (IsOpened S.Stream.contents
+        (begins_with (S.holds system.now) is_live) (recorded_in rack.entry.now)) }
+    ensures note { IfErr result (λ missed. IsRefused missed) }
+{
+    let Some(record) = &rack.record_out else {
+        return Ok(None);
+    };
+    if is_live {
+        Ok(Some(open_held(system, alloc, &record.name, record.syncs)?))
+    } else {
+        Ok(Some(open_new(system, alloc, &record.name)?))
+    }
+}
+
+/// Opens a new file for an image, where its file is named.
+fn open_image<'a, S: System>(
+    system: &S,
+    alloc: Global,
+    name: &'a Option<Text>,
+) -> Result<Option<OutFile<'a, S::Stream>>, NoAnswer>
+    ensures named { IfOk result (λ out. name_of out ≡ name.entry.now) }
+    ensures opened { IfOk result (IsOpened S.Stream.contents is_new name.entry.now) }
+    ensures note { IfErr result (λ missed. IsRefused missed) }
+{
+    match name {
+        Some(name) => Ok(Some(open_new(system, alloc, name)?)),
+        None => Ok(None),
+    }
+}
+
+/// Opens the files for the record and for the image, where they are named. Where one can't be
+/// opened, the image's isn't.
+fn open_both<'a, S: System>(
+    system: &S,
+    alloc: Global,
+    rack: &'a SharedRack,
+    is_live: bool,
+) -> (Outputs<'a, S::Stream>, Result<(), NoAnswer>)
+    ensures opened { AreOpened S.Stream.contents (begins_with (S.holds system.now) is_live)
+        (recorded_in rack.entry.now) rack.entry.now.image_out result.0 }
+    ensures named { OnOk result.1
+        (AreNamed (recorded_in rack.entry.now) rack.entry.now.image_out result.0) }
+    ensures note { IfErr result.1 (λ missed. IsRefused missed) }
+{
+    let recorded = match open_record(system, alloc, rack, is_live) {
+        Ok(recorded) => recorded,
+        Err(missed) => return (Outputs::none(), Err(missed)),
+    };
+    match open_image(system, alloc, &rack.image_out) {
+        Ok(image) => (Outputs { recorded, image }, Ok(())),
+        Err(missed) => {
+            let outputs = Outputs {
+                recorded,
+                image: None,
+            };
+            (outputs, Err(missed))
+        }
+    }
+}
+
+/// Opens the files for the record and for the image that a job's sessions leave, where they are
+/// named.
+fn open_outputs<'a, S: System>(
+    system: &S,
+    alloc: Global,
+    job: &'a Job,
+) -> (Outputs<'a, S::Stream>, Result<(), NoAnswer>)
+    ensures opened { AreOpened S.Stream.contents
+        (begins_with (S.holds system.now) (live job.entry.now)) (record_of job.entry.now)
+        (output_of job.entry.now) result.0 }
+    ensures named { OnOk result.1
+        (AreNamed (record_of job.entry.now) (output_of job.entry.now) result.0) }
+    ensures note { IfErr result.1 (λ missed. IsRefused missed) }
+{
+    match job {
+        Job::Serve { rack, .. } => open_both(system, alloc, rack, false),
+        Job::Host { rack, .. } | Job::Talk { rack } => open_both(system, alloc, rack, true),
+        _ => (Outputs::none(), Ok(())),
+    }
+}
+
+/// The same, where the files that the job writes are others than those that it reads, and than each
+/// other; else none is opened.
+pub fn open_apart<'a, S: System>(
+    system: &S,
+    alloc: Global,
+    job: &'a Job,
+) -> (Outputs<'a, S::Stream>, Result<(), NoAnswer>)
+    ensures opened { AreOpened S.Stream.contents
+        (begins_with (S.holds system.now) (live job.entry.now)) (record_of job.entry.now)
+        (output_of job.entry.now) result.0 }
+    ensures named { OnOk result.1
+        (AreNamed (record_of job.entry.now) (output_of job.entry.now) result.0) }
+    ensures apart { OnOk result.1 (AreSeenApart (S.leads system.now) (the_uses job.entry.now)) }
+    ensures note { IfErr result.1 (λ missed. IsRefused missed) }
+{
+    match look_apart(system, alloc, job) {
+        Ok(()) => open_outputs(system, alloc, job),
+        Err(missed) => (Outputs::none(), Err(missed)),
+    }
+}
+
+/// Closes a stream, where there is one.
+pub fn close_stream<S: System>(system: &S, stream: Option<S::Stream>) -> Option<S::Receipt>
+    ensures { option_map S.received result
+        ≡ option_map (λ file. closed (S.Stream.contents file) false) stream }
+{
+    match stream {
+        Some(file) => Some(system.close(file)),
+        None => None,
+    }
+}
+
+/// Closes a file, where one is open.
+pub fn close_file<S: System>(system: &S, out: Option<OutFile<'_, S::Stream>>) -> Option<S::Receipt>
+    ensures { option_map S.received result
+        ≡ option_map (λ out. closed (S.Stream.contents out.file) false) out.entry }
+{
+    match out {
+        Some(
+            OutFile {
+                name: _,
+                file,
+                held: _,
+            },
+        ) => Some(system.close(file)),
+        None => None,
+    }
+}
+
+/// Closes a file, and puts it in its place where all was written; or says why not all stands there.
+pub fn put_written<S: System>(
+    system: &S,
+    file: S::Stream,
+    end: io::Result<()>,
+) -> (S::Receipt, io::Result<()>)
+    ensures received { S.received result.0
+        ≡ closed (S.Stream.contents file) (is_ok result.1) }
+    ensures cut { OnErr end (is_ok result.1 ≡ false) }
+{
+    match end {
+        Ok(()) => system.put(file),
+        Err(error) => (system.close(file), Err(error)),
+    }
+}
+
+/// Writes these bytes to a file that is empty. Where they couldn't be had, nothing is written.
+fn write_new<W: Write>(file: &mut W, bytes: Result<Vec<u8>, AllocError>) -> io::Result<()>
+    requires { W.contents file.old ≡ Some [] }
+    ensures { (wanted : List ℕ) → IfOk bytes (λ bytes. bytes.items ≡ wanted)
+        → IsWrittenBy result wanted (W.contents file.new) }
+{
+    let bytes = bytes?;
+    write_bytes(file, bytes.as_slice())
+}
+
+/// Writes these bytes to a new file, where one is open, and puts it in its place. Where the bytes
+/// couldn't be had, nothing is written.
+pub fn keep_file<S: System>(
+    system: &S,
+    alloc: Global,
+    bytes: Result<Vec<u8>, AllocError>,
+    out: Option<OutFile<'_, S::Stream>>,
+) -> (Option<S::Receipt>, Option<Reason>)
+    requires { IsOpened S.Stream.contents is_new (name_of out) out }
+    ensures { (wanted : List ℕ) → IfOk bytes (λ bytes. bytes.items ≡ wanted)
+        → IsFileWritten S.received (name_of out.entry) wanted result.0 result.1 }
+{
+    let Some(
+        OutFile {
+            name,
+            mut file,
+            held: _,
+        },
+    ) = out
+    else {
+        return (None, None);
+    };
+    let end = write_new(&mut file, bytes);
+    let (receipt, end) = put_written(system, file, end);
+    (Some(receipt), Reason::why(alloc, Some(name), &end))
+}
+
+/// Leaves a new file for an image unwritten, where one is open, since the record lacks something.
+pub fn leave_file<S: System>(
+    system: &S,
+    alloc: Global,
+    out: Option<OutFile<'_, S::Stream>>,
+) -> (Option<S::Receipt>, Option<Reason>)
+    requires { IsOpened S.Stream.contents is_new (name_of out) out }
+    ensures written { (wanted : List ℕ)
+        → IsFileWritten S.received (name_of out.entry) wanted result.0 result.1 }
+    ensures unput { IsUnput S.received result.0 }
+{
+    let Some(
+        OutFile {
+            name,
+            file,
+            held: _,
+        },
+    ) = out
+    else {
+        return (None, None);
+    };
+    let why = io::Error::other("not written, since the record isn't whole");
+    (
+        Some(system.close(file)),
+        Some(Reason::of(alloc, name, &why)),
+    )
+}

@@ -1,0 +1,68 @@
+//! What the program asks of the system by name.
+
+ghost use Rattle.std.specs.Prelude.{◌≡◌, ◌≤◌, ℕ, false, is_ok, length, take, List, [], Some, IfOk, OnOk, OnErr};
+ghost use Rattle.named_files.specs.Streams.{Closed, closed};
+
+use crate::apart::Places;
+use crate::client_streams::ClientFiles;
+use std::io;
+use std::io::Write;
+use std::sync::Wait;
+use std::thread::Threads;
+
+/// What the program runs on.
+pub trait Runtime: AllocGlobal + Threads + Wait + Sync {}
+
+impl<R: AllocGlobal + Threads + Wait + Sync> Runtime for R {}
+
+/// What the program asks of the system by name. It is shared, so no call changes what contracts see
+/// of it. A stream of a record or an image isn't `Drop`, and neither is its receipt: who is handed
+/// any system can let neither go, so each is closed, and its receipt handed out.
+pub trait System: Places + ClientFiles + Sync {
+    /// What was opened to be written.
+    type Stream: Write + Send;
+    /// What is left of a stream that was closed.
+    type Receipt;
+
+    /// The file of this name holds these bytes.
+    ghost holds: { Self → List ℕ → List ℕ → Type 0 };
+
+    /// What is known of the stream of which this is left.
+    ghost received: { Self.Receipt → Closed };
+
+    /// Reads the file of this name to its end.
+    fn read(&self, name: &str) -> io::Result<Vec<u8>>
+        ensures { IfOk result (λ bytes. holds self.now name.now bytes.items) };
+
+    /// Opens the file of this name, to be written behind what it holds, and reads that. It is made
+    /// where it isn't there. A device or a pipe holds nothing. With `syncs` each flush waits until
+    /// the disk has what was written.
+    fn open_record(&self, name: &str, syncs: bool) -> io::Result<(Self::Stream, Vec<u8>)>
+        ensures { IfOk result (λ opened. holds self.now name.now opened.1.items
+            × (Self.Stream.contents opened.0 ≡ Some opened.1.items)) };
+
+    /// Opens a new file, to be written and put in the place of the file of this name, which is as
+    /// it was until then. A device or a pipe of this name is opened itself.
+    fn open_new(&self, name: &str) -> io::Result<Self::Stream>
+        ensures { IfOk result (λ stream. Self.Stream.contents stream ≡ Some []) };
+
+    /// Cuts off what a file holds behind so many bytes.
+    fn cut(&self, stream: &mut Self::Stream, held: &[u8], kept: usize) -> io::Result<()>
+        requires held { Self.Stream.contents stream.old ≡ Some held.now }
+        requires kept { kept ≤ length held.now }
+        ensures cut { OnOk result (Self.Stream.contents stream.new ≡ Some (take kept held.now)) }
+        ensures same { OnErr result
+            (Self.Stream.contents stream.new ≡ Self.Stream.contents stream.old) };
+
+    /// Why something couldn't be written to it, where that was so: the last reason.
+    fn failure(&self, stream: &Self::Stream) -> Option<io::Error>;
+
+    /// Closes a stream. A new file is put nowhere: it goes.
+    fn close(&self, stream: Self::Stream) -> Self::Receipt
+        ensures { received result ≡ closed (Self.Stream.contents stream) false };
+
+    /// Closes a stream that is whole: once the disk has it, a new file is put in its place.
+    fn put(&self, stream: Self::Stream) -> (Self::Receipt, io::Result<()>)
+        ensures { received result.0
+            ≡ closed (Self.Stream.contents stream) (is_ok result.1) };
+}

@@ -1,0 +1,26 @@
+use refusals::Refusal;
+
+/// Why a job has no answer.
+#[derive(Clone, Copy, Debug, PartialEq, Eq)]
+pub enum Unanswered {
+    /// A file, or standard input, can't be read.
+    File,
+    /// Standard output is a file that the job reads or writes, so nothing can be said there.
+    Output,
+    /// There was no memory.
+    NoMemory,
+}
+
+impl From<Unanswered> for Refusal {
+    ghost use Rattle.std.specs.Prelude.{◌≡◌};
+    ghost use Rattle.named_files.specs.Notes.{refusal_of};
+
+    ghost from_gives = { λ why gives. gives ≡ refusal_of why };
+
+    fn from(why: Unanswered) -> Refusal {
+        match why {
+            Unanswered::File | Unanswered::Output => Refusal::File,
+            Unanswered::NoMemory => Refusal::NoMemory,
+        }
+    }
+}

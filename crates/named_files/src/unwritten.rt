@@ -1,0 +1,57 @@
+//! What couldn't be written.
+
+ghost use Rattle.named_files.specs.Outputs.{IsUnwrittenTold};
+
+use crate::lost::Lost;
+use crate::notes::tell_line;
+use std::io;
+use std::io::Write;
+
+/// What couldn't be written, so that the program ends with status 3.
+#[derive(Drop)]
+pub enum Unwritten {
+    /// The answer, or what a session or a switch is told before it; and what was lost before that
+    /// of what sessions leave.
+    Answer { error: io::Error, lost: Lost },
+    /// The answer, since standard output is a file that the job reads or writes. It was told.
+    Nowhere,
+    /// The line of a setting that stands, and why, where that is known.
+    Setting(Option<io::Error>),
+    /// What sessions leave: their record, the image, or both. The answer was printed.
+    Kept(Lost),
+}
+
+impl From<io::Error> for Unwritten {
+    fn from(error: io::Error) -> Unwritten {
+        Unwritten::Answer {
+            error,
+            lost: Lost::none(),
+        }
+    }
+}
+
+impl Unwritten {
+    /// Tells it on this stream, as far as it can be written: of what sessions leave first, and
+    /// then of the answer.
+    pub fn tell<E: Write>(&self, err: &mut E)
+        ensures { IsUnwrittenTold self.now (E.contents err.old) (E.contents err.new) }
+    {
+        match self {
+            Unwritten::Answer { error, lost } => {
+                lost.tell(err);
+                let _ = err.writeln(format_args!("exchange: the answer can't be written: {error}"));
+            }
+            Unwritten::Nowhere => {}
+            Unwritten::Setting(Some(error)) => {
+                let _ = err.writeln(format_args!(
+                    "exchange: a setting that stands can't be told: {error}"
+                ));
+            }
+            Unwritten::Setting(None) => tell_line(
+                b"exchange: a setting that stands can't be told\n",
+                err,
+            ),
+            Unwritten::Kept(lost) => lost.tell(err),
+        }
+    }
+}
