@@ -11,7 +11,7 @@ ghost use Rattle.named_files.specs.Clients.{clients_by, ends_of};
 ghost use Rattle.exchange.specs.Responses.{IsAnswerTo, IsC004By, IsC004Cut, IsJobAnswer, HasNoSessions, IsJobCut, IsOfTexts, IsPlainAnswer, IsTextAnswer, IsToldCut, KeepsPorts, LeavesRest, given_by, text_in as the_text};
 ghost use Rattle.exchange.specs.Notes.{HasJobOverlap, HasOverlap, IsBeside};
 ghost use Rattle.exchange.specs.Keeping.{AreKept, AreKeptBut};
-ghost use Rattle.named_files.specs.Outputs.{AreNamed, AreOpened, begins_with, is_live, lost_none, output_of, record_of};
+ghost use Rattle.named_files.specs.Outputs.{AreNamed, AreOpened, begins_with, is_live, output_of, record_of};
 ghost use Rattle.exchange.specs.Outcomes.{HasNote, HasTold, IsNothing, IsUnanswered, response_of};
 ghost use Rattle.named_files.specs.Notes.{IsNoAnswer, IsRefused};
 

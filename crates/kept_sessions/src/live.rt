@@ -18,7 +18,7 @@ ghost use Rattle.kept_sessions.specs.Outcomes.{IsToldBy, IsToldOf, IsUnbegun};
 ghost use Rattle.kept_sessions.specs.Keeping.{AreLiveKept, AreWritten};
 ghost use Rattle.named_files.specs.Outputs.{AreNamed, AreOpened, IsFileWritten, IsOpened, IsUnput, is_new, name_of};
 ghost use Rattle.kept_sessions.specs.Records.{BeginsAs, BeginsFor, IsBegun, IsSoFar, head_for, record_front};
-ghost use Rattle.named_files.specs.Streams.{IsFrontOf, IsWrittenBy, closed};
+ghost use Rattle.named_files.specs.Streams.{IsWrittenBy, closed};
 
 use crate::found::Found;
 use crate::recording::{Begun, Unbegun, begin, new_book, refusal_of};

@@ -291,13 +291,9 @@ fn look_at_streams<S: Places>(system: &S, alloc: Global, files: &[FileUse]) -> R
 {
     let out = system.place("/dev/stdout")?;
     let err = system.place("/dev/stderr")?;
-    let why = if are_one_plain(&out, &err) {
-        Unanswered::Output
-    } else {
-        Unanswered::File
-    };
-    look_beside(system, alloc, &err, files, why, false)?;
-    look_beside(system, alloc, &out, files, Unanswered::Output, true)
+    let end = look_beside(system, alloc, &err, files, Unanswered::File, false);
+    look_beside(system, alloc, &out, files, Unanswered::Output, end.is_ok())?;
+    end
 }
 
 /// Looks whether the files that a job writes are others than those that it reads, and than each
@@ -308,6 +304,6 @@ pub(crate) fn look_apart<S: Places>(system: &S, alloc: Global, job: &Job) -> Res
     ensures note { IfErr result (λ missed. IsRefused missed) }
 {
     let files = file_uses(alloc, job)?;
-    look_through(system, alloc, files.as_slice())?;
-    look_at_streams(system, alloc, files.as_slice())
+    look_at_streams(system, alloc, files.as_slice())?;
+    look_through(system, alloc, files.as_slice())
 }

@@ -1,7 +1,7 @@
 //! The files of the real system. Which bytes they hold contracts don't say.
 
 use crate::client_streams::ClientFiles;
-use crate::output_file::{ClosedFile, OutputFile};
+use crate::output_file::{ClosedFile, OutputFile, empty_alone};
 use crate::sent_file::SentFile;
 use crate::system::System;
 use session_answers::AllThere;
@@ -62,8 +62,8 @@ impl ClientFiles for HostRuntime {
         let file = OpenOptions::new()
             .write(true)
             .create(true)
-            .truncate(true)
             .open(self, name)?;
+        empty_alone(&file)?;
         Ok(SentFile::of(file))
     }
 }

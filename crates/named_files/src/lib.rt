@@ -3,8 +3,9 @@
 //!
 //! [`System`] and [`ClientFiles`] say what each call does to the file of which name, [`Places`] to
 //! which file a name leads. `HostRuntime` is the one implementation over the real system, of which
-//! contracts know nothing but names, and [`HostPorts`] is that of `drive_answers`' ports. Streams and
-//! receipts aren't `Drop`: each that is opened is closed, and its receipt is handed out.
+//! contracts know nothing but names, and [`HostPorts`] is that of `drive_answers`' ports. Streams
+//! and receipts of any [`System`] aren't `Drop`: each that is opened is closed, and its receipt is
+//! handed out.
 //!
 //! [`read_contents`] reads a job's files in their order (`AreContents` of `specs/Contents.antt`).
 //! [`open_apart`] opens the files that sessions write, once it has looked that no file is read and

@@ -107,6 +107,36 @@ fn lock_alone(file: &File) -> io::Result<()> {
     }
 }
 
+/// Empties a plain file, and keeps it from other programs that ask for it, as long as it is open.
+pub(crate) fn empty_alone(file: &File) -> io::Result<()> {
+    lock_alone(file)?;
+    if file.metadata()?.is_file() {
+        file.set_len(0)?;
+    }
+    Ok(())
+}
+
+/// The file of a name, kept from other programs that ask for it as long as it is open.
+fn lock_at(rt: &HostRuntime, name: &str) -> io::Result<File> {
+    let file = OpenOptions::new().write(true).open(rt, name)?;
+    lock_alone(&file)?;
+    Ok(file)
+}
+
+/// Puts a new file in its place, unless another program has come to write what stands there.
+fn put_new(rt: &HostRuntime, new: &NewFile) -> io::Result<()> {
+    let place = new.place.as_path();
+    match is_file_at(rt, place.as_str())? {
+        Some(true) => {
+            let there = lock_at(rt, place.as_str())?;
+            let end = fs::rename(rt, new.name.as_str(), place);
+            drop(there);
+            end
+        }
+        _ => fs::rename(rt, new.name.as_str(), place),
+    }
+}
+
 impl OutputFile {
     /// This file, to which nothing has gone.
     fn of(file: File, made: Option<NewFile>, is_file: bool) -> OutputFile
@@ -149,7 +179,7 @@ impl OutputFile {
             .create(true)
             .open(rt, name)?;
         lock_alone(&file)?;
-        if syncs && was.is_none() {
+        if syncs {
             keep_name(rt, followed(rt, name)?.as_path());
         }
         file.read_to_end(&mut held)?;
@@ -171,11 +201,7 @@ impl OutputFile {
     {
         let permissions = match is_file_at(rt, name)? {
             Some(false) => return OutputFile::device(rt, name),
-            Some(true) => {
-                let file = OpenOptions::new().write(true).open(rt, name)?;
-                lock_alone(&file)?;
-                Some(file.metadata()?.permissions())
-            }
+            Some(true) => Some(lock_at(rt, name)?.metadata()?.permissions()),
             None => None,
         };
         let place = followed(rt, name)?;
@@ -238,7 +264,7 @@ impl OutputFile {
             return synced;
         };
         let end = match synced {
-            Ok(()) => fs::rename(rt, new.name.as_str(), new.place.as_path()),
+            Ok(()) => put_new(rt, new),
             Err(error) => Err(error),
         };
         match &end {

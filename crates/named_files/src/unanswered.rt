@@ -3,7 +3,7 @@ use refusals::Refusal;
 /// Why a job has no answer.
 #[derive(Clone, Copy, Debug, PartialEq, Eq)]
 pub enum Unanswered {
-    /// A file, or standard input, can't be read.
+    /// A file, or standard input, can't be read or opened, or isn't one that the job may use.
     File,
     /// Standard output is a file that the job reads or writes, so nothing can be said there.
     Output,

@@ -13,7 +13,8 @@ pub enum Unwritten {
     /// The answer, or what a session or a switch is told before it; and what was lost before that
     /// of what sessions leave.
     Answer { error: io::Error, lost: Lost },
-    /// The answer, since standard output is a file that the job reads or writes. It was told.
+    /// The answer, since standard output is a file that the job reads or writes. It was told,
+    /// where anything is wanted.
     Nowhere,
     /// The line of a setting that stands, and why, where that is known.
     Setting(Option<io::Error>),
