@@ -6,9 +6,15 @@ use std::marker::Model;
 
 /// Texts of their own, as arguments of the command line that stand for one thing each. Contracts
 /// see the list of their bytes.
-#[derive(Drop)]
 pub struct TextList {
     texts: Vec<Text>,
+}
+
+// Said once, so that no function that lets go of one has to say it again.
+impl Drop for TextList {
+    fn drop(self) {
+        let TextList { texts: _ } = self;
+    }
 }
 
 impl Model for TextList {
