@@ -19,6 +19,7 @@ tools/texts/run.py
 tools/hosts/run.sh
 tools/ends/run.sh
 tools/rack/run.py
+examples/patterns/make.sh --check
 bench/planning/run.sh --check
 bench/run/growth.sh --check
 bench/run/apply.sh --check

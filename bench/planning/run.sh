@@ -113,6 +113,7 @@ measure() {
     local proved plain
     proved=$(instructions "$program" plan "$work/$1" --workers 1)
     plain=$(instructions "$work/plain" "$work/$1")
+    : "${proved:?not counted}" "${plain:?not counted}"
     "$program" plan "$work/$1" --workers 1 >"$work/answer"
     "$work/plain" "$work/$1" >"$work/plainly"
     [ "$(head -1 "$work/answer")" = "$(head -1 "$work/plainly")" ]
@@ -142,11 +143,13 @@ count_changes() {
 measure_steady() {
     local steady changes pairs bytes
     steady=$(instructions "$program" plan "$work/$1" --steady)
+    : "${steady:?not counted}" "${2:?not counted}"
     "$program" plan "$work/$1" >"$work/planned"
     "$program" plan "$work/$1" --steady >"$work/steady"
     [ "$(head -1 "$work/steady")" = "$(head -1 "$work/planned")" ]
     "$program" check "$work/$1" "$work/steady" | grep -q '^shortest'
-    read -r changes pairs bytes < <("$program" switch --quiet "$work/$1" --schedule "$work/steady" | count_changes)
+    "$program" switch --quiet "$work/$1" --schedule "$work/steady" >"$work/bytes"
+    read -r changes pairs bytes < <(count_changes <"$work/bytes")
     steady_counts[$1]=$steady
     awk -v name="$1" -v steady="$steady" -v planned="$2" -v changes="$changes" -v pairs="$pairs" -v bytes="$bytes" 'BEGIN {
         printf "%-17s steady: %8d of %8d instructions, ratio %.2f; changes %d, pairs %d, bytes %d\n", \
@@ -175,7 +178,7 @@ switch_growth() {
     local few many times
     few=$(instructions "$program" switch "$work/$1-1024")
     many=$(instructions "$program" switch "$work/$1")
-    times=$(awk "BEGIN { printf \"%.2f\", $many / $few }")
+    times=$(awk "BEGIN { printf \"%.2f\", ${many:?not counted} / ${few:?not counted} }")
     printf '%-14s switch from 1024 to 4096: times %s\n' "$1" "$times"
     judge "switch's growth of $1" "$times" "$greatest_growth"
 }

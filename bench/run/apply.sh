@@ -1,8 +1,8 @@
 #!/usr/bin/env bash
 # Counts the instructions of the largest runs: on a rack of 32 modules with 64 blocks of 256 words each module pushes 64 blocks to the next
-# one. So there are 2048 transfers, and each block is read and written. Counted are `apply` and `run` of that batch, and a session of `serve`
-# that hands it in, plans it and runs it. Each is a whole program, whose wires are plain ones. `call` is a program in C that calls
-# `exchange_apply` of the library, which runs nothing; it has to give the same image as `apply`.
+# one. So there are 2048 transfers, and each block is read and written. Counted are `run` of that batch, and a session of `serve` that hands it
+# in, plans it and runs it. Their wires are plain ones. `apply` runs nothing: it places the blocks in an image. `call` is a program in C that
+# calls `exchange_apply` of the library, which has to give the same image as `apply`. Each is a whole program.
 #
 # With --check each may take as many millions as `greatest` says; else the status is 1. Where valgrind is missing, --check says so and
 # counts nothing. Without --check plain Rust that copies the blocks within the image (plain_apply.rs) is counted too, and has to give the
@@ -24,7 +24,7 @@ work=$(mktemp -d)
 trap 'rm -rf "$work"' EXIT
 
 # A tenth to a fifth more than was counted. A fifth of a session makes its rack, a tenth takes the batch and plans it, and the rest runs it.
-declare -A greatest=([apply]=32 [run]=60 [serve]=25 [call]=1.2)
+declare -A greatest=([apply]=1.5 [run]=60 [serve]=25 [call]=1.2)
 
 {
     echo "batch 2048"

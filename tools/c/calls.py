@@ -79,7 +79,7 @@ def texts_for(draw, name):
     most = draw.choice([0, 3, 10, 40])
     if name == "switch_wired":
         board = spoil.wiring(draw)
-        shape = (plain.extent(plain.read_wiring(board))[0] + draw.choice([0, 0, 0, 1]), plain.BLOCKS, plain.WORDS)
+        shape = (max(plain.read_wiring(board)) + draw.choice([1, 1, 1, 2]), plain.BLOCKS, plain.WORDS)
         batch, schedule = texts.spoilt_schedule(draw, shape, most, plain.busiest)
         return [batch, schedule if draw.random() < 0.6 else b"", spoil.spoil(draw, board) if draw.random() < 0.4 else board]
     shape = (draw.choice([1, 2, 3, 8, 16, 17, plain.MODULES]), plain.BLOCKS, plain.WORDS)

@@ -5,6 +5,7 @@
 #   try        each call with no room, too little, just enough and more, of accepted and refused texts, and without memory
 #   texts      COUNT spoilt texts, 10000 where it isn't said, byte for byte against the built program, with what is told of refusals
 #   states     twice as many streams and states of a switch, and of an end that waits to boot, by the built program and by plain Python
+#   defines    the numbers of exchange.h are those of the sources, of the module for Python and of these tools
 #   names      what `nm` shows of the library and of the kit's file, given and needed, is what names.txt says
 #
 # Libraries and programs that aren't built yet, or are older than their sources, are proved and built first.
@@ -29,6 +30,7 @@ python3 "$here/calls.py" "$work/try" --examples || failed+=" try"
 python3 "$here/calls.py" "$work/try" "${1:-10000}" || failed+=" texts"
 cc "${checks[@]}" -Wl,--wrap=malloc,--wrap=realloc -o "$work/states" "$here/states.c" "$library" "$kit"
 python3 "$here/states.py" "$work/states" $((2 * ${1:-10000})) || failed+=" states"
+python3 "$here/defines.py" || failed+=" defines"
 nm -g "$library" "$kit" | awk 'NF > 1 { print $(NF - 1), $NF }' | LC_ALL=C sort -u >"$work/names"
 cmp "$work/names" "$here/names.txt" || failed+=" names"
 if [ -n "$failed" ]; then

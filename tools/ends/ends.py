@@ -11,6 +11,7 @@ import os
 import random
 import select
 import signal
+import socket
 import subprocess
 import sys
 import time
@@ -614,12 +615,59 @@ def at_a_pty():
         put_away("tty0", "tty1")
 
 
+def two_kinds():
+    """Two switches at ports of two kinds, a pair of pipes and a pty, each way round."""
+    batch = wide_batch()
+    wanted = sent_for(batch)
+    for makes in (Pipes, Pty), (Pty, Pipes):
+        chips = [Far(make(f"port{n}")) for n, make in enumerate(makes)]
+        yield drive(batch, *(chip.way.port for chip in chips), "--go-on"), all_driven(lines_for(batch))
+        yield [chip.heard() for chip in chips], [(b"".join(sent), []) for sent in wanted]
+        put_away("port0", "port1")
+
+
 def is_silent():
     """A switch that answers nothing, at a pty whose reads end by themselves: it is sent one
     enquiry."""
     chip = Far(Pty("port", ["raw", "-echo", "min", "0", "time", "2"]), silent=0)
     yield drive(THREE, "port", "--go-on"), stopped(THREE, 0, "port")
     yield chip.heard(), (FIRST_ASKED, [])
+
+
+def tells_the_switch_nothing():
+    """Where standard output or standard error leads to the switch, nothing is sent or told there."""
+    noted = b"exchange: %s: standard output goes there, and nothing else may\n"
+    wanted = {"stdout": lambda name: (None, noted % name.encode(), 3), "stderr": lambda _: (b"refused file\n", None, 1)}
+    for way, name, heard in (Pty, "port", Far.heard), (Pipes, "port.in", Far.heard_of_nobody):
+        for stream in "stdout", "stderr":
+            chip = Far(way("port"))
+            with open(os.open(name, os.O_WRONLY | os.O_NOCTTY), "wb") as end:
+                process = start_apart([EXCHANGE, "drive", THREE, "port", "--go-on"], stdin=subprocess.DEVNULL, **{stream: end})
+                yield (*process.communicate(), process.returncode), wanted[stream](name)
+            yield heard(chip), (b"", [])
+            put_away("port")
+
+
+def has_both_ends():
+    """`talk` at one terminal, and `c004` at one socket, have both ends of it. A terminal that is named
+    is no place for a record beside standard output."""
+    far, near = os.openpty()
+    name = os.ttyname(near)
+    subprocess.run(["stty", "-F", name, "raw", "-echo"], check=True)
+    talk = [EXCHANGE, "talk", "1x1x1"]
+    os.write(far, b"peek 0 80000800\nbye\n")
+    yield subprocess.run(talk, stdin=near, stdout=near, stderr=near, timeout=LIMIT).returncode, 0
+    yield os.read(far, 100), b"word 00000000\nbye\n"
+    run = subprocess.run([*talk, "--record", name], stdin=subprocess.DEVNULL, stdout=near, stderr=subprocess.PIPE, timeout=LIMIT)
+    told = f"exchange: {name}: standard output goes there, and nothing else may\n"
+    yield (run.stderr.decode(), run.returncode), (told, 3)
+    os.write(far, b"behind")
+    yield os.read(near, 100), b"behind"
+    here, there = socket.socketpair()
+    here.sendall(b"\x02\x00")
+    here.shutdown(socket.SHUT_WR)
+    yield subprocess.run([EXCHANGE, "c004"], stdin=there, stdout=there, stderr=there, timeout=LIMIT).returncode, 0
+    yield here.recv(100), b"\0"
 
 
 # ---- switches as they were left
@@ -973,10 +1021,11 @@ def texts():
 
 CASES = [
     examples, many_settings, other_schedules, a_pty_and_c004, hears_in_order, input_ends, no_line_comes, batch_on_input, is_late, forgets,
-    lies, two_lie, is_loose, dies_at_pipes, one_of_two_dies, dies_at_a_pty, says_too_much, at_a_pty, is_silent, keeps_lines, alters_bytes,
-    at_a_file, refuses, output_is_full, no_memory, no_memory_steady, no_memory_schedule, no_memory_two_ports, no_memory_on_a_board,
-    left_by_another, killed, two_left, too_many_left, loses_an_end, taken_up, answers_at_once, chip_ends,
-    c004_no_memory, texts, boards, a_board_with_holes, a_board_at_c004, the_usual_board, lies_on_a_board, left_alone, refuses_boards,
+    lies, two_lie, is_loose, dies_at_pipes, one_of_two_dies, dies_at_a_pty, says_too_much, at_a_pty, two_kinds, is_silent, tells_the_switch_nothing,
+    has_both_ends, keeps_lines, alters_bytes, at_a_file, refuses, output_is_full, no_memory, no_memory_steady, no_memory_schedule,
+    no_memory_two_ports, no_memory_on_a_board, left_by_another, killed, two_left, too_many_left, loses_an_end, taken_up, answers_at_once,
+    chip_ends, c004_no_memory, texts, boards, a_board_with_holes, a_board_at_c004, the_usual_board, lies_on_a_board, left_alone,
+    refuses_boards,
 ]  # fmt: skip
 
 

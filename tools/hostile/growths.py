@@ -105,10 +105,10 @@ FILES["both"] = FILES["pairs"] + "plan 1\nrun 1\n" + FILES["turned"] + "plan 2\n
 INPUT = "three"
 
 # How often 64 workers fork where each start of a thread is refused. 64 transfers of one link are halved down to one each, and the settings
-# of one aren't; 32 transfers that share no link aren't, and their setting is.
+# of one aren't; 32 transfers that share no link aren't, and their setting is. `apply` runs nothing, and forks nothing.
 FORKS = [
     (["plan", "pairs"], 63), (["switch", "pairs"], 63), (["drive", "pairs", "gone"], 63), (["run", "2x64x1", "pairs"], 63),
-    (["apply", "2x64x1", "pairs", "image"], 63), (["run", "32x2x1", "turned"], 31), (["serve", "32x64x1", "both"], 63 + 31),
+    (["apply", "2x64x1", "pairs", "image"], 0), (["run", "32x2x1", "turned"], 31), (["serve", "32x64x1", "both"], 63 + 31),
 ]  # fmt: skip
 
 COMMANDS = [
@@ -152,7 +152,7 @@ COMMANDS = [
     ["replay", "record"], ["replay", "worded", "--image", "image"], ["replay", "-", "--first", "2"], ["replay", "spoilt", "--shape", "2x2x2"],
     # `Batch::write`.
     ["direct", "moves"], ["direct", "wrong"], ["direct", "-"],
-    ["apply", "3x2x2", "two", "image"], ["apply", "3x2x2", "two", "image", "--workers", "2"], ["apply", "3x2x2", "swap", "image"],
+    ["apply", "3x2x2", "two", "image"], ["apply", "3x2x2", "swap", "image"],
     ["apply", "3x2x1", "two", "image"], ["apply", "3x2x2", "-", "image"],
     ["--help"], ["help", "run"], ["plan", "--help"], ["chart", "three"], [], ["plan", "three", "--workers", "65"],
 ]  # fmt: skip

@@ -264,9 +264,10 @@ def of_text(asked, what, t=0, u=0):
         block = "block {1} of module {0}".format(*plain.destination(plain.read_batch(text, shape)[u])) if name else "one block"
         return f"{place_of(name, u + 2)}: transfers {t} and {u} both write {block} (lines {t + 2} and {u + 2})"
     entries = "moves; a text of moves" if asked.kind == "moves" else "transfers; a batch"
+    schedule, settings = (other, announced(more)) if other else ("the plan", asked.enough or 0)
     return {
         "too many": f"{place_of(name, 1)}: {announced(text)} {entries} has at most 4096",
-        "no setting": f"setting {t}; {other} has {numbered(announced(more), 'setting')}",
+        "no setting": f"setting {t}; {schedule} has {numbered(settings, 'setting')}",
         "no certificate": f'{other}: no certificate: "busiest link E module M" and "named T U .."{known(asked)}',
         "image": f"{other}: {many(t, 'byte')}; an image of {word} has {u}",
         "threads": "no thread could be had for each client; fewer clients may do",

@@ -141,11 +141,6 @@ def read_wiring(text):
     return wiring
 
 
-def extent(wiring):
-    """The shape that a batch has to fit for a board of this wiring, or for racks of the usual one, where there is none."""
-    return WIDEST if wiring is None else (max(wiring) + 1, BLOCKS, WORDS)
-
-
 def links_of(transfer):
     """The two links that a transfer uses: (0, initiator) and (3, responder)."""
     return (0, transfer[1]), (3, transfer[3])

@@ -1,5 +1,6 @@
 """Records of sessions, replayed a second time: plain Python, as plain.py, that shares no code with the product."""
 
+import copy
 import re
 import zlib
 
@@ -7,13 +8,11 @@ import notes
 import plain
 import spoil
 from plain import NUMBER, Refused
-from sessions import HEX8, LINE_BYTES, Exchange
+from sessions import HEX8, Exchange
 
 HEAD = re.compile(rb"record " + rb"x".join([NUMBER] * 3) + rb" " + HEX8 + rb" " + NUMBER)
 CLIENT = re.compile(rb"client ([^\n]*)")
 END = b"end\n"
-# The longest first line of an entry: a session's number, a space, and the longest line of a session.
-LONGEST = 9 + 1 + LINE_BYTES
 SESSION = re.compile(NUMBER + rb" ")
 BATCH = re.compile(rb"batch " + NUMBER)
 SUBMITTED = re.compile(NUMBER + rb" batch " + NUMBER + rb"\n")
@@ -149,24 +148,53 @@ def wrong_in_batch(text, at):
     return number + 1, notes.of_form(b"", 2, *notes.KINDS["batch"][2][1])
 
 
-def is_one_line_call(line):
-    """Whether a line, without its line feed, is a call of one line behind a session's number."""
-    session = SESSION.match(line)
-    return bool(session) and any(form.fullmatch(line[session.end() :]) for form, _, _ in CALLS)
+# The parts of lines: a word as it stands, a number below a limit, and a word of eight hexadecimal digits.
+ANY, WORD = 10**9, "word"
+FORMS = [[f" {word} ".encode(), ANY] for word in ("fetch", "settle", "run", "show", "drop")]
+FORMS += [[b" batch ", plain.TRANSFERS + 1], [b" peek ", ANY, b" ", WORD], [b" poke ", ANY, b" ", WORD, b" ", WORD]]
+PLACES = [plain.WIDEST[0], b" ", plain.WIDEST[1]]
+TRANSFERS = [[word, *PLACES, b" ", *PLACES] for word in (b"push ", b"pull ")]
 
 
-def may_be_torn(rest):
-    """Whether a rest can be what is there of an entry, or of the last line, that was cut off while it was written."""
-    if END.startswith(rest):
-        return rest != END
-    first, _, more = rest.partition(b"\n")
-    if len(first) == len(rest):
-        return len(rest) <= LONGEST
-    session = SESSION.match(first)
-    announced = session and BATCH.fullmatch(first[session.end() :])
-    if announced:
-        return int(announced[1]) <= plain.TRANSFERS and more.count(b"\n") <= int(announced[1])
-    return is_one_line_call(first) and b"\n" not in more
+def is_front(text, parts):
+    """Whether a text is a front of a line of these parts, without its line feed, or the whole of it."""
+    for part in parts:
+        if part == WORD:
+            if not re.match(b"[0-9a-f]{8}", text):
+                return bool(re.fullmatch(b"[0-9a-f]*", text))
+            text = text[8:]
+        elif isinstance(part, int):
+            digits = re.match(b"0|[1-9][0-9]*|", text)[0]
+            if not digits:
+                return not text
+            if int(digits) >= part:
+                return False
+            text = text[len(digits) :]
+        elif not text.startswith(part):
+            return part.startswith(text)
+        else:
+            text = text[len(part) :]
+    return not text
+
+
+def is_transfer(line):
+    """Whether a line of a batch, without its line feed, is one of a transfer."""
+    try:
+        return bool(plain.read_batch(b"batch 1\n" + line + b"\n", plain.WIDEST))
+    except Refused:
+        return False
+
+
+def call_has_begun(rest):
+    """Whether a rest is a front of a session's number and a call, but not the whole of them."""
+    first, feed, more = rest.partition(b"\n")
+    if not feed:
+        return any(is_front(first, [ANY, *form]) for form in FORMS)
+    head = SUBMITTED.match(rest)
+    if not head or int(head[2]) > plain.TRANSFERS:
+        return False
+    *lines, last = more.split(b"\n")
+    return len(lines) < int(head[2]) and all(is_transfer(line) for line in lines) and any(is_front(last, form) for form in TRANSFERS)
 
 
 def head_of(shape, image, names):
@@ -221,9 +249,12 @@ class Replay:
         if zlib.adler32(self.exchange.image()) != total:
             raise Misrecorded("head", text, 0, HEAD_WANTED)
         while first is None or len(self.entries) < first:
-            if may_be_torn(text[at:]) or text.startswith(END, at):
+            if END.startswith(text[at:]) or text.startswith(END, at) or call_has_begun(text[at:]):
                 break
-            at = self.entry(text, at, len(self.entries))
+            end = self.entry(text, at, len(self.entries))
+            if end is None:
+                break
+            at = end
             self.ends.append(at)
         self.rest = text[at:]
         self.ended = self.rest == END
@@ -231,18 +262,23 @@ class Replay:
             raise Misrecorded("more", text, at + len(END), None)
 
     def entry(self, text, at, number):
-        """Replays the entry that stands there, and says where it ends."""
+        """Replays the entry that stands there, and says where it ends. Where its reply is cut off, nothing is done, and it ends nowhere."""
         found = entry_at(text, at)
         if not found:
             fault = Misrecorded(f"call {number}", text, at, f"the call of entry {number}, {CALL_WANTED}")
             fault.line, fault.told = wrong_in_batch(text, at) or (fault.line, fault.told)
             raise fault
         session, answer, named, begin, end = found
+        before = None if b"\n" in text[end : end + 200] else copy.deepcopy(self.exchange)
         try:
             reply = answer(self.exchange, session, *named)
         except Refused as why:
             reply = f"refused {why}"
-        if not text.startswith(reply.encode() + b"\n", end):
+        line = reply.encode() + b"\n"
+        if line != text[end:] and line.startswith(text[end:]):
+            self.exchange = before
+            return None
+        if not text.startswith(line, end):
             raise Misrecorded(f"reply {number}", text, end, f"the reply of entry {number}, {notes.quoted(reply.encode())}")
         self.entries.append((session, text[begin:end].decode(), reply))
         return end + len(reply) + 1

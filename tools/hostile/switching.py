@@ -116,10 +116,10 @@ def are_set(transfers, settings, wiring=None):
 
 
 def read_texts(batch, board):
-    """What the texts of a batch and of a board's wiring say, where there is one: the wiring is looked at first, and last whether the board
-    has what the batch needs."""
+    """What the texts of a batch and of a board's wiring say, where there is one: the wiring is looked at first, then the batch, and then one
+    transfer after another, whether the board has what it needs."""
     wiring = None if board is None else plain.read_wiring(board)
-    transfers = plain.read_batch(batch, plain.extent(wiring))
+    transfers = plain.read_batch(batch, plain.WIDEST)
     for t, (_, initiator, _, responder, *_) in enumerate(transfers if wiring else []):
         if initiator not in wiring or responder not in wiring:
             raise plain.Refused(f"no module {t}")

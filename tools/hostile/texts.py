@@ -368,7 +368,7 @@ def try_wiring(draw):
     """A board's wiring, spoilt in half of the cases, put to `switch`. The batch fits the board mostly. Its schedule is a plan, or in half of
     the cases one that is spoilt."""
     board = spoil.wiring(draw)
-    modules = plain.extent(plain.read_wiring(board))[0] + draw.choice([0, 0, 0, 0, 0, 1])
+    modules = max(plain.read_wiring(board)) + draw.choice([1, 1, 1, 1, 1, 2])
     batch, schedule = spoilt_schedule(draw, (modules, plain.BLOCKS, plain.WORDS), draw.choice([3, 10, 40]), plain.busiest)
     if draw.random() < 0.5:
         board = spoil.spoil(draw, board)

@@ -295,6 +295,49 @@ def all_reduce():
     yield host.end(), ([f"session {k} {k}" for k in range(16)], 0)
 
 
+def ended_so(words, **environment):
+    """What the program prints on both streams with files that are locked so, as refuse.c reads it, and its status."""
+    environment["LD_PRELOAD"] = os.environ["REFUSE_SO"]
+    run = subprocess.run([EXCHANGE, *words.split()], stdin=subprocess.DEVNULL, capture_output=True, timeout=LIMIT, env=environment)
+    return run.stdout.decode(), run.stderr.decode(), run.returncode
+
+
+def write(name, text=""):
+    with open(name, "w") as file:
+        file.write(text)
+
+
+def cannot_lock():
+    """Where the file of a record, of an image or of a client can't be locked it is refused, and stays as it was."""
+    why = "No locks available\n"
+    write("amy.in")
+    for words in "host 1x1x1 amy --record record", "talk 1x1x1 --record record --resume":
+        yield ended_so(words, REFUSE="L"), ("refused file\n", f"exchange: record: {why}", 1)
+        yield os.path.getsize("record"), 0
+    yield ended_so("serve 1x1x1 amy.in --image-out left", REFUSE="L"), ("refused file\n", f"exchange: left: {why}", 1)
+    yield sorted(os.listdir(".")), ["amy.in", "record"]
+    write("left", "old\n")
+    yield ended_so("host 1x1x1 amy --image-out left", REFUSE="L"), ("refused file\n", f"exchange: left: {why}", 1)
+    write("amy.out", "old\n")
+    yield ended_so("host 1x1x1 amy", REFUSE="L"), ("session 0 amy\nended open\n", f"exchange: amy.out: {why}", 1)
+    yield [os.path.getsize(name) for name in ("left", "amy.out")], [4, 4]
+    yield sorted(os.listdir(".")), ["amy.in", "amy.out", "left", "record"]
+
+
+def is_moved_before_the_lock():
+    """A file that another takes the place of between its opening and its lock isn't written, and a new file that is moved then isn't used."""
+    write("amy.in")
+    for name in "record", "other":
+        write(name)
+    told = "exchange: record: another program writes it\n"
+    yield ended_so("host 1x1x1 amy --record record", REFUSE_MOVES="other:record"), ("refused file\n", told, 1)
+    yield ended_so("serve 1x1x1 amy.in --record record", REFUSE_MOVES="record:moved"), ("refused file\n", told, 1)
+    yield sorted(os.listdir(".")), ["amy.in", "moved"]
+    yield ended_so("serve 1x1x1 amy.in --image-out left", REFUSE_MOVES="left.exchange-0:taken"), ("session 0\n", "", 0)
+    yield [os.path.getsize(name) for name in ("moved", "taken", "left")], [0, 0, 4]
+    yield sorted(os.listdir(".")), ["amy.in", "left", "moved", "taken"]
+
+
 def lines_of_shells():
     """What docs/GUIDE.md shows of two shells: of each line the shell, the command, and what it prints."""
     shown, shell = [], None
@@ -338,7 +381,9 @@ def walk():
     yield [is_replayed(shape) for shape in shapes], [True]
 
 
-CASES = [numbers, progress, hangs_up, hears_no_more, hears_late, sixteen, comes_late, closes, all_reduce, walk]
+CASES = [
+    numbers, progress, hangs_up, hears_no_more, hears_late, sixteen, comes_late, closes, all_reduce, cannot_lock, is_moved_before_the_lock, walk,
+]  # fmt: skip
 
 
 def try_case(case):

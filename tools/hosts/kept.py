@@ -3,6 +3,7 @@
 Plain Python that shares no code with the product. What calls do, and what replies they have, tools/hostile says a second time.
 """
 
+import copy
 import os
 import sys
 import zlib
@@ -12,10 +13,10 @@ sys.path.insert(0, f"{TOP}/tools/hostile")
 
 import plain  # noqa: E402
 from plain import Refused  # noqa: E402
-from records import CLIENT, END, HEAD, entry_at, head_of, may_be_torn  # noqa: E402
+from records import CLIENT, END, HEAD, call_has_begun, entry_at, head_of  # noqa: E402
 from sessions import Exchange  # noqa: E402
 
-__all__ = ["END", "Record", "Wrong", "head_of", "judge_client", "may_be_torn"]
+__all__ = ["END", "Record", "Wrong", "head_of", "judge_client"]
 
 
 class Wrong(Exception):
@@ -44,11 +45,12 @@ class Record:
         self.exchange, self.entries, self.ends = Exchange(self.shape, image), [], [at]
         if zlib.adler32(self.exchange.image()) != self.sum:
             raise Wrong("the sum is another")
+        self.reply_has_begun = False
         while self.take_entry(text):
             pass
         self.rest = text[self.ends[-1] :]
         self.ended = self.rest == END
-        if not self.ended and not may_be_torn(self.rest):
+        if not END.startswith(self.rest) and not call_has_begun(self.rest) and not self.reply_has_begun:
             raise Wrong(f"behind {len(self.entries)} entries stands {self.rest[:200]!r}")
 
     def take_entry(self, text):
@@ -58,12 +60,14 @@ class Record:
             return False
         session, answer, named, begin, end = found
         line, behind = plain.line_at(text, end)
-        if line is None:
-            return False
+        exchange = copy.deepcopy(self.exchange) if line is None else self.exchange
         try:
-            reply = answer(self.exchange, session, *named)
+            reply = answer(exchange, session, *named)
         except Refused as why:
             reply = f"refused {why}"
+        if line is None:
+            self.reply_has_begun = reply.encode().startswith(text[end:])
+            return False
         if line != reply.encode():
             raise Wrong(f"entry {len(self.entries)} has {line!r}, and its reply is {reply!r}")
         if self.names and session >= len(self.names):

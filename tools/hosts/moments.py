@@ -20,7 +20,7 @@ import sys
 import tempfile
 import time
 
-from kept import END, Record, Wrong, head_of, judge_client, may_be_torn
+from kept import END, Record, Wrong, head_of, judge_client
 from records import made
 
 TOP = os.path.dirname(os.path.dirname(os.path.dirname(os.path.abspath(__file__))))
@@ -151,6 +151,24 @@ def begin(bytes_at_most=None):
         resource.setrlimit(resource.RLIMIT_FSIZE, (bytes_at_most, bytes_at_most))
 
 
+# The hosts of the case or the round at hand.
+started = []
+
+
+def start(words, bytes_at_most=None, **ends):
+    """Starts a host, which `stop_all` ends at the latest."""
+    started.append(subprocess.Popen(words, preexec_fn=lambda: begin(bytes_at_most), **ends))
+    return started[-1]
+
+
+def stop_all():
+    """Ends the hosts that aren't at their end, as where something is wrong, or this tool is stopped."""
+    while started:
+        process = started.pop()
+        process.kill()
+        process.communicate()
+
+
 class Host:
     """A host of sixteen clients at work, on a record in its folder. Files may have so many bytes, where a number is given."""
 
@@ -159,7 +177,7 @@ class Host:
         self.clients = [Client(name, life(draw, shape, k % shape[0], number, last)) for k, name in enumerate(self.names)]
         words = [EXCHANGE, "host", shown(shape), *self.names, "--record", f"{room}/record", *options]
         ends = {"stdin": subprocess.DEVNULL, "stdout": subprocess.PIPE, "stderr": subprocess.PIPE}
-        self.process = subprocess.Popen(words, preexec_fn=lambda: begin(bytes_at_most), **ends)
+        self.process = start(words, bytes_at_most, **ends)
 
     def go_on(self, seconds):
         """Lets the clients work for so long, or until all have said their last command and heard its reply, or the host is gone."""
@@ -184,8 +202,6 @@ class Host:
         try:
             out, err = self.process.communicate(timeout=LIMIT)
         except subprocess.TimeoutExpired:
-            self.process.kill()
-            self.process.communicate()
             raise Wrong("it hangs") from None
         return out.decode(), err.decode(), self.process.returncode, parts
 
@@ -220,12 +236,17 @@ def judge(room, shape, names, said):
     return record
 
 
+def begun(number):
+    """The chance of a round, its shape, and how many hosts are killed in it."""
+    draw = random.Random(f"moments {number}")
+    return draw, (draw.randint(2, 32), draw.randint(2, 3), draw.randint(1, 4)), draw.randint(1, 4)
+
+
 def try_kills(number):
     """A round of hosts on one record, all of which are killed but the last: how often one was killed, how many entries there are, and what is
     wrong."""
-    draw = random.Random(f"moments {number}")
-    shape = (draw.randint(2, 32), draw.randint(2, 3), draw.randint(1, 4))
-    kills, said, before = draw.randint(1, 4), [[] for _ in range(CLIENTS)], b""
+    draw, shape, kills = begun(number)
+    said, before = [[] for _ in range(CLIENTS)], b""
     with tempfile.TemporaryDirectory(prefix="moments-") as room:
         try:
             for turn in range(kills + 1):
@@ -247,6 +268,8 @@ def try_kills(number):
                 raise Wrong(f"the last host has status {status}, and prints {out!r} and {err[:300]!r}")
         except (Wrong, OSError, subprocess.TimeoutExpired) as why:
             return kills, 0, f"round {number}, shape {shown(shape)}: {why!r}"
+        finally:
+            stop_all()
     return kills, len(record.entries), None
 
 
@@ -329,7 +352,7 @@ def try_killed_resuming():
         for turn in range(40):
             words = [EXCHANGE, "host", shown(shape), *names, "--record", f"{room}/record", "--resume"]
             ends = {"stdin": subprocess.DEVNULL, "stdout": subprocess.DEVNULL, "stderr": subprocess.DEVNULL}
-            process = subprocess.Popen(words, preexec_fn=begin, **ends)
+            process = start(words, **ends)
             time.sleep(draw.uniform(0, 0.15))
             process.send_signal(draw.choice(SIGNALS))
             process.wait(LIMIT)
@@ -374,8 +397,8 @@ def try_full_disk():
 
 
 def try_taken_away():
-    """The file of a record is moved, or unlinked, while clients are at work. They go on; where it was moved it has all, where it was unlinked
-    there is none."""
+    """The file of a record is moved, or unlinked, while clients are at work. They go on, and in the end the host tells it, and leaves no image;
+    where it was moved it has all, where it was unlinked there is none."""
     for turn, is_moved in enumerate([True, False] * 3):
         draw, shape = random.Random(f"away {turn}"), (4, 2, 1)
         with tempfile.TemporaryDirectory(prefix="moments-") as room:
@@ -390,12 +413,13 @@ def try_taken_away():
                 continue
             host.go_on(LIMIT)
             out, err, status, parts = host.end()
-            if status != 0 or os.path.exists(f"{room}/record"):
+            told = f"exchange: {room}/record: its name leads to another file now, or to none\n"
+            if status != 3 or not err.startswith(told) or any(os.path.exists(f"{room}/{name}") for name in ("record", "left")):
                 raise Wrong(f"away {turn}: status {status}, {out!r}, {err[:300]!r}")
             if is_moved:
                 os.rename(f"{room}/moved", f"{room}/record")
                 record = judge(room, shape, host.names, [sayings for sayings, _ in parts])
-                if not record.ended or read(f"{room}/left") != record.exchange.image():
+                if not record.ended:
                     raise Wrong(f"away {turn}: the moved record isn't whole")
     return 6
 
@@ -483,15 +507,16 @@ def try_reader():
 
 
 def try_rests():
-    """What may be torn, and what may not."""
-    may = [b"", b"e", b"en", b"end", b"1", b"12 peek", b"0 peek 0 80000800", b"0 peek 0 80000800\n", b"0 peek 0 80000800\nwor", b"0 batch 2\n", b"0 batch 2\npush 0 0 1 0\n"]
-    may += [b"0 batch 2\npush 0 0 1 0\npush 0 0 1 1\nacc", b"0 batch 0\n"]
-    may_not = [END, b"\n", b"end\n\n", b"ends\n", b"0 progress\n", b"0 peek 0 80000800\nword 00000000\n", b"x" * 100, b"0 batch 1\npush 0 0 1 0\naccepted 1\n", b"0 batch 4097\n"]
+    """What may stand behind the entries of a record, and what may not."""
+    head = head_of((2, 1, 1), bytes(8), [])
+    may = [b"", b"e", b"en", b"end", END, b"1", b"12 peek", b"0 peek 0 80000800", b"0 peek 0 80000800\n", b"0 peek 0 80000800\nwor", b"0 batch 2\n", b"0 batch 2\npush 0 0 1 0\n"]
+    may += [b"0 batch 2\npush 0 0 1 0\npush 0 0 1 1\nacc", b"0 batch 0\n", b"0 batch 0\naccepted 1", b"0 batch 3000\npush 31 63 0 0\npull 3", b"999999999 p", b"0 show 1\nrefused unknown"]
+    may_not = [b"\n", b"end\n\n", b"ends\n", b"0 progress\n", b"x", b"x" * 1000, b"0 batch 4097\n", b"0 batch 40960", b"0 batch 2\npush 0 0 1 0\npull 32", b"0 batch 2\n0 peek 0 80000800\n"]
+    may_not += [b"0 peek 0 80000800\nx", b"0 peek 0 80000800\nword 00000001", b"0 batch 1\npush 0 0 1 0\naccepted 2", b"0 batch 1\npush 0 0 1 0\npush 0 0 1 0\n", b"00", b"1000000000", b"0 peek 0 8000080g"]
     for rest in may:
-        if not may_be_torn(rest):
-            raise Wrong(f"{rest!r} can't be torn")
+        Record(head + rest)
     for rest in may_not:
-        if may_be_torn(rest):
+        if not is_wrong(lambda: Record(head + rest)):
             raise Wrong(f"{rest!r} can be torn")
     return len(may) + len(may_not)
 
@@ -505,21 +530,40 @@ def try_all(cases):
         except (Wrong, OSError, subprocess.TimeoutExpired) as why:
             failed += 1
             print(f"moments: WRONG: {case.__name__[4:]}: {why!r}", flush=True)
+        finally:
+            stop_all()
     return failed
+
+
+def numbers_of(count):
+    """The rounds in which so many hosts are killed, by their numbers."""
+    numbers, kills = [], 0
+    while kills < count:
+        kills += begun(len(numbers))[2]
+        numbers.append(len(numbers))
+    return numbers
+
+
+def leave(*_):
+    """Ends this process so that its hosts and its folder go with it. Another signal leaves it the time for that."""
+    signal.signal(signal.SIGTERM, signal.SIG_IGN)
+    sys.exit(1)
+
+
+def obey():
+    signal.signal(signal.SIGTERM, leave)
 
 
 def kill(count):
     """Kills hosts until so many are killed: how many rounds are wrong."""
     killed = entries = 0
     wrong = []
-    with multiprocessing.Pool(len(os.sched_getaffinity(0))) as pool:
-        for kills, more, why in pool.imap_unordered(try_kills, range(count)):
+    with multiprocessing.Pool(len(os.sched_getaffinity(0)), obey) as pool:
+        # Each round comes to its end: a pool that is stopped before leaves hosts and folders.
+        for kills, more, why in pool.imap_unordered(try_kills, numbers_of(count)):
             killed, entries = killed + kills, entries + more
             if why:
                 wrong.append(why)
-            if killed >= count:
-                pool.terminate()
-                break
     print(f"moments: {killed} hosts of {CLIENTS} clients killed, {entries} entries, {len(wrong)} rounds wrong", flush=True)
     for why in wrong[:5]:
         print(f"moments: WRONG: {why}")
@@ -527,6 +571,7 @@ def kill(count):
 
 
 def main():
+    obey()
     what = sys.argv[1] if len(sys.argv) > 1 else "200"
     failed = try_all([try_judge_of_clients, try_reader, try_rests])
     if what != "self":

@@ -2,13 +2,18 @@
 # Live clients of `exchange host`, over named pipes: tools/hosts/run.sh [COUNT]
 #
 # hosts.py makes the pipes, and is each client. It also runs the walks of docs/GUIDE.md, in two shells, and examples/all-reduce.py. moments.py
-# kills hosts at random moments, COUNT times, 200 where it isn't said, and looks at what their records have. A program that isn't built yet, or
+# kills hosts at random moments, COUNT times, 200 where it isn't said, and looks at what their records have. flips.py asks `replay` about records
+# in which one bit is wrong, here each ninth. A program that isn't built yet, or
 # is older than its sources, is proved and built first. Another one is tried where EXCHANGE names it.
 set -euo pipefail
 unset CDPATH
 here=$(cd "$(dirname "${BASH_SOURCE[0]}")" && pwd)
 top=$(cd "$here/../.." && pwd)
+work=$(mktemp -d)
+trap 'rm -rf "$work"' EXIT
 export PYTHONDONTWRITEBYTECODE=1
 [ -n "${EXCHANGE-}" ] || "$top/exchange" prove
-python3 "$here/hosts.py"
-exec python3 "$here/moments.py" "${1-200}"
+cc -O2 -shared -fPIC -o "$work/refuse.so" "$top/tools/hostile/refuse.c" -ldl
+REFUSE_SO=$work/refuse.so python3 "$here/hosts.py"
+python3 "$here/flips.py" 2 9
+python3 "$here/moments.py" "${1-200}"

@@ -1,7 +1,8 @@
 #!/usr/bin/env python3
 """Tries what an install puts into a folder, and the calls for programs in Python: tools/python/run.py [COUNT]
 
-    install     puts what its list says, stops where a file is in the way, and what it put is taken away again, and no more
+    install     puts what its list says, stops where a file is in the way, and what it put is taken away again, and no more, also where it
+                was interrupted
     pages       helps call the program by its name, what `man` shows has each line of them, and bash completes commands and options; what is
                 installed names no page and no file that isn't
     C           a program that pkg-config gives the words for, and one that is linked with the shared library
@@ -125,6 +126,68 @@ def try_install(room):
     install("no folder for the folder", 1, f"{room}/none/rack")
     install("other words", 2, "--help")
     return rack
+
+
+# What no install may be put into, since its name can't stand in exchange.pc.
+UNNAMED = " \t\n$'\"\\#"
+
+# A `cp` that fails the tenth time.
+TENTH_FAILS = f"""#!/bin/sh
+echo >>"$CALLS"
+[ "$(wc -l <"$CALLS")" -lt 10 ] && exec {shutil.which("cp")} "$@"
+"""
+
+
+def try_interrupted(room):
+    """What an install put that came to no end is taken away, and so are the folders that it made."""
+    few, broken = f"{room}/few", f"{room}/broken"
+    os.mkdir(few)
+    Path(few, "cp").write_text(TENTH_FAILS)
+    os.chmod(f"{few}/cp", 0o755)
+    env = {**os.environ, "PATH": f"{few}:{os.environ['PATH']}", "CALLS": f"{few}/calls"}
+    install("an install that is interrupted", 1, broken, env=env)
+    files = [name for name, text in tree(broken).items() if text is not None]
+    expect("nine files and their list are put", len(files) == 10, files)
+    install("uninstall what was interrupted", 0, broken, script="uninstall")
+    expect("nothing is left of it", not os.path.exists(broken), tree(broken).keys())
+
+
+def try_modes(room):
+    """Anybody may read what is installed and run what is a program, whatever the umask of who installs."""
+    rack, programs = f"{room}/modes", ("bin/exchange", "lib/libexchange.so")
+    install("install with a umask", 0, rack, umask=0o077)
+    for name in (line for line in Path(rack, "share/exchange/installed").read_text().splitlines() if not line.endswith("/")):
+        page = name.removeprefix("share/doc/exchange/")
+        runs = name in programs or page != name and os.access(f"{TOP}/{page}", os.X_OK)
+        mode = os.stat(f"{rack}/{name}").st_mode & 0o777
+        expect(f"the mode of {name}", mode == (0o755 if runs else 0o644), oct(mode))
+    install("uninstall what a umask was for", 0, rack, script="uninstall")
+
+
+def try_in_the_way(room):
+    """What is in the way: a link that leads nowhere, and files whose names are parts of those that an earlier install is said to have put.
+    What can't be put anywhere: the folders whose names exchange.pc can't say."""
+    mine = f"{room}/own"
+    os.makedirs(f"{mine}/bin")
+    os.symlink("nowhere", f"{mine}/bin/exchange")
+    told = install("a link that leads nowhere in the way", 1, mine)
+    expect("it is named, and it stays", f"{mine}/bin/exchange is there" in told and os.listdir(mine) == ["bin"] and os.path.islink(f"{mine}/bin/exchange"), told)
+    os.remove(f"{mine}/bin/exchange")
+    os.makedirs(f"{mine}/lib")
+    os.makedirs(f"{mine}/share/exchange")
+    Path(mine, "share/exchange/installed").write_text("share/exchange/installed\nbin/exchange.old\nold/bin/exchange\nlib/libexchange-a\n")
+    for name in ("bin/exchange", "lib/libexchange.a"):
+        Path(mine, name).write_text("mine")
+    before = tree(mine)
+    told = install("files whose names are parts of others", 1, mine)
+    expect("both are named, and they stay", told.count(" is there already") == 2 and tree(mine) == before, told)
+    Path(mine, "share/exchange/installed").write_text("share/exchange/installed.old\nbin/exchange\n")
+    before = tree(mine)
+    install("uninstall by a list that doesn't name itself", 1, mine, script="uninstall")
+    expect("it takes nothing away", tree(mine) == before)
+    for sign in UNNAMED:
+        told = install(f"a folder with {sign!r} in its name", 1, f"{room}/a{sign}b")
+        expect("that it can't be named is told", "exchange.pc can't name this folder" in told and not os.path.exists(f"{room}/a{sign}b"), told)
 
 
 def try_home(room):
@@ -383,6 +446,15 @@ def try_all_texts(count):
     expect(f"{count} spoilt texts", not differing, "\n".join(str(text_at(number))[:2000] for number in differing[:3]))
 
 
+# What is told where an end refuses a byte.
+FAULTS = {
+    states.BOOTSTRAP: "a bootstrap of {} bytes isn't taken",
+    states.MISALIGNED: "the address is no multiple of four",
+    states.OUTSIDE: "the memory doesn't have the address",
+    states.FAILED: "the end has failed before",
+}
+
+
 def hand(number):
     """A stream of this number to a switch, and one to an end, by the module and by plain Python: what both leave."""
     import exchange
@@ -412,7 +484,7 @@ def hand(number):
         replies, fault = mine.take(text), None
     except exchange.EndFailed as error:
         replies, fault = error.replies, str(error)
-    yield (replies, fault, memory), (bytes(end.replies), exchange._FAULTS[failed[0]].format(text[end.statuses.index(failed[0])]) if failed else None, end.memory)
+    yield (replies, fault, memory), (bytes(end.replies), FAULTS[failed[0]].format(text[end.statuses.index(failed[0])]) if failed else None, end.memory)
 
 
 def try_states(count):
@@ -454,6 +526,35 @@ def try_held():
     expect("the memory is free again", (error_of(memory.extend, b"more"), len(memory)) == (None, 12))
 
 
+def try_ranges():
+    """The first and the last port and address that there are, and those beside them; and bytes that are refused in several calls."""
+    import exchange
+
+    switch = exchange.C004()
+    for name, asked in {
+        "source": {(0,): None, (31,): None, (-1,): ValueError, (32,): ValueError},
+        "joined": {(0, 31): None, (31, 0): None, (-1, 0): ValueError, (0, -1): ValueError, (32, 0): ValueError, (0, 32): ValueError},
+    }.items():
+        found = {ports: error_of(getattr(switch, name), *ports) for ports in asked}
+        expect(f"the ports of {name}", found == asked, found)
+    asked = {0: None, 0xFFFFFFFF: None, -1: ValueError, 1 << 32: ValueError}
+    found = {base: error_of(exchange.LinkEnd, bytearray(4), base) for base in asked}
+    expect("the addresses of a memory", found == asked, found)
+    counts = []
+    for sent in (b"\7", b"\2\40\2", b"\37\4", b"\x20\1\x20"):
+        switch.take(sent)
+        counts.append(switch.refused)
+    expect("bytes that are refused in several calls", counts == [1, 2, 2, 4], counts)
+    end = exchange.LinkEnd(bytearray(4), 0)
+    told = []
+    for sent in (b"\5", b"\0"):
+        try:
+            end.take(sent)
+        except exchange.EndFailed as error:
+            told.append(str(error))
+    expect("an end that has failed", told == [FAULTS[states.BOOTSTRAP].format(5), FAULTS[states.FAILED]], told)
+
+
 def try_threads(count=16):
     """The texts that one thread alone is answered to, put to several at once, to each in another order."""
     asked = [text_at(number) for number in range(240)]
@@ -471,6 +572,9 @@ def main():
     count = int(sys.argv[1]) if len(sys.argv) > 1 else 2000
     with tempfile.TemporaryDirectory(prefix="python-") as room:
         rack = try_install(room)
+        try_interrupted(room)
+        try_modes(room)
+        try_in_the_way(room)
         module = str(next(Path(rack).rglob("exchange.py")))
         try_home(room)
         try_pages(rack)
@@ -479,6 +583,7 @@ def main():
         try_all_texts(count)
         try_states(count)
         try_held()
+        try_ranges()
         try_threads()
         install("uninstall", 0, rack, script="uninstall")
         expect("nothing is left", not os.path.exists(rack), tree(rack).keys())

@@ -4,7 +4,7 @@
 Each case is a run: `exchange drive` sets a switch in another process, and a process for each module obeys its orders, by the plan, a steady
 plan or a schedule by hand. COUNT random batches follow, 40 where it isn't said. At the end the image has to be the one that
 `exchange apply` makes. Modules that do what they are told for link 0 before they look at link 3 have to hang in a ring, and in a transfer
-within a module.
+within a module. A switch alone and a module alone are handed words in parts, and the switch words that come before it has settled.
 
 What isn't built yet is proved and built first, and all is installed in a folder for the while. Another one is tried where RACK names it.
 """
@@ -14,6 +14,7 @@ import os
 import random
 import select
 import signal
+import socket
 import subprocess
 import sys
 import tempfile
@@ -67,6 +68,12 @@ CASES = [
 
 # What hangs with links in turn.
 RINGS = [("a ring", "4x1x16", RING), ("a transfer within a module", "2x4x2", WITHIN)]
+
+# What joins link 0 of module 0 and link 3 of module 1. Behind that a switch isn't ready until SETTLE comes.
+JOIN, SETTLE = b"\4\1\0\x11", b"\3"
+
+# A block of 256 words, as it comes over a link.
+PARTS = [b"a" * 600, b"b" * 424]
 
 wrong = []
 
@@ -125,6 +132,74 @@ class Racks:
         told = run.communicate(timeout=LIMIT)[0].decode()
         expect(what, run.returncode == 1 and told.splitlines()[:1] == [line], told)
 
+    def start_alone(self, name, *words, links):
+        """Starts the switch or a module alone, with these links."""
+        words = [f"{EXAMPLES}/rack/{name}.py", *words, *(str(link.fileno()) for link in links)]
+        ends = {"stdin": subprocess.PIPE, "stdout": subprocess.PIPE, "stderr": subprocess.STDOUT, "pass_fds": [link.fileno() for link in links]}
+        run = subprocess.Popen([sys.executable, *words], start_new_session=True, env=self.env, **ends)
+        for link in links:
+            link.close()
+        return run
+
+    def carries(self, what, sent, *wanted):
+        """Notes what comes of words of link 0 of module 0 at a switch that is sent these bytes: what goes on to link 3 of module 1, and what the
+        switch tells at its end."""
+        near, far = zip(*(socket.socketpair() for _ in range(4)))
+        for name in "port.in", "port.out":
+            os.mkfifo(name)
+        run = self.start_alone("switch", "port", links=near)
+        ports = [os.open(name, os.O_RDWR) for name in ("port.in", "port.out")]
+        os.write(ports[0], sent)
+        send(far[0], PARTS, [far[3]])
+        carried = take(far[3], len(b"".join(PARTS)))
+        for port in ports:
+            os.close(port)
+        found = carried, run.communicate(timeout=LIMIT)[0]
+        for name in "port.in", "port.out":
+            os.unlink(name)
+        expect(what, found == wanted, found)
+
+    def receives(self, what, parts, *wanted):
+        """Notes what a module does that is told to receive a block, which comes in these parts: what it says before the last one, its
+        acknowledge, what it prints to its end, and how it ends."""
+        near, far = zip(*(socket.socketpair() for _ in range(2)))
+        self.write(what, "2x1x256", "batch 1\npush 0 0 1 0\n", "settings 1\nsetting 0\n")
+        Path("image").write_bytes(bytes(2048))
+        run = self.start_alone("module", "1", "2x1x256", "batch", "schedule", "image", links=near)
+        run.stdin.write(b"setting 0\n")
+        run.stdin.flush()
+        early = send(far[1], parts, [far[1], run.stdout])
+        far[1].shutdown(socket.SHUT_WR)
+        acknowledge = take(far[1], 1)
+        printed = run.communicate(timeout=LIMIT)[0]
+        found = early, acknowledge, printed if run.returncode == 0 else printed.splitlines()[-1], run.returncode
+        expect(what, found == wanted, found)
+
+
+def send(link, parts, others):
+    """Sends parts over a link, one once the one before has been seen, if the other end is there: what of these can be read before the last."""
+    ready = []
+    try:
+        for part in parts:
+            ready = select.select(others, [], [], SILENCE)[0]
+            link.sendall(part)
+    except (BrokenPipeError, ConnectionResetError):
+        # The other end is gone.
+        pass
+    return ready
+
+
+def take(link, count):
+    """So many bytes that come over a link, or those that come before it ends or says nothing more."""
+    taken = b""
+    try:
+        while len(taken) < count and select.select([link], [], [], SILENCE)[0] and (part := link.recv(count - len(taken))):
+            taken += part
+    except ConnectionResetError:
+        # The other end is gone, and has left bytes.
+        pass
+    return taken
+
 
 def stop(run):
     """Ends a rack with all its processes."""
@@ -153,7 +228,12 @@ def try_all(racks, count):
         racks.hangs(*ring)
     racks.refuses("two transfers that write one block", "refused overlap 0 1", "3x1x1", "batch 2\npush 0 0 1 0\npush 2 0 1 0\n", [])
     racks.refuses("no schedule of the batch", "refused check missing 1", "2x1x1", read("swap.txt"), "settings 1\nsetting 0\n")
-    print(f"rack of processes: {len(CASES) + len(RINGS) + 2 + count} tried, {len(wrong)} wrong")
+    whole = b"".join(PARTS)
+    racks.carries("words in parts", JOIN + SETTLE, whole, b"")
+    racks.carries("words before the switch has settled", JOIN, b"", b"switch.py: words come over a link that isn't joined\n")
+    racks.receives("a block in parts", PARTS, [], b"\0", b"done 0\n" + whole, 0)
+    racks.receives("a part of a block", PARTS[:1], [], b"", b"EOFError: module.py: the link has ended", 1)
+    print(f"rack of processes: {len(CASES) + len(RINGS) + 6 + count} tried, {len(wrong)} wrong")
 
 
 def main():

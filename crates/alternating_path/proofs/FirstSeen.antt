@@ -42,12 +42,6 @@ pub record Partial (f : List (Option ℕ)) (n : ℕ) (setting_of : List (Option 
   pub below : All (All (λ u. u < n)) settings
   pub by_least : (i j : ℕ) → i < j → j < length settings → least settings i < least settings j
 
-none_at : (n i : ℕ) → let o : Option ℕ = get_or (replicate n None) i None in o ≡ None
-none_at n i = elim (cases_lt i n) [
-  | inl within ↦ get_or-replicate n i None None within
-  | inr past ↦ get_or_past _ i None (rw length-replicate past)
-]
-
 pub rise_all : (n : ℕ) (settings : List (List ℕ)) → All (All (λ u. u < n)) settings → All (All (λ u. u < n + 1)) settings
 rise_all n settings = All-weaker (All (λ u. u < n)) (All (λ u. u < n + 1)) (λ s. All-weaker (λ u. u < n) (λ u. u < n + 1) (λ u lt. omega arith) s) settings
 

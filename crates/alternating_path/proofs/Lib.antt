@@ -5,7 +5,6 @@ pub mod AlternatingPath
 pub mod Shown
 pub mod Noted
 pub mod Held
-pub mod Placed
 pub mod Step
 pub mod FirstSeen
 pub mod Joined

@@ -1,5 +1,5 @@
 -- How many placed transfers use a link.
-use Rattle.std.specs.Prelude.{◌≡◌, ◌↔◌, ℕ, ◌<◌, List, length, Option, None, is_some, Bool, ◌&&◌, ◌==◌, AllPairs, Contains}
+use Rattle.std.specs.Prelude.{◌≡◌, ℕ, List, length, Option, None, is_some, Bool, ◌&&◌, ◌==◌}
 use Rattle.batch.specs.declared.transfer.Transfer.{Transfer}
 use Rattle.link_graph.specs.declared.link.End.{End}
 use Rattle.link_graph.specs.declared.link.Link.{Link}
@@ -7,7 +7,7 @@ use Rattle.link_graph.specs.Uses.{Uses}
 use Rattle.link_graph.specs.Counts.{count_below, module_at}
 use Rattle.batch.specs.Overlap.{transfer_at}
 use Rattle.alternating_path.specs.Ends.{link_at}
-use Rattle.alternating_path.specs.Colouring.{Colouring, colour_at, HasColour}
+use Rattle.alternating_path.specs.Colouring.{Colouring, colour_at}
 
 -- whether transfer t uses the link
 unfoldable pub uses_link : List Transfer → Link → ℕ → Bool
@@ -31,11 +31,3 @@ pub record HasFullLink (s : Colouring) (t : ℕ) : Type 0 where
 -- t isn't placed, and there is no room for it
 abbrev pub IsShutOut : Colouring → ℕ → Type 0
 IsShutOut s t = (colour_at s.colour t ≡ None) × HasFullLink s t
-
--- ---- what the count means
-
--- just the placed transfers that use the link, ascending
-pub record ArePlacedUsers (batch : List Transfer) (colour : List (Option ℕ)) (link : Link)
-    (users : List ℕ) : Type 0 where
-  pub ascending : AllPairs (λ t u. t < u) users
-  pub just : (t : ℕ) → Contains users t ↔ (Uses batch t link × HasColour colour t)

@@ -8,8 +8,7 @@ use Rattle.batch_book.specs.declared.close.SeatMissing.{SeatMissing}
 use Rattle.batch_book.specs.declared.entry.Entry.{Entry}
 use Rattle.batch_book.specs.Seats.{SeatState, parts_of, entries_of, LogAgrees}
 use Rattle.batch_book.specs.Exchanges.{Exchange}
-use Rattle.batch_book.specs.History.{Account, AreUnstopped, IsReplay}
-use Rattle.batch_book.specs.Machine.{opened as opened_with}
+use Rattle.batch_book.specs.History.{Account, AreUnstopped}
 use Rattle.batch_book.specs.Recording.{AreAllBut}
 use Rattle.batch_book.specs.Replies.{NeverFail}
 use Rattle.batch_book.specs.Values.{greatest}
@@ -29,14 +28,6 @@ pub record AreClosed {P W : Type 0} (seen : Ghosts P) (sure : W → ℕ → Type
   pub counted : length told ≡ entries_of seats
   pub none_ahead : All (λ s. s.seen ≤ greatest book.history) seats
   pub unstopped : NeverFail seen sure → AreUnstopped book.history
-
--- The exchange is given up, with or without its seats: the book was opened with these words, and had
--- these entries before. Its history is legal, and leads to its machine.
-pub record IsGivenUp (opening : Store) (earlier : List Entry) (book : Account) : Type 0 where
-  pub opened : book.opening ≡ opening
-  pub added : List Entry
-  pub goes_on : book.history ≡ earlier ++ added
-  pub replay : IsReplay (opened_with opening) book.history book.machine
 
 -- A seat is missing just where the seats hold fewer than all parts; then nothing has changed. Else
 -- the exchange is closed. `Line` are the wires that a `W` makes.

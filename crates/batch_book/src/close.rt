@@ -71,37 +71,6 @@ impl<L: ExchangeName, P: ConfigPort, W: WireMaker, G, H: History> Shared<L, P, W
     }
 }
 
-impl<L: ExchangeName, P: ConfigPort + Drop, W: WireMaker + Drop, G: Drop, H: History> Shared<
-    L,
-    P,
-    W,
-    G,
-    H,
-> {
-    ghost use Rattle.batch_book.specs.Closing.{IsGivenUp};
-    ghost use Rattle.batch_book.specs.History.{AreUnstopped};
-    ghost use Rattle.batch_book.specs.Replies.{NeverFail};
-
-    /// The book of the exchange, which is given up, whether its seats are there or not. Its history
-    /// has those entries that it had before, and whatever calls were made since.
-    pub fn give_up(self) -> Book<H>
-        ensures book { IsGivenUp L.opening L.earlier result }
-        ensures lost { result.whole ≡ false → H.loses ≡ true }
-        ensures unstopped { NeverFail P.ConfigPort W.is_sure → AreUnstopped result.history }
-    {
-        let (locked, _) = self.into_parts();
-        let Locked {
-            book,
-            plant: _,
-            entries: _,
-            keeper: _,
-        } = locked;
-        // Asked for only for its contract, which says that the history is legal.
-        book.log();
-        book
-    }
-}
-
 // What a seat has of its exchange, without its list, which is what was told to its session.
 fn compared<L: ExchangeName>(keeper: &mut Keeper<NotedEntry, L>, seat: Seat<L>) -> ExchangeAccess<L>
     requires { IsSome seat.exchange }

@@ -1,7 +1,5 @@
 -- A board as the text of its wiring says it is, or a rack that is wired as usual.
-use Rattle.std.specs.Prelude.{◌≡◌, ◌≤◌, ℕ, List, Option, Some, None, IfSome, All, length, take, ⊤}
-use Rattle.batch.specs.Extent.{Extent, extent, widest}
-use Rattle.batch.specs.declared.limits.TheConstants.{MAX_BLOCKS, MAX_WORDS}
+use Rattle.std.specs.Prelude.{◌≡◌, ℕ, List, Option, Some, None, IfSome, All, length, take, ⊤}
 use Rattle.board_wiring.specs.Faults.{IsFirstBad}
 use Rattle.board_wiring.specs.Modules.{behind_last}
 use Rattle.board_wiring.specs.Text.{Denotes}
@@ -32,15 +30,6 @@ IsBoardOf (Some text) (Some board) = Denotes text (modules_of board)
 abbrev pub IsMiswired : Option (List ℕ) → WiringFault → Type 0
 IsMiswired None fault = ⊥
 IsMiswired (Some text) fault = IsFirstBad text fault
-
--- the board, where there is one, has some module
-abbrev pub HasSome : Option Board → Type 0
-HasSome board = IfSome board (λ board. 1 ≤ length (modules_of board))
-
--- the rack against which a batch is read: the widest, or one with modules up to the board's last
-abbrev pub extent_of : Option Board → Extent
-extent_of None = widest
-extent_of (Some board) = extent (width_of board) MAX_BLOCKS MAX_WORDS
 
 -- ---- a wiring that leaves no link out
 

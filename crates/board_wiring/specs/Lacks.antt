@@ -1,6 +1,8 @@
 -- What a batch needs of a board, and what it is first refused for.
 use Rattle.std.specs.Prelude.{◌≡◌, ◌<◌, ◌⊎◌, ◌&&◌, ℕ, Bool, List, Option, None, Some, IsTrue, length, ⊤}
+use Rattle.batch.specs.Extent.{widest}
 use Rattle.batch.specs.Overlap.{transfer_at}
+use Rattle.batch.specs.Text.{Denotes}
 use Rattle.batch.specs.declared.transfer.Transfer.{Transfer}
 use Rattle.refusals.specs.declared.refusal.Refusal.{Refusal}
 use Rattle.refusals.specs.declared.refusal.Refusal.TheVariants.{NoLink, NoModule}
@@ -48,3 +50,15 @@ HasWaysOn (Some board) batch = HasWays (modules_of board) batch
 abbrev pub IsLackOn : Option Board → List Transfer → Refusal → Type 0
 IsLackOn None batch refusal = ⊥
 IsLackOn (Some board) batch refusal = IsFirstLack (modules_of board) batch refusal
+
+-- ---- the text of a batch, which is read against the widest shape, whatever the board
+
+-- the refusal is that of the first transfer of the batch that the text denotes
+abbrev pub IsLackOf : Option Board → List ℕ → Refusal → Type 0
+IsLackOf board text refusal =
+    (batch : List Transfer) × Denotes widest text batch × IsLackOn board batch refusal
+
+-- the text denotes no batch, or one that needs nothing that isn't there
+abbrev pub LacksNothing : Option Board → List ℕ → Type 0
+LacksNothing board text =
+    (batch : List Transfer) → Denotes widest text batch → HasWaysOn board batch

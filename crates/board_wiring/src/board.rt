@@ -43,7 +43,7 @@ impl Board {
     }
 
     /// The number behind that of the last module.
-    pub fn width(&self) -> usize
+    pub(crate) fn width(&self) -> usize
         ensures width { result ≡ width_of self.now }
         ensures few { result ≤ JOINED_MODULES }
     {

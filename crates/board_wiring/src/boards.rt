@@ -1,12 +1,11 @@
 //! A rack that may be a board of its own wiring.
 
-ghost use Rattle.std.specs.Prelude.{◌≡◌, IfErr, IfOk, option_map};
-ghost use Rattle.board_wiring.specs.Boards.{HasSome, IsBoardOf, IsFilled, IsMiswired, extent_of};
+ghost use Rattle.std.specs.Prelude.{IfErr, IfOk, option_map};
+ghost use Rattle.board_wiring.specs.Boards.{IsBoardOf, IsFilled, IsMiswired};
 
 use crate::board::Board;
 use crate::fault::WiringFault;
 use crate::reading::read_wiring;
-use batch::{MAX_BLOCKS, MAX_WORDS, Shape};
 use crossbar::BoardWiring;
 
 /// The board of which a text says the wiring, as [`read_wiring`] reads it, or none where there is
@@ -18,18 +17,6 @@ pub fn read_board(wiring: Option<&[u8]>) -> Result<Option<Board>, WiringFault>
     match wiring {
         Some(text) => Ok(Some(read_wiring(text)?)),
         None => Ok(None),
-    }
-}
-
-/// The shape of the rack against which a batch is read: the widest or, with a board that has some
-/// module, as each has that was read, one with the modules up to its last.
-pub fn shape_of(board: &Option<Board>) -> Shape
-    requires { HasSome board.now }
-    ensures { result ≡ extent_of board.now }
-{
-    match board {
-        Some(board) => Shape::new(board.width(), MAX_BLOCKS, MAX_WORDS).unwrap(),
-        None => Shape::WIDEST,
     }
 }
 

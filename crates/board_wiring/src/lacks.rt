@@ -1,14 +1,11 @@
 //! What a batch needs of a board that the board hasn't.
 
-ghost use Rattle.std.specs.Prelude.{◌≡◌, ℕ, List, IfNone, IfSome, IfOk};
-ghost use Rattle.batch.specs.Text.{Denotes};
-ghost use Rattle.batch.specs.declared.transfer.Transfer.{Transfer};
-ghost use Rattle.board_wiring.specs.Boards.{HasSome, extent_of, modules_of};
-ghost use Rattle.board_wiring.specs.Lacks.{HasWays, HasWaysOn, IsFirstLack, IsLackOn, has_ends, has_way};
+ghost use Rattle.std.specs.Prelude.{◌≡◌, IfNone, IfSome, IfOk};
+ghost use Rattle.board_wiring.specs.Boards.{modules_of};
+ghost use Rattle.board_wiring.specs.Lacks.{HasWays, IsFirstLack, IsLackOf, LacksNothing, has_ends, has_way};
 
 use crate::board::Board;
-use crate::boards::shape_of;
-use batch::{Batch, BatchFault, Transfer};
+use batch::{Batch, BatchFault, Shape, Transfer};
 use refusals::Refusal;
 use std::alloc::{AllocError, Global};
 
@@ -48,23 +45,19 @@ impl Board {
 
 /// The refusal of the first transfer of a batch's text that names a module that the board hasn't,
 /// or needs a link that it hasn't. None where there is no such transfer, or no board, or where the
-/// text denotes no batch with modules up to the board's last. The text is read once.
+/// text denotes no batch of the widest shape. The text is read once.
 pub fn read_lack(
     alloc: Global,
     board: &Option<Board>,
     text: &[u8],
 ) -> Result<Option<Refusal>, AllocError>
-    requires { HasSome board.now }
-    ensures some { IfOk result (λ found. IfSome found (λ refusal.
-        (batch : List Transfer) × Denotes (extent_of board.now) text.now batch
-        × IsLackOn board.now batch refusal)) }
-    ensures none { IfOk result (λ found. IfNone found ((batch : List Transfer)
-        → Denotes (extent_of board.now) text.now batch → HasWaysOn board.now batch)) }
+    ensures some { IfOk result (λ found. IfSome found (IsLackOf board.now text.now)) }
+    ensures none { IfOk result (λ found. IfNone found (LacksNothing board.now text.now)) }
 {
     let Some(its) = board else {
         return Ok(None);
     };
-    match Batch::read(alloc, text, shape_of(board)) {
+    match Batch::read(alloc, text, Shape::WIDEST) {
         Ok(batch) => Ok(its.first_lack(&batch)),
         Err(fault) if fault == BatchFault::NoMemory => Err(AllocError),
         Err(_) => Ok(None),

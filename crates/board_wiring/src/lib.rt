@@ -9,9 +9,8 @@
 //! [`read_wiring`] gives the [`Board`] of a text (`Denotes` of `specs/Text.antt`), or the text's
 //! first line at fault (`IsFirstBad` of `specs/Faults.antt`). A text has one of each at most, and
 //! never both (`laws::one_reading`). Where a rack may be such a board or not, as its caller says,
-//! [`read_board`] gives the board, and [`shape_of`] says against which shape a batch is read
-//! (`specs/Boards.antt`). [`read_lack`] says what a batch needs and the board hasn't
-//! (`specs/Lacks.antt`).
+//! [`read_board`] gives the board (`specs/Boards.antt`). [`read_lack`] gives the refusal of the
+//! first transfer of a batch that needs what the board hasn't (`specs/Lacks.antt`).
 //!
 //! The switches below know wirings that leave nothing out. [`Board::wiring`] fills what is left out
 //! with links of the switch that are free (`Fills` of `specs/Boards.antt`).
@@ -27,7 +26,7 @@ mod reading;
 mod wired_module;
 
 pub use board::Board;
-pub use boards::{read_board, shape_of, wiring_of};
+pub use boards::{read_board, wiring_of};
 pub use fault::WiringFault;
 pub use lacks::read_lack;
 pub use reading::read_wiring;

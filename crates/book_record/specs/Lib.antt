@@ -2,3 +2,8 @@ pub mod RecordText
 pub mod Untold
 pub mod Reading
 pub mod Laws
+pub mod Fronts
+pub mod Heads
+pub mod FrontLaws
+pub mod Streams
+pub mod Endings

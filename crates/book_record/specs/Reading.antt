@@ -1,8 +1,7 @@
 -- How a record is read from the left.
-use Rattle.std.specs.Prelude.{◌≡◌, ◌≢◌, ◌⊎◌, ℕ, zero, suc, ◌+◌, ◌≤◌, ◌==◌, List, ◌∷◌, ◌++◌, drop, length, codes, position, Option, Some, None}
+use Rattle.std.specs.Prelude.{◌≡◌, ◌≢◌, ℕ, zero, suc, ◌+◌, ◌==◌, List, ◌∷◌, ◌++◌, drop, length, codes, position, Option, Some, None}
 use Rattle.batch.specs.Batches.{IsBatch}
 use Rattle.batch.specs.Text.{IsNumber, number, batch_text, space, line_feed}
-use Rattle.batch.specs.declared.limits.TheConstants.{MAX_TRANSFERS}
 use Rattle.batch.specs.declared.transfer.Transfer.{Transfer}
 use Rattle.line_words.specs.HexWords.{IsWord, hex8}
 use Rattle.batch_book.specs.declared.told_call.ToldCall.TheVariants.{Submit}
@@ -60,14 +59,6 @@ abbrev pub BeginsWithNoBatch : List ℕ → ℕ → Type 0
 BeginsWithNoBatch text count =
     (batch : List Transfer) (rest : List ℕ) → IsBatch batch → length batch ≡ count
     → text ≢ batch_text batch ++ rest
-
--- the text begins with the first line of a call, behind which so many lines more belong to it, and
--- then this rest: it counts the transfers of a batch, or it is the one line of a call
-abbrev pub BeginsCall : List ℕ → ℕ → List ℕ → Type 0
-BeginsCall text n rest =
-    ((n ≤ MAX_TRANSFERS) × (text ≡ codes "batch " ++ (number n line_feed ++ rest)))
-    ⊎ ((n ≡ 0) × ((call : PlanlessCall) × HasOneLine call × CanSay call
-    × (text ≡ call_text call ++ rest)))
 
 -- the text begins with the lines of no call
 abbrev pub BeginsWithNoCall : List ℕ → Type 0

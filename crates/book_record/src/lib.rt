@@ -1,16 +1,47 @@
 //! The text of a book's history: an entry for each call, with the session's number, the call in the
-//! words of a session's line, and its reply line. Plans aren't told.
+//! words of a session's line, and its reply line. Plans aren't told. And records, which are such
+//! texts behind a head, whole or cut off, and written at once or entry by entry.
 //!
 //! [`push_history`] puts the text of each entry (`entry_text` of `specs/RecordText.antt`).
 //! [`read_entry`] reads what a text begins with, exactly where it begins so. Two legal histories of
 //! one text, from one opening store, differ in plans alone, and lead to the same words. With other
 //! shortest plans of the same batches a history in which no run stopped is legal too, and has the
 //! same text (`laws::one_record`).
+//!
+//! [`head_text`] and [`read_head`] put and read the line `record MxKxW SUM N` and the N clients' names,
+//! exactly where they stand (`head_of` of `specs/Heads.antt`). [`sum_of`] makes the sum, which
+//! `laws::worked_sum` shows by an example. [`read_begun`] reads an entry whose call stands there, or
+//! of whose call the text is a front, exactly where there is such (`HasBegun` of
+//! `specs/Fronts.antt`). A text has one reading at most, whole entries and a rest, and each front of
+//! the text of entries has one; the last line, for which [`is_ended`] looks, is such a rest
+//! (`laws::fronts`).
+//!
+//! A history may be a stream: each entry's text goes to a writer as soon as the book has answered,
+//! and before the reply is told. A [`StreamName`] says what the writer held as the stream began, and
+//! which entries the history had then. A [`Streamed`] of this name keeps that its writer has got the
+//! text of all entries since, and nothing else; where one couldn't be written whole, of all but that
+//! last one, and a front of it (`IsWritten` of `specs/Streams.antt`). It keeps no entry, so there
+//! may be any number. [`stream_on`] lets a book whose history contracts alone see go on so, and
+//! [`stream_off`] gives the writer back.
 #![tactic(auto)]
 
+mod begun_entry;
+mod going;
+mod head;
 pub mod laws;
+mod naming;
 mod reading;
+mod streamed;
+mod sum;
+mod whole;
 mod writing;
 
-pub use reading::{first_line_of_call, read_entry};
+pub use begun_entry::{BegunEntry, read_begun};
+pub use going::{stream_off, stream_on};
+pub use head::{head_text, is_ended, read_head};
+pub use naming::StreamName;
+pub use reading::read_entry;
+pub use streamed::{REPLY_ROOM, Streamed};
+pub use sum::sum_of;
+pub use whole::write_record;
 pub use writing::{id_of, push_asked, push_history, push_logged, push_reply, push_session};

@@ -1,13 +1,13 @@
 //! The reader of a record, from the left: each function gives what it has read, and the rest.
 
-ghost use Rattle.std.specs.Prelude.{◌≡◌, ◌≢◌, ℕ, ◌+◌, ◌≤◌, List, ◌∷◌, ◌++◌, drop, length, codes, IfOk, IfSome, IfNone, Some, None};
+ghost use Rattle.std.specs.Prelude.{◌≡◌, ◌+◌, ◌≤◌, ◌∷◌, ◌++◌, drop, length, codes, IfOk, IfSome, IfNone, Some, None};
 ghost use Rattle.batch.specs.Batches.{IsBatch};
 ghost use Rattle.batch.specs.Text.{IsNumber, number, batch_text, space, line_feed};
 ghost use Rattle.line_words.specs.HexWords.{IsWord, hex8, BeginsWithNoHex8};
-ghost use Rattle.book_record.specs.Reading.{BeginsCall, behind_lines, BeginsWithNoneNamed, BeginsWithNoPeek, BeginsWithNoPoke, BeginsWithNoLine, BeginsWithNoBatch, BeginsWithNoCall, BeginsWithNoEntry, HasOneLine};
+ghost use Rattle.book_record.specs.Reading.{behind_lines, BeginsWithNoneNamed, BeginsWithNoPeek, BeginsWithNoPoke, BeginsWithNoLine, BeginsWithNoBatch, BeginsWithNoCall, BeginsWithNoEntry, HasOneLine};
 ghost use Rattle.book_record.specs.RecordText.{CanSay, call_text};
 
-use batch::{Batch, BatchFault, MAX_TRANSFERS, Shape, number_before, position_of};
+use batch::{Batch, BatchFault, Shape, number_before, position_of};
 use batch_book::ToldCall;
 use line_words::{HEX_DIGITS, behind, hex8_and_rest, number_and_rest, word_from_hex8};
 use std::alloc::{AllocError, Global};
@@ -89,23 +89,6 @@ fn short_call(text: &[u8]) -> Option<(ToldCall<Batch>, &[u8])>
     }
     let (module, address, word, rest) = poke(text)?;
     Some((ToldCall::Poke(module, address, word), rest))
-}
-
-/// How many lines more belong to the call whose first line the text begins with, and what stands
-/// behind that line: of a batch the lines of its transfers, of any other call none.
-pub fn first_line_of_call(text: &[u8]) -> Option<(usize, &[u8])>
-    ensures some { IfSome result (λ x. BeginsCall text.now x.0 x.1.now) }
-    ensures none { IfNone result
-        ((n : ℕ) (rest : List ℕ) → BeginsCall text.now n rest → ⊥) }
-{
-    if let Some((count, rest)) = named(text, b"batch ") {
-        if count > MAX_TRANSFERS {
-            return None;
-        }
-        return Some((count, rest));
-    }
-    let (_, rest) = short_call(text)?;
-    Some((0, rest))
 }
 
 /// Where so many lines of the text end.

@@ -5,7 +5,7 @@ ghost use Rattle.std.specs.Io.{ReadsAtMost};
 ghost use Rattle.std.specs.Io.KnownBytes.{ReadConsumes};
 ghost use Rattle.client_session.specs.Asking.{RisesBy};
 
-use contract_data::FailureCount;
+use byte_streams::FailureCount;
 use std::io;
 use std::io::Read;
 

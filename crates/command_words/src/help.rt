@@ -318,7 +318,7 @@ Status: 0 a batch was printed, 1 the moves were refused or there was no memory,
 
 /// What help says of `apply`.
 pub(crate) const APPLY: CommandHelp = CommandHelp {
-    about: "Runs a batch over your own words: an image in, the image with the blocks placed out",
+    about: "Places the blocks of a batch in your own words: an image in, an image out",
     example: "\
 Example:
   ./exchange apply 3x2x2 examples/two-pushes.txt examples/before.img > after.img",
@@ -327,10 +327,10 @@ SHAPE is MxKxW and BATCH a batch text, in the forms that `exchange run --help`
 shows. IMAGE has all words of the modules: module by module and block by block,
 each as four bytes, least significant first, so 4*M*K*W bytes.
 
-The batch is run over these words, and the answer is the image with its blocks
-placed: as many bytes, and all that the batch doesn't write as it was.
+The answer is the image that a run of the batch over these words leaves: as many
+bytes, with its blocks placed, and all that the batch doesn't write as it was.
 
-Else nothing is run, and the answer is the first of these that is wrong:
+Else no image is printed, and the answer is the first of these that is wrong:
   refused file          BATCH or IMAGE can't be read
   refused shape         SHAPE is no shape
   refused ..            BATCH, as `exchange plan --help` shows, in this rack

@@ -70,8 +70,8 @@ pub enum Job {
     Direct {
         moves: Text,
     },
-    /// Run the batch of a file over the words of an image's file, on a rack of the shape, with so
-    /// many workers.
+    /// Place the blocks of a file's batch in the words of an image's file, which are those of a rack
+    /// of the shape. That is done alike however many workers are named.
     Apply {
         shape: Text,
         batch: Text,

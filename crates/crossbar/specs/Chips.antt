@@ -7,8 +7,6 @@ use Rattle.c004_commands.specs.declared.command.Command.{Command}
 use Rattle.crossbar.specs.Switch.{Switch, switch_code, after_all, answers, idle}
 use Rattle.crossbar.specs.declared.chip.Chip.{Chip}
 use Rattle.crossbar.specs.declared.chip.Chip.TheVariants.{A, B}
-use Rattle.crossbar.specs.declared.chip.Wiring.{Wiring}
-use Rattle.crossbar.specs.declared.chip.Wiring.TheVariants.{Forth, Back}
 
 -- the switches of a rack: one that has a single switch uses the first alone
 pub record Switches : Type 0 where
@@ -28,11 +26,6 @@ switch_at B s = s.b
 abbrev pub put_switch : Chip → Switch → Switches → Switches
 put_switch A switch s = record { a = switch; b = s.b }
 put_switch B switch s = record { a = s.a; b = switch }
-
--- what each switch of a wider rack carries
-abbrev pub wide_wiring : Chip → Wiring
-wide_wiring A = Forth
-wide_wiring B = Back
 
 -- The commands that the bytes spell were carried out at the chip, in order, and answered. The other
 -- chip is as it was.

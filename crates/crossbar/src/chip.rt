@@ -1,8 +1,5 @@
 //! The switches of a rack, and what each carries.
 
-ghost use Rattle.std.specs.Prelude.{◌≡◌};
-ghost use Rattle.crossbar.specs.Chips.{wide_wiring};
-
 use crate::board::BoardWiring;
 
 /// A switch of a rack. A rack of at most [`crate::JOINED_MODULES`] modules has `A` alone, and a
@@ -29,16 +26,4 @@ pub enum Wiring {
     /// Both directions of link 0 and of link 3 of each module, of so many as the board wires, each
     /// link where the board has it.
     Board(BoardWiring),
-}
-
-impl Wiring {
-    /// What a switch of a wider rack carries: `A` the way forth, and `B` the way back.
-    pub fn of_wide(chip: Chip) -> Wiring
-        ensures { result ≡ wide_wiring chip }
-    {
-        match chip {
-            Chip::A => Wiring::Forth,
-            Chip::B => Wiring::Back,
-        }
-    }
 }

@@ -8,8 +8,8 @@ use crate::chip::Chip;
 use crate::chips::Chips;
 use crate::port::{ConfigPort, PortFault};
 use crate::switch::Crossbar;
+use byte_streams::FailureCount;
 use c004_commands::CommandReader;
-use contract_data::FailureCount;
 use std::marker::Model;
 
 /// An honest port to a switch in memory for each chip, which takes so many bytes over all its
@@ -111,6 +111,7 @@ pub(crate) fn carry_whole(crossbar: &mut Crossbar, bytes: &[u8])
             unreachable!();
         };
         if let Some(command) = given {
+            // What an enquiry answers goes to nobody.
             let _answer = crossbar.apply(command);
         }
     }

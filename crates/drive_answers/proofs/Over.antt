@@ -1,14 +1,15 @@
 -- A drive over ports that were opened for it and given back.
 use Rattle.std.proofs.Common.{◌≡◌, ◌<◌, [], ℕ, List, Option, Some, ap, subst, ◌∙◌}
+use Rattle.batch.specs.Extent.{widest}
 use Rattle.batch.specs.declared.transfer.Transfer.{Transfer}
 use Rattle.crossbar.specs.declared.port.ConfigPort.{Ghosts}
 use Rattle.switch_driver.specs.Driving.{HasDriveCause, IsDriven}
+use Rattle.switch_driver.specs.Hearings.{Hearing}
 use Rattle.switch_driver.specs.declared.driving.Driven.{Driven}
-use Rattle.switch_driver.specs.declared.driving.Driven.TheVariants.{Completed, Stopped, Left, Unheard, Untold}
-use Rattle.switch_driver.specs.declared.fault.SettingFault.TheVariants.{Port, Switch}
-use Rattle.switch_driver.specs.declared.stage.Cue.{Cue}
+use Rattle.switch_driver.specs.declared.driving.Driven.TheVariants.{Completed, Stopped, Halted}
+use Rattle.switch_settings.specs.declared.fault.SettingFault.TheVariants.{Port, Switch}
 use Rattle.switch_settings.specs.declared.rack_wiring.RackWiring.{RackWiring}
-use Rattle.board_wiring.specs.Boards.{IsBoardOf, IsFilled, extent_of}
+use Rattle.board_wiring.specs.Boards.{IsBoardOf, IsFilled}
 use Rattle.board_wiring.specs.Lacks.{HasWaysOn}
 use Rattle.board_wiring.specs.declared.board.Board.{Board}
 use Rattle.crossbar.specs.declared.board.BoardWiring.{BoardWiring}
@@ -24,11 +25,9 @@ port_failed : {P : Type 0} (seen : Ghosts P) (rack : RackWiring) (batch : List T
 port_failed seen rack batch settings first (Completed count) old new none cause = cause.0 ∙ none
 port_failed seen rack batch settings first (Stopped k Port) old new none cause = subst (λ (n : ℕ). n < seen.failures new) none cause
 port_failed seen rack batch settings first (Stopped k (Switch found)) old new none cause = cause.1 ∙ none
-port_failed seen rack batch settings first (Left k) old new none cause = cause.0 ∙ none
-port_failed seen rack batch settings first (Unheard k) old new none cause = cause.0 ∙ none
-port_failed seen rack batch settings first (Untold k) old new none cause = cause.0 ∙ none
+port_failed seen rack batch settings first (Halted k halt) old new none cause = cause.0 ∙ none
 
-pub driven_over : {S P : Type 0} (hears : S → ℕ → List ℕ → Cue → S → Type 0) (seen : Ghosts P) (rack : RackWiring) (batch : List Transfer) (settings : List (List ℕ)) (first : ℕ) (how : Driven) (names : Names) (was opened opens : Ways) (old new : P) (told tells : S)
+pub driven_over : {S P : Type 0} (hears : Hearing S) (seen : Ghosts P) (rack : RackWiring) (batch : List Transfer) (settings : List (List ℕ)) (first : ℕ) (how : Driven) (names : Names) (was opened opens : Ways) (old new : P) (told tells : S)
     → opened ≡ opened_by names was → opens ≡ given_back (seen.passed new) (seen.failures new) opened
     → seen.passed old ≡ Some [] → seen.failures old ≡ 0 → IsDriven hears rack batch settings first how (seen.passed old) told (seen.passed new) tells → HasDriveCause seen rack batch settings first how old new
     → IsDrivenOver hears rack batch settings first how names was opens told tells
@@ -42,8 +41,8 @@ driven_over hears seen rack batch settings first how names was opened opens old 
     }
 
 -- where there is no answer, of a schedule of the batch that the text denotes
-pub failed : {S : Type 0} (hears : S → ℕ → List ℕ → Cue → S → Type 0) (source : Source (List ℕ)) (text : List ℕ) (wiring : Option (List ℕ)) (first : ℕ) (names : Names) (was opens : Ways) (told tells : S) (board : Option Board) (filled : Option BoardWiring) (batch : List Transfer) (settings : List (List ℕ))
-    → IsBoardOf wiring board → IsScheduleFrom source (extent_of board) text batch settings → HasWaysOn board batch → IsFilled board filled → (fault : DriveFault) → HasFailedOver hears (rack_for filled batch) batch settings first names was opens told tells fault
+pub failed : {S : Type 0} (hears : Hearing S) (source : Source (List ℕ)) (text : List ℕ) (wiring : Option (List ℕ)) (first : ℕ) (names : Names) (was opens : Ways) (told tells : S) (board : Option Board) (filled : Option BoardWiring) (batch : List Transfer) (settings : List (List ℕ))
+    → IsBoardOf wiring board → IsScheduleFrom source widest text batch settings → HasWaysOn board batch → IsFilled board filled → (fault : DriveFault) → HasFailedOver hears (rack_for filled batch) batch settings first names was opens told tells fault
     → HasFailed hears source text wiring first names was opens told tells fault
 failed hears source text wiring first names was opens told tells board filled batch settings is_board from has fills NotTold over = (board, filled, batch, settings, is_board, from, has, fills, over)
 failed hears source text wiring first names was opens told tells board filled batch settings is_board from has fills NoMemory over = over

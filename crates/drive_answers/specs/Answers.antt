@@ -1,10 +1,10 @@
 -- What `drive` answers: how the settings of a schedule were put on the switches of a rack, over
 -- ports of these names, which were opened for them.
 use Rattle.std.specs.Prelude.{◌≡◌, ◌<◌, ◌⊎◌, ℕ, List, [], length, Option, Some, None, if◌then◌else◌, nat_lt}
+use Rattle.batch.specs.Extent.{widest}
 use Rattle.batch.specs.declared.transfer.Transfer.{Transfer}
-use Rattle.batch.specs.Text.{Denotes}
-use Rattle.board_wiring.specs.Boards.{IsBoardOf, IsFilled, IsMiswired, extent_of}
-use Rattle.board_wiring.specs.Lacks.{HasWaysOn, IsLackOn}
+use Rattle.board_wiring.specs.Boards.{IsBoardOf, IsFilled, IsMiswired}
+use Rattle.board_wiring.specs.Lacks.{HasWaysOn, IsLackOf, LacksNothing}
 use Rattle.board_wiring.specs.Sources.{of_wiring}
 use Rattle.board_wiring.specs.declared.board.Board.{Board}
 use Rattle.board_wiring.specs.declared.fault.WiringFault.{WiringFault}
@@ -17,10 +17,11 @@ use Rattle.plan_answers.specs.declared.source.Source.{Source}
 use Rattle.refusals.specs.declared.refusal.Refusal.{Refusal}
 use Rattle.refusals.specs.declared.refusal.Refusal.TheVariants.{NoSetting}
 use Rattle.switch_driver.specs.Driving.{IsDriven}
+use Rattle.switch_driver.specs.Hearings.{Hearing}
 use Rattle.switch_driver.specs.declared.driving.Driven.{Driven}
-use Rattle.switch_driver.specs.declared.driving.Driven.TheVariants.{Stopped, Untold as UntoldAt}
-use Rattle.switch_driver.specs.declared.fault.SettingFault.TheVariants.{Port}
-use Rattle.switch_driver.specs.declared.stage.Cue.{Cue}
+use Rattle.switch_driver.specs.declared.driving.Driven.TheVariants.{Stopped, Halted}
+use Rattle.switch_driver.specs.declared.stage.Halt.TheVariants as halt
+use Rattle.switch_settings.specs.declared.fault.SettingFault.TheVariants.{Port}
 use Rattle.switch_settings.specs.Racks.{is_wide, joined_by}
 use Rattle.switch_settings.specs.declared.rack_wiring.RackWiring.{RackWiring}
 use Rattle.switch_settings.specs.declared.rack_wiring.RackWiring.TheVariants.{Usual, Own}
@@ -53,7 +54,7 @@ HasPortFailed how failed = failed ≡ 0
 
 -- The settings from this one on were driven so over the ports of these names: they were opened,
 -- once; nothing had passed over them before, and this had passed as they were given back.
-pub record IsDrivenOver {S : Type 0} (hears : S → ℕ → List ℕ → Cue → S → Type 0)
+pub record IsDrivenOver {S : Type 0} (hears : Hearing S)
     (rack : RackWiring) (batch : List Transfer) (settings : List (List ℕ)) (first : ℕ) (how : Driven)
     (names : Names) (was opens : Ways) (told tells : S) : Type 0 where
   pub carried : Option (List Passing)
@@ -64,7 +65,7 @@ pub record IsDrivenOver {S : Type 0} (hears : S → ℕ → List ℕ → Cue →
 
 -- The ports lead to as many switches as the rack has; the settings were driven, and it was said how
 -- that ended. Or the ports were refused, none was handed over, and nothing was told.
-pub data IsTried {S : Type 0} (hears : S → ℕ → List ℕ → Cue → S → Type 0) (rack : RackWiring)
+pub data IsTried {S : Type 0} (hears : Hearing S) (rack : RackWiring)
     (batch : List Transfer) (settings : List (List ℕ)) (first : ℕ) (names : Names)
     (was opens : Ways) (told tells : S) (printed : Printed) : Type 0 where
   driven : (how : Driven) → how_many names ≡ switches_in rack
@@ -76,32 +77,30 @@ pub data IsTried {S : Type 0} (hears : S → ℕ → List ℕ → Cue → S → 
 
 -- a setting stood that couldn't be told; or there was no memory, no port was opened, and nothing
 -- was told
-abbrev pub HasFailedOver : {S : Type 0} → (S → ℕ → List ℕ → Cue → S → Type 0) → RackWiring
+abbrev pub HasFailedOver : {S : Type 0} → Hearing S → RackWiring
     → List Transfer → List (List ℕ) → ℕ → Names → Ways → Ways → S → S → DriveFault → Type 0
 HasFailedOver {S} hears rack batch settings first names was opens told tells Untold =
-    (k : ℕ) × IsDrivenOver hears rack batch settings first (UntoldAt k) names was opens told tells
+    (k : ℕ)
+    × IsDrivenOver hears rack batch settings first (Halted k halt.Untold) names was opens told tells
 HasFailedOver {S} hears rack batch settings first names was opens told tells NoMemory =
     (tells ≡ told) × (opens ≡ was)
 
 -- ---- the answer
 
--- What is first wrong with the texts: that of the wiring is looked at first, and then the others
--- against a rack with modules up to the board's last. What the batch needs and the board hasn't is
--- refused behind faults of the batch's text, and before those of a schedule. Then the schedule has
--- to have the setting from which on it is driven.
+-- What is first wrong with the texts: that of the wiring is looked at first, and then the others.
+-- What the batch needs and the board hasn't is refused behind faults of the batch's text, and before
+-- those of a schedule. Then the schedule has to have the setting from which on it is driven.
 pub data IsFirstDriveWrong (source : Source (List ℕ)) (text : List ℕ) (wiring : Option (List ℕ))
     (first : ℕ) (refusal : Refusal) : Type 0 where
   wiring_wrong : (fault : WiringFault) → IsMiswired wiring fault → refusal ≡ of_wiring fault
       → IsFirstDriveWrong source text wiring first refusal
-  lacking : (board : Option Board) (batch : List Transfer) → IsBoardOf wiring board
-      → Denotes (extent_of board) text batch → IsLackOn board batch refusal
+  lacking : (board : Option Board) → IsBoardOf wiring board → IsLackOf board text refusal
       → IsFirstDriveWrong source text wiring first refusal
   texts_wrong : (board : Option Board) → IsBoardOf wiring board
-      → IsWrongFrom source (extent_of board) text refusal
-      → ((batch : List Transfer) → Denotes (extent_of board) text batch → HasWaysOn board batch)
+      → IsWrongFrom source widest text refusal → LacksNothing board text
       → IsFirstDriveWrong source text wiring first refusal
   no_setting : (board : Option Board) (batch : List Transfer) (settings : List (List ℕ))
-      → IsBoardOf wiring board → IsScheduleFrom source (extent_of board) text batch settings
+      → IsBoardOf wiring board → IsScheduleFrom source widest text batch settings
       → HasWaysOn board batch
       → (IsStart first settings → ⊥) → refusal ≡ NoSetting first
       → IsFirstDriveWrong source text wiring first refusal
@@ -110,12 +109,12 @@ pub data IsFirstDriveWrong (source : Source (List ℕ)) (text : List ℕ) (wirin
 -- setting on, on the rack that is wired so, over the ports of these names. All links that the batch
 -- needs are there, whatever free links stand in the rack's wiring for what a board leaves out. Or
 -- the refusal of what is first wrong with the texts: then no port was opened, and nothing was told.
-pub data IsDriveAnswer {S : Type 0} (hears : S → ℕ → List ℕ → Cue → S → Type 0)
+pub data IsDriveAnswer {S : Type 0} (hears : Hearing S)
     (source : Source (List ℕ)) (text : List ℕ) (wiring : Option (List ℕ)) (first : ℕ)
     (names : Names) (was opens : Ways) (told tells : S) (printed : Printed) : Type 0 where
   tried : (board : Option Board) (filled : Option BoardWiring) (batch : List Transfer)
       (settings : List (List ℕ))
-      → IsBoardOf wiring board → IsScheduleFrom source (extent_of board) text batch settings
+      → IsBoardOf wiring board → IsScheduleFrom source widest text batch settings
       → HasWaysOn board batch → IsFilled board filled → IsStart first settings
       → IsTried hears (rack_for filled batch) batch settings first names was opens told tells
       printed
@@ -125,12 +124,12 @@ pub data IsDriveAnswer {S : Type 0} (hears : S → ℕ → List ℕ → Cue → 
       → IsDriveAnswer hears source text wiring first names was opens told tells printed
 
 -- why there is none: of such a schedule, on that rack
-abbrev pub HasFailed : {S : Type 0} → (S → ℕ → List ℕ → Cue → S → Type 0) → Source (List ℕ)
+abbrev pub HasFailed : {S : Type 0} → Hearing S → Source (List ℕ)
     → List ℕ → Option (List ℕ) → ℕ → Names → Ways → Ways → S → S → DriveFault → Type 0
 HasFailed {S} hears source text wiring first names was opens told tells Untold =
     (board : Option Board) × (filled : Option BoardWiring) × (batch : List Transfer)
     × (settings : List (List ℕ))
-    × IsBoardOf wiring board × IsScheduleFrom source (extent_of board) text batch settings
+    × IsBoardOf wiring board × IsScheduleFrom source widest text batch settings
     × HasWaysOn board batch × IsFilled board filled
     × HasFailedOver hears (rack_for filled batch) batch settings first names was opens told tells
     Untold

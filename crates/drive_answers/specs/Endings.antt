@@ -1,18 +1,14 @@
 -- The last line of a drive. The texts are this project's choice.
-use Rattle.std.specs.Prelude.{◌≡◌, ◌+◌, ℕ, List, ◌++◌, codes}
+use Rattle.std.specs.Prelude.{◌≡◌, ℕ, List, ◌++◌, codes}
 use Rattle.std.specs.Fmt.{decimal}
 use Rattle.plan_answers.specs.Refusals.{Printed}
 use Rattle.plan_answers.specs.declared.limits.TheConstants.{DONE, REFUSED}
 use Rattle.switch_driver.specs.declared.driving.Driven.{Driven}
-use Rattle.switch_driver.specs.declared.driving.Driven.TheVariants.{Completed, Stopped, Left, Unheard, Untold}
-use Rattle.switch_driver.specs.declared.fault.Disagreement.{Disagreement}
-use Rattle.switch_driver.specs.declared.fault.SettingFault.{SettingFault}
-use Rattle.switch_driver.specs.declared.fault.SettingFault.TheVariants.{Port, Switch}
-use Rattle.switch_settings.specs.Answers.{first_output}
-
--- the number of an output: those of the second switch stand behind those of the first
-abbrev pub number_of : Disagreement → ℕ
-number_of found = first_output found.chip + found.output
+use Rattle.switch_driver.specs.declared.driving.Driven.TheVariants.{Completed, Stopped, Halted}
+use Rattle.switch_driver.specs.declared.stage.Halt.TheVariants.{Left, Unheard, Untold}
+use Rattle.switch_settings.specs.declared.fault.SettingFault.{SettingFault}
+use Rattle.switch_settings.specs.declared.fault.SettingFault.TheVariants.{Port, Switch}
+use Rattle.switch_settings.specs.Answers.{number_of}
 
 -- why a setting couldn't be set
 abbrev pub fault_words : SettingFault → List ℕ
@@ -37,7 +33,7 @@ IsEnding (Completed count) printed =
     (printed.text ≡ completed_line count) × (printed.status ≡ DONE)
 IsEnding (Stopped k fault) printed =
     (printed.text ≡ stopped_line k (fault_words fault)) × (printed.status ≡ REFUSED)
-IsEnding (Left k) printed = (printed.text ≡ left_line k) × (printed.status ≡ REFUSED)
-IsEnding (Unheard k) printed =
+IsEnding (Halted k Left) printed = (printed.text ≡ left_line k) × (printed.status ≡ REFUSED)
+IsEnding (Halted k Unheard) printed =
     (printed.text ≡ stopped_line k (codes "input")) × (printed.status ≡ REFUSED)
-IsEnding (Untold k) printed = ⊥
+IsEnding (Halted k Untold) printed = ⊥

@@ -7,6 +7,7 @@ ghost use Rattle.link_graph.specs.Schedules.{IsScheduleOf};
 ghost use Rattle.plan_answers.specs.Lent.{bytes_of};
 ghost use Rattle.plan_answers.specs.Refusals.{Refuses};
 ghost use Rattle.drive_answers.specs.declared.fault.DriveFault.TheVariants.{NoMemory};
+ghost use Rattle.refusals.specs.declared.refusal.Refusal.TheVariants.{NoSetting};
 ghost use Rattle.plan_answers.specs.Schedules.{said_by};
 ghost use Rattle.switch_settings.specs.RackWirings.{wired_in};
 ghost use Rattle.switch_settings.specs.Racks.{HasModulesOf, joined_by};
@@ -19,15 +20,15 @@ use crate::fault::DriveFault;
 use crate::names::PortNames;
 use crate::ports::Ports;
 use crate::sight::Sight;
-use batch::Batch;
-use board_wiring::{Board, read_board, read_lack, shape_of, wiring_of};
+use batch::{Batch, Shape};
+use board_wiring::{Board, read_board, read_lack, wiring_of};
 use c004_commands::PORTS;
 use crossbar::{BoardWiring, JOINED_MODULES};
 use exchange_limits::WorkerCount;
 use line_words::LINE_ROOM;
 use link_graph::Schedule;
 use plan_answers::{Answer, Scheduled, Source};
-use refusals::Refusal;
+use refusals::{Refusal, Validity};
 use std::alloc::Global;
 use std::thread::Threads;
 use switch_driver::{Stage, drive};
@@ -133,12 +134,25 @@ fn refused(alloc: Global, why: Refusal) -> Result<DriveEnd, DriveFault>
     })
 }
 
+/// The refusal of a setting that a schedule hasn't, with how many it has.
+fn no_setting(alloc: Global, first: usize, schedule: &Schedule) -> Result<DriveEnd, DriveFault>
+    ensures refused { IfOk result (λ end. Refuses (NoSetting first) end.answer) }
+    ensures fault { IfErr result (λ fault. fault ≡ NoMemory) }
+{
+    let DriveEnd { answer, sight } = refused(alloc, Refusal::NoSetting(first))?;
+    let known = Validity::Valid(schedule.settings());
+    Ok(DriveEnd {
+        answer: answer.with_validity(known),
+        sight,
+    })
+}
+
 /// What `exchange drive` answers behind what the stage was told: the settings of a schedule of the
 /// batch that the text denotes are put on the switches, one after another, from the first one on
 /// that is named, over the ports of these names, which are opened for them; or the refusal of what
 /// is first wrong, as [`Scheduled::read`](plan_answers::Scheduled::read) looks at it, or of the
-/// setting, or of the ports. Where it refuses, no port is opened, so nothing is sent, and nothing
-/// is told; a port is asked for only where the texts are right.
+/// setting, or of the ports. Where it refuses, no port is handed over, so nothing is sent, and
+/// nothing is told; a port is asked for only where the texts are right.
 ///
 /// The last line is `driven settings S` under the status [`DONE`](plan_answers::DONE), where all
 /// settings stood; or, under [`REFUSED`](plan_answers::REFUSED), `stopped setting K port` where the
@@ -151,9 +165,8 @@ fn refused(alloc: Global, why: Refusal) -> Result<DriveEnd, DriveFault>
 ///
 /// Where there is a text of a board's wiring, the settings are put on the board's one switch, and O
 /// is its output's own number. That text is looked at first, and `refused wiring line N` tells its
-/// first line at fault; the batch is read against a shape with modules up to the board's last.
-/// Behind the batch it is looked for its first transfer that names a module that the board hasn't,
-/// or needs a link that it hasn't.
+/// first line at fault. Behind the batch it is looked for its first transfer that names a module
+/// that the board hasn't, or needs a link that it hasn't.
 pub fn answer_drive<R: Threads + Sync, Q: Ports, S: Stage>(
     rt: &R,
     alloc: Global,
@@ -180,11 +193,11 @@ pub fn answer_drive<R: Threads + Sync, Q: Ports, S: Stage>(
     if let Some(lack) = read_lack(alloc, &board, batch)? {
         return refused(alloc, lack);
     }
-    match Scheduled::read(rt, alloc, shape_of(&board), batch, source, workers) {
+    match Scheduled::read(rt, alloc, Shape::WIDEST, batch, source, workers) {
         Ok(scheduled) => {
             let (batch, schedule) = (scheduled.batch(), scheduled.schedule());
             if !is_start(first, schedule) {
-                return refused(alloc, Refusal::NoSetting(first));
+                return no_setting(alloc, first, schedule);
             }
             let rack = rack_of(&wiring_of(&board), batch);
             drive_over(

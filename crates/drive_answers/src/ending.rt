@@ -3,15 +3,16 @@
 ghost use Rattle.std.specs.Prelude.{◌≡◌, ◌≤◌, ◌+◌, ◌*◌, ◌++◌, [], ℕ, length, IfOk, IfErr, vec_capacity};
 ghost use Rattle.std.specs.Fmt.{decimal};
 ghost use Rattle.line_words.specs.declared.limits.TheConstants.{LINE_ROOM, NUMBER_ROOM};
-ghost use Rattle.switch_driver.specs.declared.driving.Driven.TheVariants.{Untold as UntoldAt};
-ghost use Rattle.drive_answers.specs.Endings.{completed_line, fault_words, left_line, number_of, stopped_line, IsEnding};
+ghost use Rattle.switch_driver.specs.declared.driving.Driven.TheVariants.{Halted};
+ghost use Rattle.switch_driver.specs.declared.stage.Halt.TheVariants.{Untold as NotTold};
+ghost use Rattle.drive_answers.specs.Endings.{completed_line, fault_words, left_line, stopped_line, IsEnding};
 ghost use Rattle.drive_answers.specs.declared.fault.DriveFault.TheVariants.{Untold};
 
 use crate::fault::DriveFault;
-use crate::sight::number_of;
 use line_words::Line;
 use plan_answers::Answer;
-use switch_driver::{Driven, SettingFault};
+use switch_driver::{Driven, Halt};
+use switch_settings::SettingFault;
 
 /// These words and a number.
 fn numbered(words: &[u8], number: usize) -> Line
@@ -53,7 +54,7 @@ fn line_unset(setting: usize, fault: SettingFault) -> Line
     match fault {
         SettingFault::Port => line_stopped(setting, b"port"),
         SettingFault::Switch(found) => {
-            let words = numbered(b"switch ", number_of(&found));
+            let words = numbered(b"switch ", usize::from(found.number()));
             line_stopped(setting, words.as_bytes())
         }
     }
@@ -85,7 +86,7 @@ pub(crate) fn ending(room: Vec<u8>, how: Driven) -> Result<Answer, DriveFault>
     requires empty { room.items ≡ [] }
     requires room { LINE_ROOM ≤ vec_capacity room }
     ensures told { IfOk result (IsEnding how) }
-    ensures untold { IfErr result (λ fault. (fault ≡ Untold) × (k : ℕ) × (how ≡ UntoldAt k)) }
+    ensures untold { IfErr result (λ fault. (fault ≡ Untold) × (k : ℕ) × (how ≡ Halted k NotTold)) }
 {
     match how {
         Driven::Completed { settings } => {
@@ -94,10 +95,10 @@ pub(crate) fn ending(room: Vec<u8>, how: Driven) -> Result<Answer, DriveFault>
         Driven::Stopped { setting, fault } => {
             Ok(Answer::failed(filled(room, &line_unset(setting, fault))))
         }
-        Driven::Left { setting } => Ok(Answer::failed(filled(room, &line_left(setting)))),
-        Driven::Unheard { setting } => {
-            Ok(Answer::failed(filled(room, &line_stopped(setting, b"input"))))
-        }
-        Driven::Untold { .. } => Err(DriveFault::Untold),
+        Driven::Halted { setting, halt } => match halt {
+            Halt::Left => Ok(Answer::failed(filled(room, &line_left(setting)))),
+            Halt::Unheard => Ok(Answer::failed(filled(room, &line_stopped(setting, b"input")))),
+            Halt::Untold => Err(DriveFault::Untold),
+        },
     }
 }

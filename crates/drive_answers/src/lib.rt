@@ -4,9 +4,8 @@
 //! The ports of the switches, and whoever is told that a setting stands, are the caller's:
 //! [`Ports`] and [`Stage`](switch_driver::Stage). The settings from the one that is named on were
 //! driven over the ports of these names, which were opened for them, once, and the last line says
-//! how that ended. Or it is a
-//! refusal: then no port was opened, and nothing was told (`IsDriveAnswer` of `specs/Answers.antt`;
-//! `HasFailed` where there is no answer).
+//! how that ended. Or it is a refusal: then no port was handed over, nothing was sent, and nothing
+//! was told (`IsDriveAnswer` of `specs/Answers.antt`; `HasFailed` where there is no answer).
 #![tactic(auto)]
 
 mod drive_end;

@@ -5,7 +5,7 @@ ghost use Rattle.plan_answers.specs.Lent.{bytes_of};
 ghost use Rattle.drive_answers.specs.Ways.{given_back, names_of, opened_by, unopened_ways};
 
 use crate::names::PortNames;
-use contract_data::{FailureCount, PassedBytes};
+use byte_streams::{FailureCount, PassedBytes};
 use crossbar::Traffic;
 use std::marker::Model;
 use switch_driver::StreamPort;

@@ -1,24 +1,11 @@
 //! What was seen of an output that disagrees, in words.
 
-ghost use Rattle.std.specs.Prelude.{◌≡◌};
-ghost use Rattle.drive_answers.specs.Endings.{number_of as output_number};
-
 use board_wiring::Board;
-use c004_commands::{CONNECTED, OutputState, PORTS};
+use c004_commands::{CONNECTED, OutputState};
 use crossbar::{Chip, JOINED_MODULES};
 use std::fmt;
-use switch_driver::{Disagreement, Driven, SettingFault};
-use switch_settings::RackWiring;
-
-/// The number of an output: those of the second switch stand behind those of the first.
-pub(crate) fn number_of(found: &Disagreement) -> usize
-    ensures { result ≡ output_number found.now }
-{
-    match found.chip {
-        Chip::A => found.output as usize,
-        Chip::B => PORTS as usize + found.output as usize,
-    }
-}
+use switch_driver::Driven;
+use switch_settings::{Disagreement, RackWiring, SettingFault};
 
 /// A link of a module.
 #[derive(Clone, Copy, Debug, PartialEq, Eq)]
@@ -52,7 +39,7 @@ impl Sight {
         Some(Sight {
             found: *found,
             place: match board {
-                Some(board) => place_on(board, found.output),
+                Some(board) => place_on(board, found.output.get()),
                 None => Some(usual_place(rack, found)),
             },
             is_one_way: is_one_way(rack),
@@ -75,7 +62,7 @@ fn is_one_way(rack: RackWiring) -> bool {
 
 /// The link that an output of a rack leads to.
 fn usual_place(rack: RackWiring, found: &Disagreement) -> Place {
-    let module = usize::from(found.output);
+    let module = usize::from(found.output.get());
     if is_one_way(rack) {
         let link = match found.chip {
             Chip::A => 3,
@@ -138,7 +125,7 @@ impl fmt::Display for Sight {
             byte: self.found.came,
             is_one_way,
         };
-        let number = number_of(&self.found);
+        let number = self.found.number();
         match self.place {
             Some(Place { link, module }) => {
                 write!(f, "output {number}, link {link} of module {module}")?;

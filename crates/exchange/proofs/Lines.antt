@@ -3,9 +3,9 @@ use Rattle.std.proofs.Common.{◌≡◌, [], ℕ, Bool, not, List, Option, Resul
 use Rattle.std.specs.Io.KnownBytes.{Appends}
 use Rattle.plan_answers.specs.declared.source.Source.{Source}
 use Rattle.switch_driver.proofs.Texts.{AsText, untold}
+use Rattle.switch_driver.specs.Hearings.{Hearing}
 use Rattle.switch_driver.specs.Lines.{HasToldLine, TellsLine, Dialogue}
 use Rattle.switch_driver.specs.declared.lines.Lines.{Lines}
-use Rattle.switch_driver.specs.declared.stage.Cue.{Cue}
 use Rattle.drive_answers.specs.Answers.{IsDriveAnswer, HasFailed}
 use Rattle.drive_answers.specs.Ways.{Names, Ways}
 use Rattle.drive_answers.specs.declared.drive_end.DriveEnd.{DriveEnd}
@@ -19,7 +19,7 @@ use Rattle.named_files.specs.declared.notes.NoAnswer.{NoAnswer}
 use Rattle.named_files.specs.declared.notes.NoAnswer.TheVariants.{Refused, Unwritten}
 
 -- where there was no memory, nothing was told, and no port was opened
-none_where_refused : (hears : Dialogue → ℕ → List ℕ → Cue → Dialogue → Type 0) (source : Source (List ℕ)) (batch : List ℕ) (wiring : Option (List ℕ)) (first : ℕ) (names : Names) (was opens : Ways) (told tells : Dialogue) (fault : DriveFault)
+none_where_refused : (hears : Hearing Dialogue) (source : Source (List ℕ)) (batch : List ℕ) (wiring : Option (List ℕ)) (first : ℕ) (names : Names) (was opens : Ways) (told tells : Dialogue) (fault : DriveFault)
     → HasFailed hears source batch wiring first names was opens told tells fault → fault ≡ NoMemory → (tells.told ≡ told.told) × (opens ≡ was)
 none_where_refused hears source batch wiring first names was opens told tells Untold failed is = absurd (cc)
 none_where_refused hears source batch wiring first names was opens told tells NoMemory failed is = (ap (λ (d : Dialogue). d.told) failed.0, failed.1)

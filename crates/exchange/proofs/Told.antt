@@ -1,9 +1,10 @@
 -- What is printed behind what a session was told, and what is told beside it.
-use Rattle.std.proofs.Common.{ℕ, Bool, ◌++◌, ◌∷◌, List, Option, Some, None, Result, Ok, Err, IfOk, IfErr, OnErr, ap, ◌∙◌, append_assoc, append-nil, ◌⊎◌, inl, inr, refl, subst, sym, ◌≡◌, []}
+use Rattle.std.proofs.Common.{ℕ, Bool, false, ◌++◌, ◌∷◌, List, Option, Some, None, Result, Ok, Err, IfOk, IfErr, OnErr, ap, ◌∙◌, append_assoc, append-nil, ◌⊎◌, inl, inr, refl, subst, sym, ◌≡◌, []}
 use Rattle.std.specs.Prelude.{String}
 use Rattle.std.specs.Global.{Global}
 use Rattle.std.specs.Io.KnownBytes.{Appends}
 use Rattle.std.proofs.KnownBytes.{Appends-nil, Appends-trans}
+use Rattle.client_session.specs.Listening.{TellsOfRefusals, Told as Heard}
 use Rattle.plan_answers.specs.Refusals.{Printed}
 use Rattle.command_words.specs.declared.jobs.Job.{Job}
 use Rattle.named_files.specs.declared.notes.NoAnswer.TheVariants as missed
@@ -21,9 +22,9 @@ use Rattle.drive_answers.specs.Ways.{Ways}
 use Rattle.session_answers.specs.HostAnswers.{SessionEnd}
 use Rattle.session_answers.specs.declared.ended_session.Ending.{Ending}
 use Rattle.named_files.specs.Clients.{ends_of}
-use Rattle.exchange.specs.Responses.{Given, IsJobAnswer, Named, Response}
-use Rattle.named_files.specs.Notes.{unanswered, AreToldLines, IsToldInPart, IsNoteOn, IsToldUnless, IsWholeLine, IsRefused}
-use Rattle.exchange.specs.Notes.{HasJobOverlap, IsBeside, IsNoted}
+use Rattle.exchange.specs.Responses.{Given, IsJobAnswer, IsTalk, Named, Response}
+use Rattle.named_files.specs.Notes.{unanswered, AreToldLines, HasToldLines, IsToldInPart, IsNoteOn, IsToldUnless, IsWholeLine, IsRefused}
+use Rattle.exchange.specs.Notes.{HasJobOverlap, IsBeside, IsNoted, MayTell, TellsLines, told_there}
 use Rattle.exchange.specs.Outcomes.{HasTold, IsAnswered}
 use Rattle.command_words.specs.declared.jobs.ArgumentsFault.TheVariants as arguments_fault
 use Rattle.command_words.specs.Jobs.{AskFor, file_uses}
@@ -53,6 +54,29 @@ beside_of P Q request before after f (inr (inr (inr (inr lines)))) = inr (inr (i
 pub told_line_more : (a b c : Option (List ℕ)) (lines : List (List ℕ)) (line : List ℕ) → AreToldLines a b lines → IsWholeLine line → IsToldInPart b c line → AreToldLines a c (lines ++ line ∷ [])
 told_line_more a b c [] line are whole told = (c, whole, subst (λ (x : Option (List ℕ)). IsToldInPart x c line) are told, refl)
 told_line_more a b c (first ∷ lines) line are whole told = (are.0, are.1, are.2, told_line_more are.0 b c lines line are.3 whole told)
+
+-- lines behind lines
+lines_more : (a b c : Option (List ℕ)) (lines more : List (List ℕ)) → AreToldLines a b lines → AreToldLines b c more → AreToldLines a c (lines ++ more)
+lines_more a b c [] more are then = subst (λ (x : Option (List ℕ)). AreToldLines x c more) are then
+lines_more a b c (first ∷ lines) more are then = (are.0, are.1, are.2, lines_more are.0 b c lines more are.3 then)
+
+pub told_lines_more : (quiet : Bool) (a b c : Option (List ℕ)) → HasToldLines quiet a b → HasToldLines quiet b c → HasToldLines quiet a c
+told_lines_more quiet a b c (inl same) more = subst (λ (x : Option (List ℕ)). HasToldLines quiet x c) same more
+told_lines_more quiet a b c (inr t) (inl same) = inr (t.0, (t.1.0, subst (λ (x : Option (List ℕ)). AreToldLines a x t.1.0) (sym same) t.1.1))
+told_lines_more quiet a b c (inr t) (inr u) = inr (t.0, (t.1.0 ++ u.1.0, lines_more a b c t.1.0 u.1.0 t.1.1 u.1.1))
+
+-- beside a host
+pub host_beside : (overlap : Type 0) (request : Request) (before after : Option (List ℕ)) → TellsLines request.job → HasToldLines request.is_quiet before after → IsBeside overlap request before after
+host_beside overlap request before after host (inl same) = inl same
+host_beside overlap request before after host (inr t) = inr (inr (inr (inr (t.0, host, t.1))))
+
+-- beside a session
+pub talk_beside : (overlap : Type 0) (request : Request) (old new : Heard) (before mid after : Option (List ℕ)) → IsTalk request.job → request.is_quiet ≡ false → TellsOfRefusals MayTell old new → old.bytes ≡ before → new.bytes ≡ mid → HasToldLines request.is_quiet mid after
+    → IsBeside overlap request before after
+talk_beside overlap request old new before mid after talk loud told was is lines =
+    let there : TellsOfRefusals MayTell (told_there old.bytes) (told_there new.bytes) = record { tellings = told.tellings; each = told.each; appended = told.appended; loan = refl } in
+    let from = subst (λ (b : Option (List ℕ)). TellsOfRefusals MayTell (told_there b) (told_there new.bytes)) was there in
+    inr (inl (loud, talk, (mid, subst (λ (b : Option (List ℕ)). TellsOfRefusals MayTell (told_there before) (told_there b)) is from, subst (λ (q : Bool). HasToldLines q mid after) loud lines)))
 
 -- what is told of an answer
 noted : (overlap : Type 0) (request : Request) (end : Printed) (note : Option (List ℕ)) (eb em ea : Option (List ℕ))

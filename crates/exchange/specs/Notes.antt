@@ -15,7 +15,7 @@ use Rattle.batch.specs.declared.transfer.Transfer.{Transfer}
 use Rattle.command_words.specs.Jobs.{Files, files_of}
 use Rattle.named_files.specs.Contents.{AreContents, Holding}
 use Rattle.exchange.specs.Responses.{Given, IsTalk, text_in}
-use Rattle.named_files.specs.Notes.{AreToldLines, HasSecondLine, IsToldInPart, IsWholeLine}
+use Rattle.named_files.specs.Notes.{AreToldLines, HasSecondLine, HasToldLines, IsToldInPart, IsWholeLine}
 
 -- ---- of what a line is told
 
@@ -60,14 +60,15 @@ TellsLines (Replay shape recorded image first) = ⊤
 TellsLines job = ⊥
 
 -- What was told beside what is replied, where the arguments don't ask for silence, and else
--- nothing: by `talk` what may be told of some refusals, one after another, behind what stood there;
--- by `c004` what it drops; by `switch` and `drive` at most a whole line, and that only where
--- transfers overlap; and by `host` and `replay` some whole lines.
+-- nothing: by `talk` what may be told of some refusals, one after another, behind what stood there,
+-- and then some whole lines; by `c004` what it drops; by `switch` and `drive` at most a whole line,
+-- and that only where transfers overlap; and by `host` and `replay` some whole lines.
 abbrev pub IsBeside : Type 0 → Request → Option (List ℕ) → Option (List ℕ) → Type 0
 IsBeside overlap request before after =
     (after ≡ before)
     ⊎ ((request.is_quiet ≡ false) × IsTalk request.job
-    × TellsOfRefusals MayTell (told_there before) (told_there after))
+    × ((mid : Option (List ℕ)) × TellsOfRefusals MayTell (told_there before) (told_there mid)
+    × HasToldLines false mid after))
     ⊎ ((request.is_quiet ≡ false) × IsC004 request.job
     × ((told : List ℕ) × Appends before after told))
     ⊎ ((request.is_quiet ≡ false) × SetsSwitches request.job × overlap

@@ -13,11 +13,11 @@ use Rattle.plan_answers.specs.declared.source.Source.{Source}
 use Rattle.crossbar.specs.Switch.{idle}
 use Rattle.batch_book.specs.History.{Account}
 use Rattle.session_answers.specs.HostAnswers.{KnownClients, SessionEnd}
-use Rattle.switch_end.specs.End.{EndState}
-use Rattle.switch_end.specs.Answering.{HasRun}
+use Rattle.link_ends.specs.End.{EndState}
+use Rattle.link_ends.specs.Answering.{HasRun}
 use Rattle.plan_answers.specs.Refusals.{Printed}
 use Rattle.session_answers.specs.Serving.{IsServeAnswer}
-use Rattle.replay_answers.specs.Replays.{IsReplayPrinted}
+use Rattle.record_replay.specs.ReplayAnswers.{IsReplayPrinted}
 use Rattle.plan_answers.specs.declared.limits.TheConstants.{DONE, REFUSED}
 use Rattle.command_words.specs.Jobs.{Files, file_uses, files_of}
 use Rattle.command_words.specs.declared.jobs.Job.{Job}

@@ -17,6 +17,7 @@ ghost use Rattle.named_files.specs.Notes.{IsNoAnswer, IsRefused};
 
 use crate::answered::{Answered, finished};
 use crate::beside::Beside;
+use crate::cut::tell_cut;
 use crate::driving::drive;
 use crate::overlaps::{tell_overlap, tell_overlap_beside};
 use crate::peers::Peers;
@@ -28,18 +29,18 @@ use command_words::{Job, Request, Text};
 use drive_answers::{PortNames, Ports};
 use exchange_limits::WorkerCount;
 use kept_sessions::{Found, Kept, host, serve, talk};
+use link_ends::{EndFault, SwitchEnd, answer_commands};
 use named_files::{
     Contents, Lost, NoAnswer, Outputs, Receipts, Runtime, System, Unwritten, open_apart,
     read_contents, reason_line, slice_of, source_with, tell_note, text_of,
 };
 use plan_answers::{Answer, answer_check, answer_direct, answer_draw, answer_plan};
 use rack_answers::{answer_apply, answer_orders, answer_run, answer_switch};
-use replay_answers::answer_replay;
+use record_replay::answer_replay;
 use std::alloc::{AllocError, Global};
 use std::io;
 use std::io::{Read, Write};
 use std::thread::Threads;
-use switch_end::{EndFault, SwitchEnd, answer_commands};
 
 /// How a job ended, and what is left of what was opened for it to be written.
 pub(crate) struct Ended<C> {
@@ -109,6 +110,7 @@ pub(crate) fn answer_to<R: Runtime, S: System, P: Ports, I: Read, O: Write, E: W
         end,
         receipts,
         lost,
+        cut: _,
     } = answer_job(
         rt, system, peers, request, &contents, outputs, input, out, err,
     );
@@ -211,6 +213,7 @@ fn answer_job<R: Runtime, S: System, P: Ports, I: Read, O: Write, E: Write>(
                 &mut peers.endings,
             );
             tell_lacks(alloc, lacks, request.is_quiet, err);
+            tell_cut(alloc, rack, kept.cut, request.is_quiet, err);
             kept
         }
         Job::Talk { rack } if request.is_quiet => talk(
@@ -228,6 +231,7 @@ fn answer_job<R: Runtime, S: System, P: Ports, I: Read, O: Write, E: Write>(
             let kept = talk(rt, system, rack, contents, outputs, input, out, &mut beside);
             // It does nothing when the program runs: the proof reads from it what `err` holds.
             beside.into_stream();
+            tell_cut(alloc, rack, kept.cut, request.is_quiet, err);
             kept
         }
         _ => {
@@ -340,9 +344,9 @@ fn answer_texts<R: AllocGlobal + Threads + Sync>(
             Ok(Found::alone(answer))
         }
         Job::Direct { .. } => Ok(Found::alone(answer_direct(alloc, list)?)),
-        Job::Apply { shape, workers, .. } => {
+        Job::Apply { shape, .. } => {
             let shape = shape.as_str().as_bytes();
-            let answer = answer_apply(rt, alloc, shape, list, other, *workers)?;
+            let answer = answer_apply(alloc, shape, list, other)?;
             Ok(Found::alone(answer))
         }
         Job::Run {

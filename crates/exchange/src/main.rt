@@ -22,6 +22,7 @@
 
 mod answered;
 mod beside;
+mod cut;
 mod driving;
 mod jobs;
 mod limits;

@@ -4,7 +4,7 @@ ghost use Rattle.named_files.specs.Notes.{HasToldLines};
 
 use command_words::Text;
 use named_files::{Lack, lack_line, tell_line};
-use replay_answers::Torn;
+use record_replay::Torn;
 use std::alloc::{AllocError, Global};
 use std::io::Write;
 

@@ -42,5 +42,6 @@ pub(crate) fn without_sessions<S: System>(
         end,
         receipts: close_outputs(system, job, outputs),
         lost: Lost::none(),
+        cut: None,
     }
 }

@@ -31,11 +31,12 @@ mod switch;
 mod why;
 
 pub use boot::{exchange_boot_reset, exchange_boot_take};
+use exchange_limits::WorkerCount;
 use plan_answers::{
-    Answer, Planning, Source, answer_changes, answer_check, answer_direct, answer_draw,
-    answer_plan_alone,
+    Answer, Planning, Source, answer_changes, answer_check, answer_direct, answer_draw, answer_plan,
 };
-use rack_answers::{answer_apply_alone, answer_orders_alone, answer_switch_alone};
+use rack_answers::{answer_apply, answer_orders, answer_switch};
+use schedule_certificate::NoThreads;
 pub use status::{
     BOOTSTRAP, FAILED, LOOSE, MISALIGNED, NO_CALL, NO_MEMORY, NO_PORT, NO_ROOM, NO_STATE, OUTSIDE,
     REPLY,
@@ -84,7 +85,7 @@ pub extern "C" fn exchange_plan(
 ) -> u8
     ensures { Leaves (IsPlanned Plain widest batch.now) out.old out.new count.new result }
 {
-    let answer = answer_plan_alone(alloc, batch, Planning::Plain);
+    let answer = answer_plan(&NoThreads, alloc, batch, Planning::Plain, WorkerCount::ONE);
     leave(answer, out, count)
 }
 
@@ -98,7 +99,7 @@ pub extern "C" fn exchange_plan_steady(
 ) -> u8
     ensures { Leaves (IsPlanned Steady widest batch.now) out.old out.new count.new result }
 {
-    let answer = answer_plan_alone(alloc, batch, Planning::Steady);
+    let answer = answer_plan(&NoThreads, alloc, batch, Planning::Steady, WorkerCount::ONE);
     leave(answer, out, count)
 }
 
@@ -140,7 +141,8 @@ pub extern "C" fn exchange_switch(
 ) -> u8
     ensures { Leaves (IsSwitchedBy batch.now schedule.now) out.old out.new count.new result }
 {
-    let answer = answer_switch_alone(alloc, None, batch, source_of(schedule));
+    let source = source_of(schedule);
+    let answer = answer_switch(&NoThreads, alloc, None, batch, source, WorkerCount::ONE);
     leave(answer, out, count)
 }
 
@@ -158,7 +160,15 @@ pub extern "C" fn exchange_switch_wired(
     ensures { Leaves (IsSwitchedOn wiring.now batch.now schedule.now)
         out.old out.new count.new result }
 {
-    let answer = answer_switch_alone(alloc, Some(wiring), batch, source_of(schedule));
+    let source = source_of(schedule);
+    let answer = answer_switch(
+        &NoThreads,
+        alloc,
+        Some(wiring),
+        batch,
+        source,
+        WorkerCount::ONE,
+    );
     leave(answer, out, count)
 }
 
@@ -174,7 +184,8 @@ pub extern "C" fn exchange_orders(
 ) -> u8
     ensures { Leaves (IsOrderedBy batch.now schedule.now) out.old out.new count.new result }
 {
-    let answer = answer_orders_alone(alloc, batch, source_of(schedule), None);
+    let source = source_of(schedule);
+    let answer = answer_orders(&NoThreads, alloc, batch, source, None, WorkerCount::ONE);
     leave(answer, out, count)
 }
 
@@ -191,7 +202,7 @@ pub extern "C" fn exchange_apply(
     ensures { Leaves (IsTheOne (IsApplied shape.now batch.now image.now))
         out.old out.new count.new result }
 {
-    leave(answer_apply_alone(alloc, shape, batch, image), out, count)
+    leave(answer_apply(alloc, shape, batch, image), out, count)
 }
 
 /// What `exchange draw` answers to the texts of a batch and of a schedule: the picture of all

@@ -1,12 +1,12 @@
 //! The calls of a switch, over a state of their caller.
 
 ghost use Rattle.std.specs.Prelude.{◌≡◌};
-ghost use Rattle.switch_state.specs.States.{IsSwitchState, kept_end, new_switch_end};
+ghost use Rattle.link_ends.specs.SwitchStates.{IsSwitchState, kept_end, new_switch_end};
 ghost use Rattle.exchange_c.specs.States.{TakesByte, TellsSource, TellsJoined, fault_code};
 
 use crate::status::{LOOSE, NO_PORT, NO_STATE, REPLY};
+use link_ends::{AskFault, SwitchState, TakeFault};
 use plan_answers::{DONE, REFUSED};
-use switch_state::{AskFault, SwitchState, TakeFault};
 
 /// Makes the state that of a switch as after a reset, to which nothing has come.
 #[unsafe(no_mangle)]

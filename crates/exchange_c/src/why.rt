@@ -7,11 +7,13 @@ ghost use Rattle.exchange_c.specs.declared.status.TheConstants.{NO_CALL};
 
 use crate::status::NO_CALL;
 use crate::{leave, source_of};
+use exchange_limits::WorkerCount;
 use plan_answers::{
-    Answer, Planning, answer_changes, answer_check, answer_direct, answer_draw, answer_plan_alone,
+    Answer, Planning, answer_changes, answer_check, answer_direct, answer_draw, answer_plan,
 };
-use rack_answers::{answer_apply_alone, answer_orders_alone, answer_switch_alone};
+use rack_answers::{answer_apply, answer_orders, answer_switch};
 use refusal_notes::{Listing, Named, Texts, second_line};
+use schedule_certificate::NoThreads;
 use std::alloc::{AllocError, Global};
 
 /// A call that answers to texts.
@@ -77,18 +79,19 @@ impl Asked {
             given.entry.first.now given.entry.second.now given.entry.third.now) }
     {
         let (first, second, third) = (given.first, given.second, given.third);
+        let (rt, workers) = (&NoThreads, WorkerCount::ONE);
         match self {
-            Asked::Plan => answer_plan_alone(alloc, first, Planning::Plain),
+            Asked::Plan => answer_plan(rt, alloc, first, Planning::Plain, workers),
             Asked::Check => answer_check(alloc, first, second),
-            Asked::Switch => answer_switch_alone(alloc, None, first, source_of(second)),
-            Asked::Apply => answer_apply_alone(alloc, first, second, third),
+            Asked::Switch => answer_switch(rt, alloc, None, first, source_of(second), workers),
+            Asked::Apply => answer_apply(alloc, first, second, third),
             Asked::Draw => answer_draw(alloc, first, second, None),
             Asked::Changes => answer_changes(alloc, first, second),
             Asked::Direct => answer_direct(alloc, first),
             Asked::SwitchWired => {
-                answer_switch_alone(alloc, Some(third), first, source_of(second))
+                answer_switch(rt, alloc, Some(third), first, source_of(second), workers)
             }
-            Asked::Orders => answer_orders_alone(alloc, first, source_of(second), None),
+            Asked::Orders => answer_orders(rt, alloc, first, source_of(second), None, workers),
         }
     }
 

@@ -3,3 +3,4 @@ pub mod Held
 pub mod Lived
 pub mod Served
 pub mod Started
+pub mod Told

@@ -1,21 +1,22 @@
 -- How live sessions begin.
-use Rattle.std.proofs.Common.{◌≡◌, ◌≢◌, ◌⊎◌, ◌∙◌, ◌++◌, ◌∷◌, rules, ℕ, Bool, List, [], Option, Some, None, IfSome, IfOk, IfErr, Result, Ok, Err, true, false, is_some, append-nil, ap, inl, inr, sym, subst, refl, take}
+use Rattle.std.proofs.Common.{◌≡◌, ◌≢◌, ◌⊎◌, ◌∙◌, ◌++◌, ◌∷◌, rules, arith, ℕ, Bool, List, [], Option, Some, None, IfSome, IfOk, IfErr, Result, Ok, Err, true, false, is_some, append-nil, ap, inl, inr, sym, subst, refl, take}
 use Rattle.std.specs.Prelude.{option_map}
 use Rattle.clap.specs.Words.{Text}
 use Rattle.module_memory.specs.Store.{Store}
-use Rattle.batch_book.specs.History.{Account, AreUnstopped, new_account}
+use Rattle.batch_book.specs.History.{Account, AreUnstopped, IsLegal, new_account}
+use Rattle.batch_book.specs.Machine.{opened}
 use Rattle.plan_answers.specs.Refusals.{Refuses}
 use Rattle.rack_answers.specs.Openings.{IsRackOf, IsWrongRack}
 use Rattle.refusals.specs.declared.refusal.Refusal.{Refusal}
 use Rattle.refusals.specs.declared.refusal.Refusal.TheVariants.{NoMemory}
-use Rattle.replay_answers.specs.Replays.{of_record}
+use Rattle.record_replay.specs.ReplayAnswers.{of_record}
 use Rattle.command_words.specs.declared.jobs.RecordFile.{RecordFile}
 use Rattle.command_words.specs.declared.jobs.SharedRack.{SharedRack}
 use Rattle.kept_sessions.specs.Live.{HasFront, IsStarted, IsUnstarted}
 use Rattle.named_files.specs.Notes.{IsRefused}
 use Rattle.kept_sessions.specs.Outcomes.{IsToldOf, IsUnbegun, IsUnbegunFor}
 use Rattle.named_files.specs.Outputs.{IsOpened}
-use Rattle.kept_sessions.specs.Records.{BeginsAs, IsAsBegun, IsBegun, head_for, record_front}
+use Rattle.kept_sessions.specs.Records.{BeginsAs, BeginsFor, IsAsBegun, IsBegun, head_for, record_front}
 use Rattle.named_files.specs.Streams.{Closed, closed}
 use Rattle.kept_sessions.specs.Answers.{IsWrongStart}
 use Rattle.kept_sessions.specs.declared.found.Found.{Found}
@@ -31,6 +32,18 @@ none_before : (front rest : List ℕ) → front ++ rest ≡ [] → front ≡ []
 none_before [] rest is = refl
 none_before (x ∷ front) rest is = absurd cc
 
+-- sessions begin with a legal book
+new_legal : (opening : Store) (was : Account) → was ≡ new_account opening → IsLegal was.opening was.history
+new_legal opening was is = subst (λ (a : Account). IsLegal a.opening a.history) (sym is) (opened opening, refl)
+
+legal_as : (resumes : Bool) (held : List ℕ) (opening : Store) (names : List Text) (was : Account) → BeginsAs resumes held opening names was → IsLegal was.opening was.history
+legal_as resumes held opening names was (inl new) = new_legal opening was new.2
+legal_as resumes held opening names was (inr again) = subst (λ (s : Store). IsLegal s was.history) (sym again.1.is_opening) (was.machine, again.1.remade.replayed.replay)
+
+pub legal_begun : (holds : List ℕ → List ℕ → Type 0) (record_out : Option RecordFile) (opening : Store) (names : List Text) (was : Account) → BeginsFor holds record_out opening names was → IsLegal was.opening was.history
+legal_begun holds None opening names was is = new_legal opening was is
+legal_begun holds (Some out) opening names was is = legal_as out.resumes is.0 opening names was is.2
+
 -- what stands where the head couldn't be written whole
 front_begun : (resumes : Bool) (rack : Store) (names : List Text) (was : Account) (held head text front rest : List ℕ) (kept : ℕ)
     → BeginsAs resumes held rack names was → take kept held ++ head ≡ record_front names was → ((kept ≡ 0) × (was ≡ new_account rack)) ⊎ (head ≡ []) → head ≡ front ++ rest → text ≡ take kept held ++ front → IsBegun resumes held names text
@@ -43,7 +56,7 @@ front_begun resumes rack names was held head text front rest kept begins is (inl
 front_begun resumes rack names was held head text front rest kept begins is (inr none) parts said =
     let nothing : front ≡ [] = none_before front rest (sym parts ∙ none) in
     let kept_is : take kept held ≡ record_front names was = sym (append-nil (take kept held)) ∙ ap (λ (x : List ℕ). take kept held ++ x) (sym none) ∙ is in
-    (rack, was, begins, inr ([], [], [], refl, said ∙ ap (λ (x : List ℕ). take kept held ++ x) nothing ∙ ap (λ (x : List ℕ). x ++ []) kept_is))
+    (rack, was, begins, inr ([], omega arith, subst (IsLegal was.opening) (sym (append-nil was.history)) (legal_as resumes held rack names was begins), [], [], refl, said ∙ ap (λ (x : List ℕ). take kept held ++ x) nothing ∙ ap (λ (x : List ℕ). x ++ []) kept_is))
 
 -- how a file is left that couldn't begin
 pub unstarted_file : {C : Type 0} (received : C → Closed) (resumes : Bool) (rack : Store) (names : List Text) (was : Account) (held lent head said : List ℕ) (kept : ℕ) (after : Option (List ℕ)) (receipt : Option C)
@@ -102,7 +115,7 @@ unstarted_in (Err end) holds contents received (Some file) rack names resumes ou
     record { why = unbegun_for holds file rack names resumes out.held.items end.why resume has is.0; left = left_in holds received file names resumes out.held.items end.receipt resume has is.1 }
 
 -- what they begin with without a record
-pub started_none : {F : Type 0} (holds : List ℕ → List ℕ → Type 0) (contents : F → Option (List ℕ)) (record_out : Option RecordFile) (rack : Store) (names : List Text) (book : Account) → None ≡ option_map (λ (o : RecordFile). o.name) record_out → book ≡ new_account rack → IsStarted holds contents record_out rack names (record { book = book; stream = None })
+pub started_none : {F : Type 0} (holds : List ℕ → List ℕ → Type 0) (contents : F → Option (List ℕ)) (record_out : Option RecordFile) (rack : Store) (names : List Text) (book : Account) → None ≡ option_map (λ (o : RecordFile). o.name) record_out → book ≡ new_account rack → IsStarted holds contents record_out rack names (record { book = book; stream = None; cut = None })
 started_none holds contents (Some file) rack names book none is = absurd (let bad : None ≡ Some file.name = none in cc)
 started_none holds contents None rack names book none is =
     record { begins = is; whole = ap (λ (a : Account). a.whole) is; unstopped = subst (λ (a : Account). AreUnstopped a.history) (sym is) (search rules); stream = refl; front = tt }

@@ -8,7 +8,7 @@ use Rattle.plan_answers.specs.Refusals.{Printed, Refuses}
 use Rattle.session_answers.specs.Talking.{HasTalked, IsUntouched}
 use Rattle.rack_answers.specs.Openings.{IsRackOf, IsWrongRack}
 use Rattle.record_replay.specs.declared.fault.RecordFault.{RecordFault}
-use Rattle.replay_answers.specs.Replays.{of_record}
+use Rattle.record_replay.specs.ReplayAnswers.{of_record}
 use Rattle.command_words.specs.declared.jobs.SharedRack.{SharedRack}
 use Rattle.refusals.specs.declared.refusal.Refusal.{Refusal}
 use Rattle.refusals.specs.declared.refusal.Refusal.TheVariants as refusal

@@ -1,16 +1,32 @@
 -- What the files hold to which go the record of sessions and the image that they leave.
-use Rattle.std.specs.Prelude.{◌≡◌, false, true, List, [], Option, Some, None, is_some}
+use Rattle.std.specs.Prelude.{◌≡◌, ◌++◌, ℕ, false, true, List, [], Option, Some, None, IfSome, flat_map, is_some}
+use Rattle.std.specs.Io.KnownBytes.{Appends}
 use Rattle.clap.specs.Words.{Text}
 use Rattle.module_memory.specs.Images.{image_of}
 use Rattle.batch_book.specs.History.{Account}
+use Rattle.batch_book.specs.Recording.{AreAllBut}
+use Rattle.batch_book.specs.declared.entry.Entry.{Entry}
+use Rattle.book_record.specs.RecordText.{entry_text}
 use Rattle.command_words.specs.Jobs.{recorded_in}
 use Rattle.command_words.specs.declared.jobs.SharedRack.{SharedRack}
 use Rattle.named_files.specs.Contents.{Holding}
 use Rattle.named_files.specs.Streams.{Closed}
-use Rattle.kept_sessions.specs.Records.{IsAsBegun, whole_record}
+use Rattle.kept_sessions.specs.Records.{IsAsBegun, head_for, whole_record}
 use Rattle.named_files.specs.declared.lost.Lost.{Lost}
 use Rattle.named_files.specs.declared.outputs.Receipts.{Receipts}
 use Rattle.named_files.specs.Outputs.{HasNothingGone, IsFileWritten, IsUnput, lost_none}
+
+-- something was put behind what stood there
+abbrev pub HasGrown : Option (List ℕ) → Option (List ℕ) → Type 0
+HasGrown before after = (more : List ℕ) × Appends before after more
+
+-- The record's head stands there, and behind it each entry of the book; where it isn't whole, each
+-- but the last one, which nobody was told. Something may stand behind.
+pub record HasAllTold (names : List Text) (book : Account) (text : Option (List ℕ)) : Type 0 where
+  pub told : List Entry
+  pub all : AreAllBut book.whole told book.history
+  pub rest : List ℕ
+  pub stands : text ≡ Some ((head_for book.opening names ++ flat_map entry_text told) ++ rest)
 
 -- The files of the record and of the image that this book leaves were written and closed, so far as
 -- nothing of them is lost. All of the image stands in its file, or that is as it was.
@@ -21,8 +37,9 @@ AreWritten received record_out image_out names left receipts lost =
     × IsFileWritten received image_out (image_of left.machine.store) receipts.image lost.image
 
 -- The same of live sessions. Where an entry couldn't be recorded, or the record couldn't be ended,
--- the image is put nowhere: it could have more than the record tells. Where no book is left, the
--- file of the record is as it was, or as sessions began with it, and nothing is lost.
+-- the image is put nowhere: it could have more than the record tells. But each answer that was told
+-- stands in the record. Where no book is left, the file of the record is as it was, or as sessions
+-- began with it, and nothing is lost.
 abbrev pub AreLiveKept : {C : Type 0} → Holding → (C → Closed) → SharedRack → List Text
     → Option Account → Receipts C → Lost → Type 0
 AreLiveKept holds received rack names None receipts lost =
@@ -32,6 +49,7 @@ AreLiveKept holds received rack names (Some left) receipts lost =
     AreWritten received (recorded_in rack) rack.image_out names left receipts lost
     × (left.whole ≡ false → IsUnput received receipts.image)
     × (is_some lost.recorded ≡ true → IsUnput received receipts.image)
+    × IfSome receipts.recorded (λ receipt. HasAllTold names left (received receipt).bytes)
 
 -- The same of scripts. Where no book is left, nothing was written.
 abbrev pub AreScriptsKept : {C : Type 0} → (C → Closed) → Option Text → Option Text

@@ -4,7 +4,7 @@ use Rattle.clap.specs.Words.{Text}
 use Rattle.module_memory.specs.Store.{Store}
 use Rattle.batch_book.specs.History.{Account, AreUnstopped}
 use Rattle.plan_answers.specs.Refusals.{Printed, Refuses}
-use Rattle.record_stream.specs.Streams.{IsWritten as IsStreamed}
+use Rattle.book_record.specs.Streams.{IsWritten as IsStreamed}
 use Rattle.refusals.specs.declared.refusal.Refusal.{Refusal}
 use Rattle.command_words.specs.declared.jobs.RecordFile.{RecordFile}
 use Rattle.command_words.specs.declared.jobs.SharedRack.{SharedRack}

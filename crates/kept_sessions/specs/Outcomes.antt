@@ -11,7 +11,7 @@ use Rattle.module_memory.specs.Store.{Store}
 use Rattle.command_words.specs.declared.jobs.RecordFile.{RecordFile}
 use Rattle.plan_answers.specs.Refusals.{Printed, Refuses}
 use Rattle.refusals.specs.declared.refusal.Refusal.{Refusal}
-use Rattle.replay_answers.specs.Replays.{of_record}
+use Rattle.record_replay.specs.ReplayAnswers.{of_record}
 use Rattle.record_replay.specs.declared.fault.RecordError.{RecordError}
 use Rattle.record_replay.specs.declared.fault.RecordFault.TheVariants as fault
 use Rattle.named_files.specs.Notes.{IsRefused}

@@ -4,8 +4,7 @@ ghost use Rattle.std.specs.Prelude.{◌≡◌};
 
 use named_files::Lack;
 use plan_answers::Answer;
-use record_replay::RecordError;
-use replay_answers::{Replayed, Torn};
+use record_replay::{RecordError, Replayed, Torn};
 
 /// The answer to a job, and what is known beside it.
 #[derive(Drop)]
@@ -19,6 +18,15 @@ pub struct Found {
     pub torn: Option<Torn>,
     /// What stopped a drive, where something did, or why a port can't be opened.
     pub lack: Option<Lack>,
+}
+
+/// What was cut off from the record with which sessions go on: an entry that was torn off.
+#[derive(Clone, Copy, Debug, PartialEq, Eq)]
+pub struct Cut {
+    /// The line with which it began, counted from 1.
+    pub line: usize,
+    /// How many bytes it had.
+    pub bytes: usize,
 }
 
 impl Found {

@@ -12,6 +12,6 @@ mod live;
 mod recording;
 mod sessions;
 
-pub use found::Found;
+pub use found::{Cut, Found};
 pub use live::Kept;
 pub use sessions::{host, serve, talk};

@@ -1,6 +1,6 @@
 //! Live sessions over a book whose entries go to a record, if they go anywhere.
 
-ghost use Rattle.std.specs.Prelude.{◌≡◌, ◌⊎◌, ◌++◌, ◌≤◌, ℕ, List, None, Some, IfOk, IfErr, IfSome, OnErr, OnOk, false, is_some, length, option_map, take, true};
+ghost use Rattle.std.specs.Prelude.{◌≡◌, ◌⊎◌, ◌++◌, ◌≤◌, ℕ, List, None, Some, IfOk, IfErr, IfSome, MatchOption, OnErr, OnOk, false, is_some, length, option_map, take, true};
 ghost use Rattle.batch.specs.Text.{IsNumber};
 ghost use Rattle.batch_book.specs.History.{Account, AreUnstopped};
 ghost use Rattle.clap.specs.Words.{Text};
@@ -9,20 +9,21 @@ ghost use Rattle.module_memory.specs.Images.{image_of};
 ghost use Rattle.module_memory.specs.Store.{Store};
 ghost use Rattle.plan_answers.specs.Refusals.{Refuses};
 ghost use Rattle.rack_answers.specs.Openings.{IsRackOf};
-ghost use Rattle.record_fronts.specs.Fronts.{end_line};
-ghost use Rattle.record_stream.specs.Streams.{IsWritten as IsStreamed};
+ghost use Rattle.book_record.specs.Fronts.{end_line};
+ghost use Rattle.book_record.specs.Streams.{IsWritten as IsStreamed};
 ghost use Rattle.named_files.specs.Contents.{contents_in};
 ghost use Rattle.kept_sessions.specs.Live.{HasFront, IsOver, IsStarted, IsUnserved, IsUnstarted, left_by};
 ghost use Rattle.named_files.specs.Notes.{IsRefused};
 ghost use Rattle.kept_sessions.specs.Outcomes.{IsToldBy, IsToldOf, IsUnbegun};
-ghost use Rattle.kept_sessions.specs.Keeping.{AreLiveKept, AreWritten};
+ghost use Rattle.kept_sessions.specs.Keeping.{AreLiveKept, AreWritten, HasGrown};
 ghost use Rattle.named_files.specs.Outputs.{AreNamed, AreOpened, IsFileWritten, IsOpened, IsUnput, is_new, name_of};
-ghost use Rattle.kept_sessions.specs.Records.{BeginsAs, BeginsFor, IsBegun, IsSoFar, head_for, record_front};
+ghost use Rattle.kept_sessions.specs.Records.{BeginsAs, BeginsFor, IsBegun, IsSoFar, IsUnasked, head_for, record_front};
 ghost use Rattle.named_files.specs.Streams.{IsWrittenBy, closed};
 
-use crate::found::Found;
+use crate::found::{Cut, Found};
 use crate::recording::{Begun, Unbegun, begin, new_book, refusal_of};
 use batch_book::{BareBook, Book, History, Silent};
+use book_record::{StreamName, Streamed, stream_off};
 use byte_streams::write_bytes;
 use command_words::{SharedRack, Text};
 use exchange_limits::WorkerCount;
@@ -33,7 +34,6 @@ use named_files::{
 };
 use plan_answers::Answer;
 use rack_answers::read_rack;
-use record_stream::{StreamName, Streamed, stream_off};
 use refusals::Refusal;
 use std::alloc::Global;
 use std::io;
@@ -45,6 +45,8 @@ pub struct Kept<C> {
     pub end: Result<Found, NoAnswer>,
     pub receipts: Receipts<C>,
     pub lost: Lost,
+    /// What was cut off from the record with which sessions went on.
+    pub cut: Option<Cut>,
 }
 
 /// What sessions begin with.
@@ -52,6 +54,8 @@ pub(crate) struct Start<F> {
     pub(crate) book: Book<Silent>,
     /// The stream of their record, which has what the book has.
     pub(crate) stream: Option<F>,
+    /// What was cut off there.
+    pub(crate) cut: Option<Cut>,
 }
 
 /// Why they don't begin.
@@ -150,7 +154,12 @@ fn start_in<R: Threads + Sync, S: System>(
         held.as_slice(),
         workers,
     );
-    let Begun { book, kept, head } = match begun {
+    let Begun {
+        book,
+        kept,
+        head,
+        cut,
+    } = match begun {
         Ok(begun) => begun,
         Err(why) => return Err(not_started(system, why, held, file)),
     };
@@ -158,6 +167,7 @@ fn start_in<R: Threads + Sync, S: System>(
         Ok(()) => Ok(Start {
             book,
             stream: Some(file),
+            cut,
         }),
         Err(error) => {
             let why = Unbegun::Missed(unread(alloc, name, &error));
@@ -207,7 +217,11 @@ fn start_on<R: Threads + Sync, S: System>(
             out,
         ),
         None => match new_book(alloc, rack) {
-            Ok(book) => Ok(Start { book, stream: None }),
+            Ok(book) => Ok(Start {
+                book,
+                stream: None,
+                cut: None,
+            }),
             Err(error) => Err(Unstarted {
                 why: Unbegun::from(error),
                 held: Vec::new(alloc),
@@ -278,6 +292,7 @@ pub(crate) fn begin_live<'a, R: AllocGlobal + Threads + Sync, S: System>(
                     image: close_file(system, image),
                 },
                 lost: Lost::none(),
+                cut: None,
             });
         }
     };
@@ -290,6 +305,7 @@ pub(crate) fn begin_live<'a, R: AllocGlobal + Threads + Sync, S: System>(
                 image: close_file(system, image),
             },
             lost: Lost::none(),
+            cut: None,
         }),
     }
 }
@@ -335,8 +351,9 @@ pub(crate) fn over_recorded<F: Write, N: StreamName>(
 
 /// Writes the last line of a record whose sessions have ended, if each entry stands there.
 fn write_end<S: System>(system: &S, file: &mut S::Stream, is_whole: bool) -> io::Result<()>
-    ensures { (text : List ℕ) → IsSoFar is_whole text (S.Stream.contents file.old)
+    ensures end { (text : List ℕ) → IsSoFar is_whole text (S.Stream.contents file.old)
         → IsWrittenBy result (text ++ end_line) (S.Stream.contents file.new) }
+    ensures grown { HasGrown (S.Stream.contents file.old) (S.Stream.contents file.new) }
 {
     if is_whole {
         return write_bytes(file, b"end\n");
@@ -356,9 +373,11 @@ fn end_record<S: System>(
     is_whole: bool,
 ) -> (Option<S::Receipt>, Option<Reason>)
     requires { is_some stream ≡ is_some shared.now.record_out }
-    ensures { (text : List ℕ)
+    ensures end { (text : List ℕ)
         → IfSome stream (λ file. IsSoFar is_whole text (S.Stream.contents file))
         → IsFileWritten S.received (recorded_in shared.now) (text ++ end_line) result.0 result.1 }
+    ensures grown { MatchOption stream (result.0 ≡ None) (λ file. IfSome result.0
+        (λ receipt. HasGrown (S.Stream.contents file) (S.received receipt).bytes)) }
 {
     let Some(mut file) = stream else {
         return (None, None);
@@ -413,6 +432,8 @@ fn keep_live<S: System>(
         (S.Stream.contents file))
         → AreWritten S.received (recorded_in shared.now) shared.now.image_out names left result.0
         result.1 }
+    ensures grown { MatchOption stream (result.0.recorded ≡ None) (λ file. IfSome result.0.recorded
+        (λ receipt. HasGrown (S.Stream.contents file) (S.received receipt).bytes)) }
     ensures broken { is_whole ≡ false → IsUnput S.received result.0.image }
     ensures lost { is_some result.1.recorded ≡ true → IsUnput S.received result.0.image }
 {
@@ -426,13 +447,15 @@ fn keep_live<S: System>(
     (Receipts { recorded, image }, lost)
 }
 
-/// Ends what sessions leave, or leaves files as they are where none began.
+/// Ends what sessions leave, or leaves files as they are where none began. This was cut off from the
+/// record with which they went on.
 pub(crate) fn end_live<S: System>(
     system: &S,
     alloc: Global,
     shared: &SharedRack,
     over: Over<S::Stream>,
     image: Option<OutFile<'_, S::Stream>>,
+    cut: Option<Cut>,
 ) -> Kept<S::Receipt>
     requires stream { is_some over.stream ≡ is_some shared.now.record_out }
     requires opened { IsOpened S.Stream.contents is_new (name_of image) image }
@@ -440,7 +463,7 @@ pub(crate) fn end_live<S: System>(
     ensures told { IsToldBy over.end result.end }
     ensures kept { (opening : Store) → (names : List Text) → (was : Account) → (left : Account)
         → BeginsFor (S.holds system.now) shared.now.record_out opening names was
-        → IsOver S.Stream.contents names was left over
+        → IsOver S.Stream.contents names was left over → OnErr over.end (IsUnasked was left)
         → AreLiveKept (S.holds system.now) S.received shared.now names (left_by over.end left)
         result.receipts result.lost }
 {
@@ -457,6 +480,7 @@ pub(crate) fn end_live<S: System>(
                 end: Ok(Found::alone(answer)),
                 receipts,
                 lost,
+                cut,
             }
         }
         Err(refusal) => Kept {
@@ -466,6 +490,7 @@ pub(crate) fn end_live<S: System>(
                 image: close_file(system, image),
             },
             lost: Lost::none(),
+            cut,
         },
     }
 }

@@ -3,18 +3,19 @@
 ghost use Rattle.std.specs.Prelude.{◌≡◌, ◌⊎◌, [], ◌≤◌, ◌++◌, ◌-◌, IfErr, IfOk, true, length, map, take};
 ghost use Rattle.batch.specs.Text.{IsNumber};
 ghost use Rattle.batch_book.specs.History.{AreUnstopped, new_account};
-ghost use Rattle.replay_answers.specs.Replays.{of_record};
+ghost use Rattle.record_replay.specs.ReplayAnswers.{of_record};
 ghost use Rattle.named_files.specs.Notes.{IsRefused};
 ghost use Rattle.kept_sessions.specs.Outcomes.{IsUnbegun, IsUnremade};
 ghost use Rattle.kept_sessions.specs.Records.{BeginsAs, IsResumed, head_for, record_front};
 
+use crate::found::Cut;
 use batch_book::{Book, Silent};
+use book_record::{head_text, is_ended, sum_of};
 use command_words::Text;
 use exchange_limits::WorkerCount;
 use line_words::behind;
 use module_memory::Rack;
 use named_files::{NoAnswer, Unanswered};
-use record_fronts::{head_text, sum_of};
 use record_replay::{RecordError, RecordFault, Remade, replay};
 use refusal_notes::file_line;
 use refusals::Refusal;
@@ -29,6 +30,8 @@ pub(crate) struct Begun {
     pub(crate) kept: usize,
     /// What is written behind them.
     pub(crate) head: Vec<u8>,
+    /// What of the file isn't kept, but for its last line.
+    pub(crate) cut: Option<Cut>,
 }
 
 /// Why sessions don't begin.
@@ -155,6 +158,24 @@ fn resume<R: Threads + Sync>(
     }
 }
 
+/// What stands in a record behind so many bytes: nothing is told of its last line.
+fn cut_of(held: &[u8], kept: usize) -> Option<Cut> {
+    let (front, rest) = held.split_at(kept.min(held.len()));
+    if rest.is_empty() || is_ended(rest) {
+        return None;
+    }
+    let mut line: usize = 1;
+    for byte in front {
+        if *byte == b'\n' {
+            line = line.saturating_add(1);
+        }
+    }
+    Some(Cut {
+        line,
+        bytes: rest.len(),
+    })
+}
+
 /// The book with which sessions on this rack begin, where the file for their record holds this.
 /// Entries that it tells are made again by so many workers.
 pub(crate) fn begin<R: Threads + Sync>(
@@ -186,12 +207,17 @@ pub(crate) fn begin<R: Threads + Sync>(
             book: new_book(alloc, rack)?,
             kept: 0,
             head,
+            cut: None,
         });
     }
     if !resumes {
         return Err(Unbegun::Missed(holds_more(alloc, name)));
     }
     let (book, kept) = resume(rt, alloc, rack, held, head.as_slice(), workers)?;
-    let head = Vec::new(alloc);
-    Ok(Begun { book, kept, head })
+    Ok(Begun {
+        book,
+        kept,
+        head: Vec::new(alloc),
+        cut: cut_of(held, kept),
+    })
 }

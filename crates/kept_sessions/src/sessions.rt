@@ -20,17 +20,16 @@ use crate::live::{
     Kept, Over, Start, begin_live, end_live, keep_image, over_recorded, over_silent,
 };
 use batch_book::{Book, History, Silent};
+use book_record::{StreamName, stream_on, write_record};
+use byte_streams::PassedBytes;
 use client_session::Listener;
 use command_words::{SharedRack, Text};
-use contract_data::PassedBytes;
 use exchange_limits::WorkerCount;
 use named_files::{
     ClientFiles, Contents, FileStreams, Lack, Lost, NoAnswer, OutFile, Outputs, Reason, Receipts,
     Runtime, System, close_file, keep_file, slice_of,
 };
 use plan_answers::Answer;
-use record_fronts::write_record;
-use record_stream::{StreamName, stream_on};
 use refusals::Refusal;
 use session_answers::{Closing, Ending, Hosted, Served, answer_serve, host_on, talk_on};
 use std::alloc::Global;
@@ -125,6 +124,7 @@ pub fn serve<R: Runtime, S: System>(
                 end: Ok(Found::alone(answer)),
                 receipts,
                 lost,
+                cut: None,
             }
         }
         Err(error) => {
@@ -133,6 +133,7 @@ pub fn serve<R: Runtime, S: System>(
                 end: Err(NoAnswer::from(error)),
                 receipts,
                 lost,
+                cut: None,
             }
         }
     }
@@ -207,7 +208,11 @@ fn host_from<R: Threads + Wait + Sync, S: System>(
         (clients_by (S.had streams.now.system.now) streams.now.clients.now) endings.old.items
         endings.new.items result.end left }
 {
-    let Start { book, stream } = start;
+    let Start {
+        book,
+        stream,
+        cut: _,
+    } = start;
     match stream {
         Some(stream) => host_recorded::<Brand, R, S>(
             rt, alloc, book, stream, workers, streams, endings,
@@ -254,8 +259,9 @@ pub fn host<R: Runtime, S: System>(
         clients,
         unopened,
     };
+    let cut = start.cut;
     let over = host_from(rt, alloc, start, workers, &streams, endings);
-    end_live(system, alloc, shared, over, image)
+    end_live(system, alloc, shared, over, image, cut)
 }
 
 /// The session of a client over a book, of whose refusals the listener is told.
@@ -326,7 +332,11 @@ fn talk_from<R: Threads + Wait + Sync, F: Write, I: Read, O: Write, H: Listener>
         (I.remaining input.new) told result.end left }
     ensures beside { TellsOfRefusals H.may_tell (H.told listener.old) (H.told listener.new) }
 {
-    let Start { book, stream } = start;
+    let Start {
+        book,
+        stream,
+        cut: _,
+    } = start;
     match stream {
         Some(stream) => talk_recorded::<Brand, R, F, I, O, H>(
             rt, alloc, book, stream, input, out, listener,
@@ -367,6 +377,7 @@ pub fn talk<R: Runtime, S: System, I: Read, O: Write, H: Listener>(
         Err(kept) => return kept,
     };
     let alloc = rt.alloc();
+    let cut = start.cut;
     let over = talk_from(rt, alloc, start, input, out, listener);
-    end_live(system, alloc, shared, over, image)
+    end_live(system, alloc, shared, over, image, cut)
 }

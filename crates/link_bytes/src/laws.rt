@@ -1,12 +1,12 @@
 //! Laws of the bits of a line (IMS T414 data sheet, link protocol). They make no call.
 
-ghost use Rattle.std.specs.Prelude.{◌≡◌, ℕ, List, Bool, length};
+ghost use Rattle.std.specs.Prelude.{◌≡◌, ℕ, List, Bool};
 ghost use Rattle.link_bytes.specs.declared.packet.Packet.{Packet};
-ghost use Rattle.link_bytes.specs.declared.packet.Packet.TheVariants.{Ack, Byte};
+ghost use Rattle.link_bytes.specs.declared.packet.Packet.TheVariants.{Ack};
 ghost use Rattle.link_bytes.specs.Line.{IsPacket, packet_bits};
 ghost use Rattle.link_bytes.specs.Reading.{HasReading, HasOneReading, IsBegunAt, IsWhole};
 
-use crate::packet::{ACK, FRAME_BITS};
+use crate::packet::ACK;
 
 /// Any bits have one reading as a line: their packets, and what has come of the next one, or that a
 /// packet had no stop bit.
@@ -24,9 +24,4 @@ pub fn one_packet()
 /// The bits of an acknowledge are `ACK`.
 pub fn acknowledge()
     ensures { packet_bits Ack ≡ ACK }
-{}
-
-/// A data packet has `FRAME_BITS` bits.
-pub fn frame_size()
-    ensures { (b : ℕ) → length (packet_bits (Byte b)) ≡ FRAME_BITS }
 {}

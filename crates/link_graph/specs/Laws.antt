@@ -1,10 +1,8 @@
 -- Laws of schedules, certificates and their texts, each of them a statement of the definitions
 -- alone.
-use Rattle.std.specs.Prelude.{◌≡◌, ℕ, List, length}
+use Rattle.std.specs.Prelude.{◌≡◌, ℕ, List}
 use Rattle.batch.specs.declared.transfer.Transfer.{Transfer}
 use Rattle.link_graph.specs.declared.check_fault.CheckFault.{CheckFault}
-use Rattle.link_graph.specs.declared.link.Link.{Link}
-use Rattle.link_graph.specs.Counts.{uses, AreUsers}
 use Rattle.link_graph.specs.Schedules.{IsScheduleOf}
 use Rattle.link_graph.specs.Certificates.{Naming, IsShortest, IsCertificate}
 use Rattle.link_graph.specs.Checks.{IsFirstCheckFault}
@@ -16,12 +14,6 @@ abbrev pub CertifiedIsShortest : Type 0
 CertifiedIsShortest =
     (batch : List Transfer) (settings : List (List ℕ)) (named : Naming)
     → IsScheduleOf batch settings → IsCertificate batch settings named → IsShortest batch settings
-
--- a link has as many uses as transfers that use it, listed once each
-abbrev pub UsersAreCounted : Type 0
-UsersAreCounted =
-    (batch : List Transfer) (link : Link) (users : List ℕ) → AreUsers batch link users
-    → length users ≡ uses batch link
 
 -- a schedule with a certificate has no first fault
 abbrev pub RightHasNoFault : Type 0

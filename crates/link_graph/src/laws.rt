@@ -2,7 +2,7 @@
 
 ghost use Rattle.std.specs.Prelude.{◌↔◌, IsTrue};
 ghost use Rattle.link_graph.specs.Links.{StandsBefore};
-ghost use Rattle.link_graph.specs.Laws.{CertifiedIsShortest, UsersAreCounted, RightHasNoFault, OneFault, OneSaid, NeverBoth, OneBadLine};
+ghost use Rattle.link_graph.specs.Laws.{CertifiedIsShortest, RightHasNoFault, OneFault, OneSaid, NeverBoth, OneBadLine};
 
 use crate::link::Link;
 
@@ -17,11 +17,6 @@ pub fn link_order(a: Link, b: Link) -> bool
 /// transfers that use the link. This is the easy half of König's theorem.
 pub fn certified_is_shortest()
     ensures { CertifiedIsShortest }
-{}
-
-/// How many transfers use a link is the number of those that use it, listed once each.
-pub fn users_are_counted()
-    ensures { UsersAreCounted }
 {}
 
 /// A schedule and a certificate that are right have no first fault, and others have at most one.

@@ -2,7 +2,7 @@
 //!
 //! Seen as a graph, a batch has the links of the modules as its nodes and the transfers as its
 //! edges: each joins link 0 of its initiator to link 3 of its responder (`Uses` of
-//! `specs/Uses.antt`). A [`LinkGraph`] tells how many transfers use a link, and which link is
+//! `specs/Uses.antt`). Links have an order (`laws::link_order`). A [`LinkGraph`] tells how many transfers use a link, and which link is
 //! busiest (`specs/Counts.antt`).
 //!
 //! [`check_schedule`] answers Ok exactly where the settings are a schedule of the batch with a

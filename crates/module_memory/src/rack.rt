@@ -223,6 +223,7 @@ impl Rack {
         let Rack { shape, blocks } = self;
         let mut rest = Rest::of(shape, blocks, copies);
         for place in places {
+            // There is room: it was asked for above.
             let _ = bays.push(rest.lend(*place));
         }
         Ok(Parted { rest, bays })

@@ -1,10 +1,13 @@
 -- Which files are one, by what their names lead to.
-use Rattle.std.specs.Prelude.{◌≡◌, ◌⊎◌, ◌↔◌, ℕ, Bool, false, List, Option, All, AllPairs, IsTrue, MatchOption, codes, string_bytes}
+use Rattle.std.specs.Prelude.{◌≡◌, ◌≢◌, ◌⊎◌, ◌↔◌, ℕ, Bool, false, List, Option, All, AllPairs, Contains, IfSome, IsTrue, MatchOption, codes, string_bytes}
+use Rattle.clap.specs.Words.{Text}
 use Rattle.command_words.specs.declared.uses.Access.{Access}
-use Rattle.command_words.specs.declared.uses.Access.TheVariants.{Port}
+use Rattle.command_words.specs.declared.uses.Access.TheVariants.{Port, Read, Write}
 use Rattle.command_words.specs.declared.uses.FileUse.{FileUse}
-use Rattle.command_words.specs.Jobs.{Exclude}
-use Rattle.named_files.specs.declared.apart.Place.{Place}
+use Rattle.command_words.specs.Jobs.{Exclude, file}
+use Rattle.named_files.specs.declared.place.FileKind.{FileKind}
+use Rattle.named_files.specs.declared.place.FileKind.TheVariants.{Device, Null, Plain}
+use Rattle.named_files.specs.declared.place.Place.{Place}
 
 -- a name leads to this file, or no file can be told
 abbrev pub Leading : Type 1
@@ -16,12 +19,15 @@ pub record AreOneFile (one other : Place) : Type 0 where
   pub number : one.number ≡ other.number
   pub name : string_bytes one.name ≡ string_bytes other.name
 
--- files of these uses have to be two, and are one. A character device, as a terminal, may be one,
--- but as a port
+-- it is a character device, as a terminal is
+abbrev pub IsDevice : FileKind → Type 0
+IsDevice kind = (kind ≡ Null) ⊎ (kind ≡ Device)
+
+-- files of these uses have to be two, and are one. A character device may be one, but as a port
 abbrev pub Clash : Access → Access → Place → Place → Type 0
 Clash one other place there =
     Exclude one other × AreOneFile place there
-    × (IsTrue place.is_device → (one ≡ Port) ⊎ (other ≡ Port))
+    × (IsDevice place.kind → (one ≡ Port) ⊎ (other ≡ Port))
 
 -- so it is with what is told of them
 abbrev pub IsClashSeen : Access → Access → Option Place → Option Place → Type 0
@@ -38,17 +44,23 @@ IsSeen leads one other clash =
 abbrev pub HaveNoClash : Leading → List FileUse → Type 0
 HaveNoClash leads = AllPairs (λ one other. IsSeen leads one other false)
 
--- what is told of both is one plain file
-abbrev pub IsOnePlain : Option Place → Option Place → Type 0
-IsOnePlain place there =
-    MatchOption place ⊥ (λ p. MatchOption there ⊥ (λ q. IsTrue p.is_file × AreOneFile p q))
+-- no standard stream may lead to a file of this use: to no plain file, nor, but for the null
+-- device, to one that is written
+abbrev pub IsBarred : Access → FileKind → Type 0
+IsBarred access kind = (kind ≡ Plain) ⊎ (Exclude access Read × (kind ≢ Null))
 
--- a file is another than this plain one, as far as it is told where its name leads
+-- what is told of a stream and of a file of this use is one such file
+abbrev pub IsBarredSeen : Access → Option Place → Option Place → Type 0
+IsBarredSeen access place there =
+    MatchOption place ⊥ (λ p. MatchOption there ⊥ (λ q. IsBarred access p.kind × AreOneFile p q))
+
+-- a file is another than the one at this place, as far as it is told where its name leads; or a
+-- stream may lead there
 abbrev pub IsOther : Leading → Option Place → FileUse → Type 0
 IsOther leads place file =
-    (there : Option Place) × leads file.name there × (IsOnePlain place there → ⊥)
+    (there : Option Place) × leads file.name there × (IsBarredSeen file.access place there → ⊥)
 
--- the stream of this name is none of these files, unless it is no plain file
+-- the stream of this name is none of these files, but where it may be
 abbrev pub IsNoneOf : Leading → List ℕ → List FileUse → Type 0
 IsNoneOf leads stream uses =
     (place : Option Place) × leads stream place × All (IsOther leads place) uses
@@ -58,3 +70,11 @@ pub record AreSeenApart (leads : Leading) (uses : List FileUse) : Type 0 where
   pub pairs : HaveNoClash leads uses
   pub out : IsNoneOf leads (codes "/dev/stdout") uses
   pub err : IsNoneOf leads (codes "/dev/stderr") uses
+
+-- among these files is one of this name that is written
+abbrev pub IsWrittenOf : List FileUse → List ℕ → Type 0
+IsWrittenOf uses name = Contains uses (file Write name)
+
+-- the same of a name, where there is one
+abbrev pub MayBeWritten : List FileUse → Option Text → Type 0
+MayBeWritten uses name = IfSome name (IsWrittenOf uses)

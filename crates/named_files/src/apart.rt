@@ -1,138 +1,33 @@
 //! Which files the names of a job lead to: none that it writes is one that it reads, or writes too.
 
-ghost use Rattle.std.specs.Prelude.{◌≡◌, ◌↔◌, ℕ, List, Option, All, IfErr, IfOk, IfSome, IsTrue, OnOk, codes, false, string_bytes};
+ghost use Rattle.std.specs.Prelude.{◌≡◌, ◌↔◌, All, IfErr, IfOk, IfSome, IsTrue, OnOk, codes, false, string_bytes};
 ghost use Rattle.command_words.specs.Jobs.{file_uses as the_uses};
 ghost use Rattle.command_words.specs.declared.uses.Access.TheVariants.{Port};
-ghost use Rattle.named_files.specs.declared.apart.Place.{Place};
-ghost use Rattle.named_files.specs.Apart.{HaveNoClash, AreOneFile, AreSeenApart, Clash, IsClashSeen, IsNoneOf, IsOnePlain, IsOther, IsSeen};
+ghost use Rattle.named_files.specs.declared.place.FileKind.TheVariants.{Null, Plain};
+ghost use Rattle.named_files.specs.Apart.{HaveNoClash, AreSeenApart, Clash, IsBarred, IsBarredSeen, IsClashSeen, IsNoneOf, IsOther, IsSeen};
 ghost use Rattle.named_files.specs.Notes.{IsWholeLine, IsRefused};
 
 use crate::notes::NoAnswer;
+use crate::place::{FileKind, Place, Places, are_one_file};
 use crate::unanswered::Unanswered;
 use command_words::{Access, FileUse, Job, Text, file_uses};
 use refusal_notes::{Named, file_line};
 use std::alloc::{AllocError, Global};
-use std::fs;
-use std::fs::Metadata;
-use std::io::ErrorKind;
-use std::os::unix::fs::{FileTypeExt, MetadataExt};
-use std::path::{Path, PathBuf};
-use std::rt::Files;
 
-/// The file that a name leads to.
+/// Shows that the files of a job are apart, as far as that can be told: it is made of that look
+/// alone.
 #[derive(Drop)]
-pub struct Place {
-    /// The device on which it is, or its folder.
-    pub device: u64,
-    /// Its number there, or that of its folder.
-    pub number: u64,
-    /// Its name in that folder, where it isn't there yet, and else nothing.
-    pub name: String,
-    /// Whether it is a character device, as a terminal is.
-    pub is_device: bool,
-    /// Whether it is a plain file.
-    pub is_file: bool,
+pub struct Apart {
+    files: Vec<FileUse>,
 }
 
-/// What tells which files names lead to. It opens none. No contract says where the system's names
-/// lead.
-pub trait Places {
-    /// A name leads to this file, or no file can be told.
-    ghost leads: { Self → List ℕ → Option Place → Type 0 };
-
-    /// The file that a name leads to, where that can be told.
-    fn place(&self, name: &str) -> Result<Option<Place>, AllocError>
-        ensures { IfOk result (leads self.now name.now) };
-}
-
-impl Places for HostRuntime {
-    ghost use Rattle.std.specs.Prelude.{⊤};
-
-    ghost leads = { λ _ _ _. ⊤ };
-
-    fn place(&self, name: &str) -> Result<Option<Place>, AllocError> {
-        let name = if name == "-" { "/dev/stdin" } else { name };
-        match look(self, name)? {
-            Some(metadata) => Ok(Some(place_of(&metadata, String::new(self.alloc())))),
-            None => place_in_folder(self, followed(self, name)?.as_path()),
-        }
+impl Apart {
+    /// All files that the job names.
+    pub(crate) fn files(&self) -> &[FileUse]
+        ensures { result.now ≡ self.now.files.items }
+    {
+        self.files.as_slice()
     }
-}
-
-/// How many links are followed, one behind another.
-const MAX_LINKS: usize = 40;
-
-/// Where a name leads, by links too.
-pub(crate) fn followed(rt: &HostRuntime, name: &str) -> Result<PathBuf, AllocError> {
-    let mut path = PathBuf::from_str(rt.alloc(), name)?;
-    for _ in 0..MAX_LINKS {
-        match target_of(rt, path.as_path())? {
-            Some(target) => path = target,
-            None => break,
-        }
-    }
-    Ok(path)
-}
-
-/// What a link names, where there is a link.
-fn target_of(rt: &HostRuntime, path: Path<'_>) -> Result<Option<PathBuf>, AllocError> {
-    let target = match fs::read_link(rt, path) {
-        Ok(target) => target,
-        Err(error) if error.kind() == ErrorKind::OutOfMemory => return Err(AllocError),
-        Err(_) => return Ok(None),
-    };
-    match path.parent() {
-        Some(folder) => Ok(Some(folder.join(rt.alloc(), target)?)),
-        None => Ok(Some(target)),
-    }
-}
-
-/// The folder in which a path lies.
-pub(crate) fn folder_of(path: Path<'_>) -> &str {
-    match path.parent() {
-        Some(folder) if !folder.as_str().is_empty() => folder.as_str(),
-        _ => ".",
-    }
-}
-
-/// The place of a file that isn't there yet: its name in its folder.
-fn place_in_folder(rt: &HostRuntime, path: Path<'_>) -> Result<Option<Place>, AllocError> {
-    let Some(name) = path.file_name() else {
-        return Ok(None);
-    };
-    match look(rt, folder_of(path))? {
-        Some(metadata) => Ok(Some(place_of(&metadata, format!(in rt.alloc(); "{name}")?))),
-        None => Ok(None),
-    }
-}
-
-/// What the system says of a file, where it says anything.
-fn look<R: Files>(rt: &R, path: &str) -> Result<Option<Metadata>, AllocError> {
-    match fs::metadata(rt, path) {
-        Ok(metadata) => Ok(Some(metadata)),
-        Err(error) if error.kind() == ErrorKind::OutOfMemory => Err(AllocError),
-        Err(_) => Ok(None),
-    }
-}
-
-/// The file of which the system says this, or one of this name in that folder.
-fn place_of(metadata: &Metadata, name: String) -> Place {
-    Place {
-        device: metadata.dev(),
-        number: metadata.ino(),
-        name,
-        is_device: metadata.file_type().is_char_device(),
-        is_file: metadata.is_file(),
-    }
-}
-
-/// Whether both are one file.
-fn are_one_file(one: &Place, other: &Place) -> bool
-    ensures { IsTrue result ↔ AreOneFile one.now other.now }
-{
-    one.device == other.device
-        && one.number == other.number
-        && one.name.as_str() == other.name.as_str()
 }
 
 /// Whether it is a port.
@@ -149,7 +44,7 @@ fn clash_at(one: Access, other: Access, place: &Place, there: &Place) -> bool
 {
     one.excludes(other)
         && are_one_file(place, there)
-        && (!place.is_device || is_port(one) || is_port(other))
+        && (!place.kind.is_device() || is_port(one) || is_port(other))
 }
 
 /// The same, where both can be told.
@@ -226,12 +121,34 @@ fn look_through<S: Places>(system: &S, alloc: Global, files: &[FileUse]) -> Resu
     Ok(())
 }
 
-/// Whether both are one plain file, as far as that can be told.
-fn are_one_plain(place: &Option<Place>, there: &Option<Place>) -> bool
-    ensures { IsTrue result ↔ IsOnePlain place.now there.now }
+/// Whether it is a plain file.
+fn is_plain(kind: FileKind) -> bool
+    ensures { IsTrue result ↔ (kind ≡ Plain) }
+{
+    matches!(kind, FileKind::Plain)
+}
+
+/// Whether it is the null device.
+fn is_null(kind: FileKind) -> bool
+    ensures { IsTrue result ↔ (kind ≡ Null) }
+{
+    matches!(kind, FileKind::Null)
+}
+
+/// Whether no standard stream may lead to a file of this use: to no plain file, nor, but for the
+/// null device, to one that is written.
+fn is_barred(access: Access, kind: FileKind) -> bool
+    ensures { IsTrue result ↔ IsBarred access kind }
+{
+    is_plain(kind) || (access.excludes(Access::Read) && !is_null(kind))
+}
+
+/// Whether a stream leads to such a file, as far as that can be told.
+fn is_barred_seen(access: Access, place: &Option<Place>, there: &Option<Place>) -> bool
+    ensures { IsTrue result ↔ IsBarredSeen access place.now there.now }
 {
     match (place, there) {
-        (Some(place), Some(there)) => place.is_file && are_one_file(place, there),
+        (Some(place), Some(there)) => is_barred(access, place.kind) && are_one_file(place, there),
         _ => false,
     }
 }
@@ -247,8 +164,9 @@ fn output_line(alloc: Global, file: &Text) -> Option<String>
     )
 }
 
-/// Looks whether a stream that leads to this place is none of these files. Where it is one, this is
-/// why there is no answer; what is told of that may go to standard error, or nowhere.
+/// Looks whether a stream that leads to this place is none of these files, but where it may be.
+/// Where it is another, this is why there is no answer; what is told of that may go to standard
+/// error, or nowhere.
 fn look_beside<S: Places>(
     system: &S,
     alloc: Global,
@@ -262,7 +180,7 @@ fn look_beside<S: Places>(
 {
     for file in files {
         let there = system.place(file.name.as_str())?;
-        if are_one_plain(place, &there) {
+        if is_barred_seen(file.access, place, &there) {
             return Err(unanswered(alloc, &file.name, why, tells));
         }
     }
@@ -282,8 +200,8 @@ fn unanswered(alloc: Global, file: &Text, why: Unanswered, tells: bool) -> NoAns
     }
 }
 
-/// Looks whether standard output and standard error are none of these files. Where standard error
-/// is one, nothing is told there.
+/// Looks whether standard output and standard error are none of these files, but where they may be.
+/// Where standard error is another, nothing is told there.
 fn look_at_streams<S: Places>(system: &S, alloc: Global, files: &[FileUse]) -> Result<(), NoAnswer>
     ensures out { OnOk result (IsNoneOf (S.leads system.now) (codes "/dev/stdout") files.now) }
     ensures err { OnOk result (IsNoneOf (S.leads system.now) (codes "/dev/stderr") files.now) }
@@ -297,13 +215,15 @@ fn look_at_streams<S: Places>(system: &S, alloc: Global, files: &[FileUse]) -> R
 }
 
 /// Looks whether the files that a job writes are others than those that it reads, and than each
-/// other, and whether standard output and standard error are none of all these, as far as the
-/// system tells where their names lead. Nothing is opened.
-pub(crate) fn look_apart<S: Places>(system: &S, alloc: Global, job: &Job) -> Result<(), NoAnswer>
+/// other, and whether standard output and standard error are none of all these, but where they may
+/// be, as far as the system tells where their names lead. Nothing is opened.
+pub(crate) fn look_apart<S: Places>(system: &S, alloc: Global, job: &Job) -> Result<Apart, NoAnswer>
+    ensures files { IfOk result (λ apart. apart.files.items ≡ the_uses job.now) }
     ensures apart { OnOk result (AreSeenApart (S.leads system.now) (the_uses job.now)) }
     ensures note { IfErr result (λ missed. IsRefused missed) }
 {
     let files = file_uses(alloc, job)?;
     look_at_streams(system, alloc, files.as_slice())?;
-    look_through(system, alloc, files.as_slice())
+    look_through(system, alloc, files.as_slice())?;
+    Ok(Apart { files })
 }

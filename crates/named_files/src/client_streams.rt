@@ -4,8 +4,8 @@ ghost use Rattle.std.specs.Prelude.{◌≡◌, ℕ, List, IfOk};
 
 use crate::lack::Lack;
 use crate::sent_file::SentFile;
+use byte_streams::PassedBytes;
 use command_words::Text;
-use contract_data::PassedBytes;
 use session_answers::{AllThere, ClientStreams};
 use std::alloc::Global;
 use std::fs::File;

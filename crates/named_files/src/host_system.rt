@@ -1,5 +1,6 @@
 //! The files of the real system. Which bytes they hold contracts don't say.
 
+use crate::apart::Apart;
 use crate::client_streams::ClientFiles;
 use crate::output_file::{ClosedFile, OutputFile, empty_alone};
 use crate::sent_file::SentFile;
@@ -24,12 +25,17 @@ impl System for HostRuntime {
         fs::read(self, name)
     }
 
-    fn open_record(&self, name: &str, syncs: bool) -> io::Result<(OutputFile, Vec<u8>)> {
+    fn open_record(
+        &self,
+        _apart: &Apart,
+        name: &str,
+        syncs: bool,
+    ) -> io::Result<(OutputFile, Vec<u8>)> {
         OutputFile::open_record(self, name, syncs)
     }
 
-    fn open_new(&self, name: &str) -> io::Result<OutputFile> {
-        OutputFile::open_new(self, name)
+    fn open_new(&self, apart: &Apart, name: &str) -> io::Result<OutputFile> {
+        OutputFile::open_new(self, apart, name)
     }
 
     fn cut(&self, stream: &mut OutputFile, held: &[u8], kept: usize) -> io::Result<()> {

@@ -9,8 +9,9 @@
 //!
 //! [`read_contents`] reads a job's files in their order (`AreContents` of `specs/Contents.antt`).
 //! [`open_apart`] opens the files that sessions write, once it has looked that no file is read and
-//! written (`AreOpened` of `specs/Outputs.antt`, `AreSeenApart` of `specs/Apart.antt`). [`keep_file`]
-//! writes one and puts it in its place, or says why not all of it stands there (`IsFileWritten`).
+//! written (`AreOpened` of `specs/Outputs.antt`, `AreSeenApart` of `specs/Apart.antt`): what opens
+//! one wants an [`Apart`], which that look alone makes. [`keep_file`] writes one and puts it in its
+//! place, or says why not all of it stands there (`IsFileWritten`).
 //! Where something can't be read or opened there is no answer, and a line that tells why
 //! (`IsRefused` of `specs/Notes.antt`).
 #![tactic(auto)]
@@ -24,13 +25,14 @@ mod lost;
 mod notes;
 mod output_file;
 mod outputs;
+mod place;
 mod ports;
 mod sent_file;
 mod system;
 mod unanswered;
 mod unwritten;
 
-pub use apart::{Place, Places};
+pub use apart::Apart;
 pub use client_streams::{ClientFiles, FileStreams};
 pub use contents::{Contents, read_contents, slice_of, source_with, text_of};
 pub use lack::Lack;
@@ -41,6 +43,7 @@ pub use outputs::{
     OutFile, Outputs, Receipts, close_file, close_stream, keep_file, leave_file, open_apart,
     put_written,
 };
+pub use place::{FileKind, Place, Places};
 pub use ports::HostPorts;
 pub use sent_file::SentFile;
 pub use system::{Runtime, System};

@@ -2,11 +2,14 @@
 
 ghost use Rattle.std.specs.Prelude.{◌≡◌, ◌≤◌, [], IfOk, OnOk, OnErr, false, is_ok, length, take};
 
-use crate::apart::{folder_of, followed};
+use crate::apart::Apart;
+use crate::place::{Place, Places, are_one_file, folder_of, followed};
 use crate::sent_file::{SentFile, passed};
-use contract_data::PassedBytes;
+use byte_streams::PassedBytes;
+use std::alloc::AllocError;
 use std::fs::{File, OpenOptions, TryLockError};
 use std::io::{ErrorKind, Read, Write};
+use std::os::unix::fs::MetadataExt;
 use std::path::{Path, PathBuf};
 use std::{fs, io};
 
@@ -16,6 +19,9 @@ const MAX_NAMES: usize = 100;
 /// What the name of a new file has behind that of its place, and before a number.
 const NEW_FILE: &str = ".exchange-";
 
+/// The names of the standard streams.
+const STREAMS: [&str; 3] = ["/dev/stdin", "/dev/stdout", "/dev/stderr"];
+
 /// The name of a new file, and the place where it goes.
 #[derive(Drop)]
 struct NewFile {
@@ -23,13 +29,22 @@ struct NewFile {
     place: PathBuf,
 }
 
+/// What is open to be written.
+#[derive(Drop)]
+enum Opened {
+    /// A device or a pipe.
+    Device,
+    /// The file to which this name led.
+    Held(String),
+    /// A new file, which goes to a place.
+    New(NewFile),
+}
+
 /// A file that is open to be written: that of a name itself, or a new one that goes there.
 #[derive(Drop)]
 pub struct OutputFile {
     pub(crate) sent: SentFile,
-    made: Option<NewFile>,
-    // Whether it is neither a device nor a pipe.
-    is_file: bool,
+    opened: Opened,
     syncs: bool,
     /// Why something couldn't be written, where that was so.
     pub(crate) failure: Option<io::Error>,
@@ -51,19 +66,64 @@ fn is_file_at(rt: &HostRuntime, name: &str) -> io::Result<Option<bool>> {
     }
 }
 
+/// Whether a name leads to this file.
+fn leads_to(rt: &HostRuntime, name: &str, file: &File) -> io::Result<bool> {
+    let own = file.metadata()?;
+    match fs::metadata(rt, name) {
+        Ok(there) => Ok(there.dev() == own.dev() && there.ino() == own.ino()),
+        Err(error) if error.kind() == ErrorKind::NotFound => Ok(false),
+        Err(error) => Err(error),
+    }
+}
+
+/// Whether a name leads to this place.
+fn is_at(rt: &HostRuntime, name: &str, place: &Place) -> Result<bool, AllocError> {
+    match rt.place(name)? {
+        Some(there) => Ok(are_one_file(&there, place)),
+        None => Ok(false),
+    }
+}
+
+/// Whether the file of this name is one that the job names, or a standard stream.
+fn is_used(rt: &HostRuntime, apart: &Apart, name: &str) -> Result<bool, AllocError> {
+    let Some(place) = rt.place(name)? else {
+        return Ok(false);
+    };
+    for stream in STREAMS {
+        if is_at(rt, stream, &place)? {
+            return Ok(true);
+        }
+    }
+    for file in apart.files() {
+        if is_at(rt, file.name.as_str(), &place)? {
+            return Ok(true);
+        }
+    }
+    Ok(false)
+}
+
 /// A file of this name that is new, or that nobody uses and nothing was written to, as one is that
 /// was left by a program that was killed.
-fn make_new(rt: &HostRuntime, name: &str) -> io::Result<Option<File>> {
-    match fs::symlink_metadata(rt, name) {
+fn make_new(rt: &HostRuntime, apart: &Apart, name: &str) -> io::Result<Option<File>> {
+    let is_there = match fs::symlink_metadata(rt, name) {
         Ok(metadata) if !metadata.is_file() || metadata.len() > 0 => return Ok(None),
-        _ => {}
+        there => there.is_ok(),
+    };
+    if is_used(rt, apart, name)? {
+        return Ok(None);
     }
     let file = OpenOptions::new().write(true).create(true).open(rt, name)?;
     match file.try_lock() {
         Err(TryLockError::WouldBlock) => Ok(None),
-        // Who had the lock before may have written something.
-        _ if file.metadata()?.len() > 0 => Ok(None),
-        _ => Ok(Some(file)),
+        Err(TryLockError::Error(error)) => {
+            if !is_there {
+                let _ = fs::remove_file(rt, name);
+            }
+            Err(error)
+        }
+        // Who had the lock before may have written something, or put the file elsewhere.
+        Ok(()) if file.metadata()?.len() > 0 || !leads_to(rt, name, &file)? => Ok(None),
+        Ok(()) => Ok(Some(file)),
     }
 }
 
@@ -75,18 +135,26 @@ fn is_of_new_file(name: &str) -> bool {
     }
 }
 
-/// Has the disk keep the name of a file that is new in its folder, if the system can do that.
-fn keep_name(rt: &HostRuntime, place: Path<'_>) {
-    if let Ok(folder) = File::open(rt, folder_of(place)) {
-        let _ = folder.sync_all();
+/// Has the disk keep the name of a file that is new in its folder.
+fn keep_name(rt: &HostRuntime, place: Path<'_>) -> io::Result<()> {
+    File::open(rt, folder_of(place))?.sync_all()
+}
+
+/// The same where it has to.
+fn sync_name(rt: &HostRuntime, place: Path<'_>) -> io::Result<()> {
+    match keep_name(rt, place) {
+        Err(error) if error.kind() != ErrorKind::OutOfMemory => {
+            Err(io::Error::other("its folder can't be synced"))
+        }
+        end => end,
     }
 }
 
 /// Makes a file beside this place: `PLACE.exchange-0`, or with the first number that is free.
-fn make_beside(rt: &HostRuntime, place: &PathBuf) -> io::Result<(File, String)> {
+fn make_beside(rt: &HostRuntime, apart: &Apart, place: &PathBuf) -> io::Result<(File, String)> {
     for number in 0..MAX_NAMES {
         let name = format!(in rt.alloc(); "{}{NEW_FILE}{number}", place.as_str())?;
-        match make_new(rt, name.as_str()) {
+        match make_new(rt, apart, name.as_str()) {
             Ok(Some(file)) => return Ok((file, name)),
             Err(error) if error.kind() == ErrorKind::PermissionDenied => {
                 return Err(io::Error::other("no new file can be made in its folder"));
@@ -95,16 +163,25 @@ fn make_beside(rt: &HostRuntime, place: &PathBuf) -> io::Result<(File, String)> 
             Ok(None) => {}
         }
     }
-    Err(io::Error::from(ErrorKind::AlreadyExists))
+    Err(io::Error::other("each name for a new file beside it is taken"))
 }
 
-/// Keeps other programs that ask for it from this file, as long as it is open. Not every system can
-/// lock each file; then it is taken as it is.
+/// Keeps other programs that ask for it from this file, as long as it is open.
 fn lock_alone(file: &File) -> io::Result<()> {
     match file.try_lock() {
+        Ok(()) => Ok(()),
         Err(TryLockError::WouldBlock) => Err(io::Error::other("another program writes it")),
-        _ => Ok(()),
+        Err(TryLockError::Error(error)) => Err(error),
     }
+}
+
+/// The same of the file of this name. Another may have taken its place before it was locked.
+fn lock_named(rt: &HostRuntime, name: &str, file: &File) -> io::Result<()> {
+    lock_alone(file)?;
+    if leads_to(rt, name, file)? {
+        return Ok(());
+    }
+    Err(io::Error::other("another program writes it"))
 }
 
 /// Empties a plain file, and keeps it from other programs that ask for it, as long as it is open.
@@ -119,33 +196,32 @@ pub(crate) fn empty_alone(file: &File) -> io::Result<()> {
 /// The file of a name, kept from other programs that ask for it as long as it is open.
 fn lock_at(rt: &HostRuntime, name: &str) -> io::Result<File> {
     let file = OpenOptions::new().write(true).open(rt, name)?;
-    lock_alone(&file)?;
+    lock_named(rt, name, &file)?;
     Ok(file)
 }
 
-/// Puts a new file in its place, unless another program has come to write what stands there.
+/// Puts a new file that the disk has in its place, unless another program has come to write what
+/// stands there. The disk keeps its name, if the system can do that.
 fn put_new(rt: &HostRuntime, new: &NewFile) -> io::Result<()> {
     let place = new.place.as_path();
-    match is_file_at(rt, place.as_str())? {
-        Some(true) => {
-            let there = lock_at(rt, place.as_str())?;
-            let end = fs::rename(rt, new.name.as_str(), place);
-            drop(there);
-            end
-        }
-        _ => fs::rename(rt, new.name.as_str(), place),
-    }
+    let there = match is_file_at(rt, place.as_str())? {
+        Some(true) => Some(lock_at(rt, place.as_str())?),
+        _ => None,
+    };
+    fs::rename(rt, new.name.as_str(), place)?;
+    drop(there);
+    let _ = keep_name(rt, place);
+    Ok(())
 }
 
 impl OutputFile {
     /// This file, to which nothing has gone.
-    fn of(file: File, made: Option<NewFile>, is_file: bool) -> OutputFile
+    fn of(file: File, opened: Opened) -> OutputFile
         ensures { result.sent.sent ≡ [] }
     {
         OutputFile {
             sent: SentFile::of(file),
-            made,
-            is_file,
+            opened,
             syncs: false,
             failure: None,
         }
@@ -156,7 +232,7 @@ impl OutputFile {
         ensures { IfOk result (λ it. it.sent.sent ≡ []) }
     {
         let file = OpenOptions::new().write(true).open(rt, name)?;
-        Ok(OutputFile::of(file, None, false))
+        Ok(OutputFile::of(file, Opened::Device))
     }
 
     /// The file of a name, to be written behind its end, and what it holds. No other record may be
@@ -169,8 +245,7 @@ impl OutputFile {
         ensures { IfOk result (λ opened. opened.0.sent.sent ≡ opened.1.items) }
     {
         let mut held = Vec::new(rt.alloc());
-        let was = is_file_at(rt, name)?;
-        if let Some(false) = was {
+        if let Some(false) = is_file_at(rt, name)? {
             return Ok((OutputFile::device(rt, name)?, held));
         }
         let mut file = OpenOptions::new()
@@ -178,16 +253,15 @@ impl OutputFile {
             .append(true)
             .create(true)
             .open(rt, name)?;
-        lock_alone(&file)?;
+        lock_named(rt, name, &file)?;
         if syncs {
-            keep_name(rt, followed(rt, name)?.as_path());
+            sync_name(rt, followed(rt, name)?.as_path())?;
         }
         file.read_to_end(&mut held)?;
         let sent = passed(held.as_slice());
         let it = OutputFile {
             sent: SentFile { file, sent },
-            made: None,
-            is_file: true,
+            opened: Opened::Held(String::from_str(rt.alloc(), name)?),
             syncs,
             failure: None,
         };
@@ -196,7 +270,7 @@ impl OutputFile {
 
     /// A new file that goes to the place to which a name leads, and may be used as the file there,
     /// where one is. A device or a pipe itself.
-    pub(crate) fn open_new(rt: &HostRuntime, name: &str) -> io::Result<OutputFile>
+    pub(crate) fn open_new(rt: &HostRuntime, apart: &Apart, name: &str) -> io::Result<OutputFile>
         ensures { IfOk result (λ it. it.sent.sent ≡ []) }
     {
         let permissions = match is_file_at(rt, name)? {
@@ -208,11 +282,11 @@ impl OutputFile {
         if is_of_new_file(place.as_str()) {
             return Err(io::Error::other("names that end so are for new files"));
         }
-        let (file, name) = make_beside(rt, &place)?;
+        let (file, name) = make_beside(rt, apart, &place)?;
         if let Some(permissions) = permissions {
             let _ = file.set_permissions(permissions);
         }
-        Ok(OutputFile::of(file, Some(NewFile { name, place }), true))
+        Ok(OutputFile::of(file, Opened::New(NewFile { name, place })))
     }
 
     /// Cuts off what it holds behind so many bytes.
@@ -221,8 +295,9 @@ impl OutputFile {
         ensures cut { OnOk result (self.new.sent.sent ≡ take kept held.now) }
         ensures same { OnErr result (self.new.sent.sent ≡ self.old.sent.sent) }
     {
-        if self.is_file {
-            self.sent.file.set_len(kept as u64)?;
+        match &self.opened {
+            Opened::Device => {}
+            _ => self.sent.file.set_len(kept as u64)?,
         }
         self.sent.sent = passed(&held[..kept]);
         Ok(())
@@ -232,9 +307,7 @@ impl OutputFile {
     pub(crate) fn close(self, rt: &HostRuntime) -> ClosedFile
         ensures { (result.sent ≡ self.sent.sent) × (result.stands ≡ false) }
     {
-        if let Some(new) = &self.made {
-            let _ = fs::remove_file(rt, new.name.as_str());
-        }
+        self.forget(rt);
         ClosedFile {
             sent: self.sent.into_sent(),
             stands: false,
@@ -253,27 +326,39 @@ impl OutputFile {
         (closed, end)
     }
 
-    /// Waits until the disk has it, and puts a new file in its place, where the disk keeps its name.
-    /// Where that fails a new file goes.
-    fn settle(&self, rt: &HostRuntime) -> io::Result<()> {
-        if !self.is_file {
-            return Ok(());
+    /// Lets go of a new file.
+    fn forget(&self, rt: &HostRuntime) {
+        if let Opened::New(new) = &self.opened {
+            let _ = fs::remove_file(rt, new.name.as_str());
         }
-        let synced = self.sent.file.sync_all();
-        let Some(new) = &self.made else {
-            return synced;
-        };
-        let end = match synced {
-            Ok(()) => put_new(rt, new),
-            Err(error) => Err(error),
-        };
-        match &end {
-            Ok(()) => keep_name(rt, new.place.as_path()),
-            Err(_) => {
-                let _ = fs::remove_file(rt, new.name.as_str());
-            }
+    }
+
+    /// Waits until the disk has it, and sees to it that its name leads to it: a new file is put in
+    /// its place. Where that fails a new file goes.
+    fn settle(&self, rt: &HostRuntime) -> io::Result<()> {
+        let end = self.settle_named(rt);
+        if end.is_err() {
+            self.forget(rt);
         }
         end
+    }
+
+    /// The same, but that a new file stays where that fails.
+    fn settle_named(&self, rt: &HostRuntime) -> io::Result<()> {
+        match &self.opened {
+            Opened::Device => Ok(()),
+            Opened::Held(name) => {
+                self.sent.file.sync_all()?;
+                if leads_to(rt, name.as_str(), &self.sent.file)? {
+                    return Ok(());
+                }
+                Err(io::Error::other("its name leads to another file now, or to none"))
+            }
+            Opened::New(new) => {
+                self.sent.file.sync_all()?;
+                put_new(rt, new)
+            }
+        }
     }
 
     /// What comes of writing. Why something couldn't be written is kept.

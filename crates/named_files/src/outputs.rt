@@ -2,12 +2,12 @@
 
 ghost use Rattle.std.specs.Prelude.{◌≡◌, ℕ, List, [], Some, IfErr, IfOk, None, OnErr, OnOk, false, is_ok, option_map};
 ghost use Rattle.command_words.specs.Jobs.{file_uses as the_uses, recorded_in};
-ghost use Rattle.named_files.specs.Apart.{AreSeenApart};
+ghost use Rattle.named_files.specs.Apart.{AreSeenApart, IsWrittenOf, MayBeWritten};
 ghost use Rattle.named_files.specs.Notes.{IsRefused};
 ghost use Rattle.named_files.specs.Outputs.{AreNamed, AreOpened, IsFileWritten, IsOpened, IsUnput, begins_with, is_live as live, is_new, name_of, none_open, none_opened, output_of, record_of};
 ghost use Rattle.named_files.specs.Streams.{IsWrittenBy, closed};
 
-use crate::apart::look_apart;
+use crate::apart::{Apart, look_apart};
 use crate::lost::Reason;
 use crate::notes::{NoAnswer, unread};
 use crate::system::System;
@@ -71,13 +71,15 @@ impl<C> Receipts<C> {
 fn open_new<'a, S: System>(
     system: &S,
     alloc: Global,
+    apart: &Apart,
     name: &'a Text,
 ) -> Result<OutFile<'a, S::Stream>, NoAnswer>
+    requires { IsWrittenOf apart.now.files.items name.now }
     ensures opened { IfOk result (λ out.
         IsOpened S.Stream.contents is_new (Some name.entry.now) (Some out)) }
     ensures note { IfErr result (λ missed. IsRefused missed) }
 {
-    match system.open_new(name.as_str()) {
+    match system.open_new(apart, name.as_str()) {
         Ok(file) => Ok(OutFile {
             name,
             file,
@@ -91,14 +93,16 @@ fn open_new<'a, S: System>(
 fn open_held<'a, S: System>(
     system: &S,
     alloc: Global,
+    apart: &Apart,
     name: &'a Text,
     syncs: bool,
 ) -> Result<OutFile<'a, S::Stream>, NoAnswer>
+    requires { IsWrittenOf apart.now.files.items name.now }
     ensures opened { IfOk result (λ out.
         IsOpened S.Stream.contents (S.holds system.now) (Some name.entry.now) (Some out)) }
     ensures note { IfErr result (λ missed. IsRefused missed) }
 {
-    match system.open_record(name.as_str(), syncs) {
+    match system.open_record(apart, name.as_str(), syncs) {
         Ok((file, held)) => Ok(OutFile { name, file, held }),
         Err(error) => Err(unread(alloc, name, &error)),
     }
@@ -108,9 +112,11 @@ fn open_held<'a, S: System>(
 fn open_record<'a, S: System>(
     system: &S,
     alloc: Global,
+    apart: &Apart,
     rack: &'a SharedRack,
     is_live: bool,
 ) -> Result<Option<OutFile<'a, S::Stream>>, NoAnswer>
+    requires { MayBeWritten apart.now.files.items (recorded_in rack.now) }
     ensures named { IfOk result (λ out. name_of out ≡ recorded_in rack.entry.now) }
     ensures opened { IfOk result (IsOpened S.Stream.contents
         (begins_with (S.holds system.now) is_live) (recorded_in rack.entry.now)) }
@@ -120,9 +126,9 @@ fn open_record<'a, S: System>(
         return Ok(None);
     };
     if is_live {
-        Ok(Some(open_held(system, alloc, &record.name, record.syncs)?))
+        Ok(Some(open_held(system, alloc, apart, &record.name, record.syncs)?))
     } else {
-        Ok(Some(open_new(system, alloc, &record.name)?))
+        Ok(Some(open_new(system, alloc, apart, &record.name)?))
     }
 }
 
@@ -130,14 +136,16 @@ fn open_record<'a, S: System>(
 fn open_image<'a, S: System>(
     system: &S,
     alloc: Global,
+    apart: &Apart,
     name: &'a Option<Text>,
 ) -> Result<Option<OutFile<'a, S::Stream>>, NoAnswer>
+    requires { MayBeWritten apart.now.files.items name.now }
     ensures named { IfOk result (λ out. name_of out ≡ name.entry.now) }
     ensures opened { IfOk result (IsOpened S.Stream.contents is_new name.entry.now) }
     ensures note { IfErr result (λ missed. IsRefused missed) }
 {
     match name {
-        Some(name) => Ok(Some(open_new(system, alloc, name)?)),
+        Some(name) => Ok(Some(open_new(system, alloc, apart, name)?)),
         None => Ok(None),
     }
 }
@@ -147,20 +155,23 @@ fn open_image<'a, S: System>(
 fn open_both<'a, S: System>(
     system: &S,
     alloc: Global,
+    apart: &Apart,
     rack: &'a SharedRack,
     is_live: bool,
 ) -> (Outputs<'a, S::Stream>, Result<(), NoAnswer>)
+    requires recorded { MayBeWritten apart.now.files.items (recorded_in rack.now) }
+    requires image { MayBeWritten apart.now.files.items rack.now.image_out }
     ensures opened { AreOpened S.Stream.contents (begins_with (S.holds system.now) is_live)
         (recorded_in rack.entry.now) rack.entry.now.image_out result.0 }
     ensures named { OnOk result.1
         (AreNamed (recorded_in rack.entry.now) rack.entry.now.image_out result.0) }
     ensures note { IfErr result.1 (λ missed. IsRefused missed) }
 {
-    let recorded = match open_record(system, alloc, rack, is_live) {
+    let recorded = match open_record(system, alloc, apart, rack, is_live) {
         Ok(recorded) => recorded,
         Err(missed) => return (Outputs::none(), Err(missed)),
     };
-    match open_image(system, alloc, &rack.image_out) {
+    match open_image(system, alloc, apart, &rack.image_out) {
         Ok(image) => (Outputs { recorded, image }, Ok(())),
         Err(missed) => {
             let outputs = Outputs {
@@ -177,8 +188,10 @@ fn open_both<'a, S: System>(
 fn open_outputs<'a, S: System>(
     system: &S,
     alloc: Global,
+    apart: &Apart,
     job: &'a Job,
 ) -> (Outputs<'a, S::Stream>, Result<(), NoAnswer>)
+    requires { apart.now.files.items ≡ the_uses job.now }
     ensures opened { AreOpened S.Stream.contents
         (begins_with (S.holds system.now) (live job.entry.now)) (record_of job.entry.now)
         (output_of job.entry.now) result.0 }
@@ -187,8 +200,9 @@ fn open_outputs<'a, S: System>(
     ensures note { IfErr result.1 (λ missed. IsRefused missed) }
 {
     match job {
-        Job::Serve { rack, .. } => open_both(system, alloc, rack, false),
-        Job::Host { rack, .. } | Job::Talk { rack } => open_both(system, alloc, rack, true),
+        Job::Serve { rack, .. } => open_both(system, alloc, apart, rack, false),
+        Job::Host { rack, .. } => open_both(system, alloc, apart, rack, true),
+        Job::Talk { rack } => open_both(system, alloc, apart, rack, true),
         _ => (Outputs::none(), Ok(())),
     }
 }
@@ -209,7 +223,7 @@ pub fn open_apart<'a, S: System>(
     ensures note { IfErr result.1 (λ missed. IsRefused missed) }
 {
     match look_apart(system, alloc, job) {
-        Ok(()) => open_outputs(system, alloc, job),
+        Ok(apart) => open_outputs(system, alloc, &apart, job),
         Err(missed) => (Outputs::none(), Err(missed)),
     }
 }
@@ -295,7 +309,7 @@ pub fn keep_file<S: System>(
     (Some(receipt), Reason::why(alloc, Some(name), &end))
 }
 
-/// Leaves a new file for an image unwritten, where one is open, since the record lacks something.
+/// Leaves a new file for an image unwritten, where one is open, since the record isn't kept.
 pub fn leave_file<S: System>(
     system: &S,
     alloc: Global,
@@ -316,7 +330,7 @@ pub fn leave_file<S: System>(
     else {
         return (None, None);
     };
-    let why = io::Error::other("not written, since the record isn't whole");
+    let why = io::Error::other("not written, since the record isn't kept");
     (
         Some(system.close(file)),
         Some(Reason::of(alloc, name, &why)),

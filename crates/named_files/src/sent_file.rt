@@ -2,7 +2,7 @@
 
 ghost use Rattle.std.specs.Prelude.{◌≡◌, ◌++◌, []};
 
-use contract_data::PassedBytes;
+use byte_streams::PassedBytes;
 use std::fs::File;
 use std::io;
 use std::io::Write;

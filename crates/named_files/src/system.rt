@@ -1,10 +1,12 @@
 //! What the program asks of the system by name.
 
 ghost use Rattle.std.specs.Prelude.{◌≡◌, ◌≤◌, ℕ, false, is_ok, length, take, List, [], Some, IfOk, OnOk, OnErr};
+ghost use Rattle.named_files.specs.Apart.{IsWrittenOf};
 ghost use Rattle.named_files.specs.Streams.{Closed, closed};
 
-use crate::apart::Places;
+use crate::apart::Apart;
 use crate::client_streams::ClientFiles;
+use crate::place::Places;
 use std::io;
 use std::io::Write;
 use std::sync::Wait;
@@ -36,14 +38,22 @@ pub trait System: Places + ClientFiles + Sync {
 
     /// Opens the file of this name, to be written behind what it holds, and reads that. It is made
     /// where it isn't there. A device or a pipe holds nothing. With `syncs` each flush waits until
-    /// the disk has what was written.
-    fn open_record(&self, name: &str, syncs: bool) -> io::Result<(Self::Stream, Vec<u8>)>
+    /// the disk has what was written. It was looked before that the job's files are apart.
+    fn open_record(
+        &self,
+        apart: &Apart,
+        name: &str,
+        syncs: bool,
+    ) -> io::Result<(Self::Stream, Vec<u8>)>
+        requires { IsWrittenOf apart.now.files.items name.now }
         ensures { IfOk result (λ opened. holds self.now name.now opened.1.items
             × (Self.Stream.contents opened.0 ≡ Some opened.1.items)) };
 
     /// Opens a new file, to be written and put in the place of the file of this name, which is as
-    /// it was until then. A device or a pipe of this name is opened itself.
-    fn open_new(&self, name: &str) -> io::Result<Self::Stream>
+    /// it was until then. A device or a pipe of this name is opened itself. The new file is none
+    /// of the job's files, of which it was looked before that they are apart.
+    fn open_new(&self, apart: &Apart, name: &str) -> io::Result<Self::Stream>
+        requires { IsWrittenOf apart.now.files.items name.now }
         ensures { IfOk result (λ stream. Self.Stream.contents stream ≡ Some []) };
 
     /// Cuts off what a file holds behind so many bytes.

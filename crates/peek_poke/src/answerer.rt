@@ -7,7 +7,7 @@ ghost use Rattle.peek_poke.specs.Effects.{Continues, Does, Feeds, IsRefused};
 use crate::fault::{AnswerFault, StoreFault};
 use crate::message::{Message, PEEK, PEEK_BYTES, POKE, POKE_BYTES, REPLY_BYTES, message_in};
 use crate::store::WordStore;
-use contract_data::PassedBytes;
+use byte_streams::PassedBytes;
 use std::marker::Model;
 
 /// The answering end of a module: it takes the bytes of pokes and peeks one by one, as an IMS T414

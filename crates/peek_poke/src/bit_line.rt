@@ -4,7 +4,7 @@ ghost use Rattle.std.specs.Prelude.{◌≡◌, []};
 ghost use Rattle.link_bytes.specs.Reading.{begun};
 ghost use Rattle.peek_poke.specs.Bringing.{Brings, ReadsPacket};
 
-use contract_data::PassedBytes;
+use byte_streams::PassedBytes;
 use link_bytes::{BitReader, Packet, laws};
 use std::marker::Model;
 

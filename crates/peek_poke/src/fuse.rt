@@ -7,7 +7,7 @@ ghost use Rattle.peek_poke.specs.FuseLines.{remaining_of, failures_of, carried_b
 use crate::fault::WireFault;
 use crate::plain::PlainWire;
 use crate::wire::{Wire, WireMaker};
-use contract_data::FailureCount;
+use byte_streams::FailureCount;
 use std::marker::Model;
 
 /// A wire that carries so many bytes as the bits of a link, and then fails every call. It takes no

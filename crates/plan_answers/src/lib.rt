@@ -3,8 +3,9 @@
 //!
 //! Each `answer_` function reads its texts, does what the command asks for, and gives an
 //! [`Answer`]: what was asked for, or the line of the refusal of what is first wrong. It reads no
-//! file and prints nothing. Only [`answer_plan`] and [`Scheduled::read`] start threads; the latter
-//! is for answers that are made elsewhere.
+//! file and prints nothing. Only [`answer_plan`] and [`Scheduled::read`] may start threads, by the
+//! [`Planner`](schedule_certificate::Planner) that they are handed; the latter is for answers that
+//! are made elsewhere.
 //!
 //! What the answers are is said by `IsPlanned` and `IsChecked` of `specs/Answers.antt`, `IsDrawn`
 //! of `specs/Drawings.antt` and `IsDirected` of `specs/Directing.antt`; what a schedule's source
@@ -33,6 +34,6 @@ pub use counting::answer_changes;
 pub use directing::answer_direct;
 pub use drawing::answer_draw;
 pub use limits::{DONE, REFUSED};
-pub use planning::{answer_plan, answer_plan_alone};
+pub use planning::answer_plan;
 pub use scheduled::Scheduled;
 pub use source::{Planning, Source};

@@ -9,9 +9,8 @@ use crate::answer::Answer;
 use crate::source::Planning;
 use batch::{Batch, Shape};
 use exchange_limits::WorkerCount;
-use schedule_certificate::{OpenGate, Planned, schedule, schedule_alone};
+use schedule_certificate::{Planned, Planner};
 use std::alloc::{AllocError, Global};
-use std::thread::Threads;
 use steady_schedule::steady;
 
 /// The text that says a plain plan, with its certificate.
@@ -25,7 +24,7 @@ fn planned_text(planned: &Planned) -> Result<Vec<u8>, AllocError>
 
 /// The text that says such a plan of the batch, with its certificate. So many workers make a plain
 /// one.
-fn plan_text<R: Threads + Sync>(
+fn plan_text<R: Planner>(
     rt: &R,
     alloc: Global,
     batch: Batch,
@@ -35,17 +34,7 @@ fn plan_text<R: Threads + Sync>(
     ensures { IfOk result (λ text. SaysPlan planning batch text.items) }
 {
     match planning {
-        Planning::Plain => planned_text(&schedule(rt, alloc, batch, workers, &OpenGate)?),
-        Planning::Steady => plan_text_alone(alloc, batch, planning),
-    }
-}
-
-/// The same, where the caller alone makes it.
-fn plan_text_alone(alloc: Global, batch: Batch, planning: Planning) -> Result<Vec<u8>, AllocError>
-    ensures { IfOk result (λ text. SaysPlan planning batch text.items) }
-{
-    match planning {
-        Planning::Plain => planned_text(&schedule_alone(alloc, batch)?),
+        Planning::Plain => planned_text(&rt.plan(alloc, batch, workers)?),
         Planning::Steady => {
             let plan = steady(alloc, &batch)?;
             // An allocator has less to do where large memory goes before the settings' lists.
@@ -61,7 +50,7 @@ fn plan_text_alone(alloc: Global, batch: Batch, planning: Planning) -> Result<Ve
 ///
 /// The batch is read against the widest shape. A plain plan is made by so many workers, a steady
 /// one by the caller alone, in time that grows with the length of the text.
-pub fn answer_plan<R: Threads + Sync>(
+pub fn answer_plan<R: Planner>(
     rt: &R,
     alloc: Global,
     batch: &[u8],
@@ -72,20 +61,6 @@ pub fn answer_plan<R: Threads + Sync>(
 {
     match Batch::read(alloc, batch, Shape::WIDEST) {
         Ok(batch) => Ok(Answer::done(plan_text(rt, alloc, batch, planning, workers)?)),
-        Err(fault) => Answer::refused(alloc, fault.into()),
-    }
-}
-
-/// The answer of `exchange plan`, as [`answer_plan`] gives it with one worker. It starts no thread.
-pub fn answer_plan_alone(
-    alloc: Global,
-    batch: &[u8],
-    planning: Planning,
-) -> Result<Answer, AllocError>
-    ensures { IfOk result (IsPlanned planning widest batch.now) }
-{
-    match Batch::read(alloc, batch, Shape::WIDEST) {
-        Ok(batch) => Ok(Answer::done(plan_text_alone(alloc, batch, planning)?)),
         Err(fault) => Answer::refused(alloc, fault.into()),
     }
 }

@@ -13,10 +13,9 @@ use batch::{Batch, Shape};
 use exchange_limits::WorkerCount;
 use link_graph::Schedule;
 use refusals::Refusal;
-use schedule_certificate::{OpenGate, Planned, schedule, schedule_alone};
+use schedule_certificate::{Planned, Planner};
 use std::alloc::{AllocError, Global};
 use std::marker::Model;
-use std::thread::Threads;
 use steady_schedule::{Steady, steady};
 
 /// What a schedule came from.
@@ -55,7 +54,7 @@ impl Scheduled {
     /// [`CheckFault`](link_graph::CheckFault); it may have a certificate that is wrong, or none. A
     /// plain plan is made by so many workers. All else takes time that grows with the lengths of
     /// the texts.
-    pub fn read<R: Threads + Sync>(
+    pub fn read<R: Planner>(
         rt: &R,
         alloc: Global,
         shape: Shape,
@@ -68,30 +67,10 @@ impl Scheduled {
         ensures wrong { IfErr result (λ refusal. refusal ≢ NoMemory
             → IsWrongFrom (said_by source.entry) shape batch.now refusal) }
     {
-        if let Source::Plan(Planning::Plain) = source {
-            let batch = Batch::read(alloc, batch, shape)?;
-            let planned = schedule(rt, alloc, batch, workers, &OpenGate)?;
-            return Ok(Scheduled::of(planned));
-        }
-        Scheduled::read_alone(alloc, shape, batch, source)
-    }
-
-    /// The same, where one worker makes a plain plan. It starts no thread.
-    pub fn read_alone(
-        alloc: Global,
-        shape: Shape,
-        batch: &[u8],
-        source: Source<&[u8]>,
-    ) -> Result<Scheduled, Refusal>
-        ensures schedule { IfOk result (λ read.
-            IsScheduleFrom (said_by source.entry) shape batch.now read.batch read.settings) }
-        ensures wrong { IfErr result (λ refusal. refusal ≢ NoMemory
-            → IsWrongFrom (said_by source.entry) shape batch.now refusal) }
-    {
         match source {
             Source::Plan(planning) => {
                 let batch = Batch::read(alloc, batch, shape)?;
-                Ok(Scheduled::plan_alone(alloc, batch, planning)?)
+                Ok(Scheduled::plan(rt, alloc, batch, planning, workers)?)
             }
             Source::Text(schedule) => Ok(Scheduled {
                 made: Made::Text(ScheduleTexts::read(alloc, shape, batch, schedule)?),
@@ -99,14 +78,20 @@ impl Scheduled {
         }
     }
 
-    /// The batch with a plan of it.
-    fn plan_alone(alloc: Global, batch: Batch, planning: Planning) -> Result<Scheduled, AllocError>
+    /// The batch with a plan of it. So many workers make a plain one.
+    fn plan<R: Planner>(
+        rt: &R,
+        alloc: Global,
+        batch: Batch,
+        planning: Planning,
+        workers: WorkerCount,
+    ) -> Result<Scheduled, AllocError>
         ensures batch { IfOk result (λ planned. planned.batch ≡ batch) }
         ensures plan { IfOk result (λ planned. (named : Naming)
             × IsPlannedAs planning planned.batch planned.settings named) }
     {
         match planning {
-            Planning::Plain => Ok(Scheduled::of(schedule_alone(alloc, batch)?)),
+            Planning::Plain => Ok(Scheduled::of(rt.plan(alloc, batch, workers)?)),
             Planning::Steady => {
                 let plan = steady(alloc, &batch)?;
                 Ok(Scheduled {

@@ -6,6 +6,5 @@ pub mod OnBoards
 pub mod OneSwitching
 pub mod OneOrders
 pub mod Openings
-pub mod HeldSettings
 pub mod Ran
 pub mod ReadBatches

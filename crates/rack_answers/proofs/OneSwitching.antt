@@ -22,11 +22,11 @@ same_text batch schedule ts us xs ys a b = same_texts (λ t x m. settings_bytes_
 
 one_switching : (schedule batch : List ℕ) (p q : Printed) → IsSwitched (Text schedule) None batch p → IsSwitched (Text schedule) None batch q → q ≡ p
 one_switching schedule batch p q (switched (Some w) ts xs a ways fills tells) is = absurd fills
-one_switching schedule batch p q (lacking f ts denotes lack is) other = absurd lack
+one_switching schedule batch p q (lacking f lack is) other = absurd lack.2
 one_switching schedule batch p q (switched None ts xs a ways fills tells) (switched (Some w) us ys b has filled told) = absurd filled
-one_switching schedule batch p q (switched None ts xs a ways fills tells) (lacking g us denotes lack is) = absurd lack
+one_switching schedule batch p q (switched None ts xs a ways fills tells) (lacking g lack is) = absurd lack.2
 one_switching schedule batch p q (wrong f a ways is) (switched (Some w) us ys b has filled told) = absurd filled
-one_switching schedule batch p q (wrong f a ways is) (lacking g us denotes lack other) = absurd lack
+one_switching schedule batch p q (wrong f a ways is) (lacking g lack other) = absurd lack.2
 one_switching schedule batch p q (switched None ts xs a ways fills tells) (switched None us ys b has filled told) = printed_same q p (told.0 ∙ same_text batch schedule us ts ys xs b a ∙ sym tells.0) (told.1 ∙ sym tells.1)
 one_switching schedule batch p q (switched None ts xs a ways fills tells) (wrong g b has is) = absurd (read_right widest widest_fits batch schedule ts xs g a b)
 one_switching schedule batch p q (wrong f a ways is) (switched None us ys b has filled told) = absurd (read_right widest widest_fits batch schedule us ys f b a)

@@ -17,21 +17,15 @@ pub left_by : {E : Type 0} (r : Result Store E) (extent : Extent) (image : Optio
 left_by (Ok left) extent image opening ts is placed apart = record { opening = opening; apart = apart; is_opening = is; is_placed = placed }
 left_by (Err e) extent image opening ts is placed apart = tt
 
--- what is told of it is told of the texts
-pub result_by : (IsTold : Extent → List ℕ → List Transfer → Store → List ℕ → Type 0) (source : Source (List ℕ)) (shape batch : List ℕ) (image : Option (List ℕ)) (schedule : BatchSchedule) (left : Store) (text : List ℕ)
-    → (ran : HasRunFrom source shape batch image schedule left) → IsTold ran.extent batch schedule.batch left text → IsResult IsTold shape batch image text
-result_by IsTold source shape batch image schedule left text ran told = record {
+-- a report is one of the schedule that was run
+pub reported : (source : Source (List ℕ)) (shape batch : List ℕ) (image : Option (List ℕ)) (schedule : BatchSchedule) (left : Store) (text : List ℕ)
+    → HasRunFrom source shape batch image schedule left → text ≡ report_for source schedule.batch schedule.settings left → IsResult (IsReport source) shape batch image text
+reported source shape batch image schedule left text ran printed = record {
   extent = ran.extent;
   transfers = schedule.batch;
   left = left;
   shape_read = ran.shape_read;
   batch_read = denoted source ran.extent batch schedule.batch schedule.settings ran.scheduled;
   is_left = ran.is_left;
-  told = told;
+  told = record { settings = schedule.settings; scheduled = ran.scheduled; printed = printed };
 }
-
--- a report is one of the schedule that was run
-pub reported : (source : Source (List ℕ)) (shape batch : List ℕ) (image : Option (List ℕ)) (schedule : BatchSchedule) (left : Store) (text : List ℕ)
-    → HasRunFrom source shape batch image schedule left → text ≡ report_for source schedule.batch schedule.settings left → IsResult (IsReport source) shape batch image text
-reported source shape batch image schedule left text ran printed =
-    result_by (IsReport source) source shape batch image schedule left text ran (record { settings = schedule.settings; scheduled = ran.scheduled; printed = printed })

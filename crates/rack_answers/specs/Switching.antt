@@ -3,13 +3,13 @@
 use Rattle.std.specs.Prelude.{◌≡◌, ℕ, ◌++◌, Bool, List, [], Option, Some, None, if◌then◌else◌, codes, length}
 use Rattle.std.specs.Fmt.{decimal}
 use Rattle.std.specs.List.{flat_map, range_with_len}
-use Rattle.batch.specs.Text.{Denotes}
+use Rattle.batch.specs.Extent.{widest}
 use Rattle.batch.specs.declared.transfer.Transfer.{Transfer}
 use Rattle.c004_commands.specs.Commands.{text}
 use Rattle.c004_commands.specs.declared.command.Command.{Command}
-use Rattle.board_wiring.specs.Boards.{IsFilled, extent_of, modules_of}
+use Rattle.board_wiring.specs.Boards.{IsFilled, modules_of}
 use Rattle.board_wiring.specs.Faults.{IsFirstBad}
-use Rattle.board_wiring.specs.Lacks.{HasWaysOn, IsLackOn}
+use Rattle.board_wiring.specs.Lacks.{HasWaysOn, IsLackOf, LacksNothing}
 use Rattle.board_wiring.specs.Sources.{of_wiring}
 use Rattle.board_wiring.specs.Text.{Denotes as IsWiringText}
 use Rattle.board_wiring.specs.declared.board.Board.{Board}
@@ -80,15 +80,12 @@ TellsSwitch board batch settings printed =
 pub data IsSwitched (source : Source (List ℕ)) (board : Option Board) (batch : List ℕ)
     (printed : Printed) : Type 0 where
   switched : (wiring : Option BoardWiring) (transfers : List Transfer) (settings : List (List ℕ))
-      → IsScheduleFrom source (extent_of board) batch transfers settings
+      → IsScheduleFrom source widest batch transfers settings
       → HasWaysOn board transfers → IsFilled board wiring
       → TellsSwitch wiring transfers settings printed → IsSwitched source board batch printed
-  lacking : (refusal : Refusal) (transfers : List Transfer)
-      → Denotes (extent_of board) batch transfers → IsLackOn board transfers refusal
+  lacking : (refusal : Refusal) → IsLackOf board batch refusal
       → IsRefused (refusal_words refusal) printed → IsSwitched source board batch printed
-  wrong : (refusal : Refusal) → IsWrongFrom source (extent_of board) batch refusal
-      → ((transfers : List Transfer) → Denotes (extent_of board) batch transfers
-      → HasWaysOn board transfers)
+  wrong : (refusal : Refusal) → IsWrongFrom source widest batch refusal → LacksNothing board batch
       → IsRefused (refusal_words refusal) printed → IsSwitched source board batch printed
 
 -- ---- the text of a wiring

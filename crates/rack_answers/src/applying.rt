@@ -1,5 +1,5 @@
-//! The command `apply` without a run: an image and a batch of which no transfers overlap have one
-//! image behind them, whichever way the blocks go.
+//! The command `apply`. It runs nothing: an image and a batch of which no transfers overlap have
+//! one image behind them, whichever way the blocks go.
 
 ghost use Rattle.std.specs.Prelude.{◌≢◌, IfOk, IfErr, Some};
 ghost use Rattle.batch.specs.Overlap.{IsApart};
@@ -44,18 +44,22 @@ fn apply_texts(alloc: Global, shape: &[u8], batch: &[u8], image: &[u8]) -> Resul
     apply_batch(alloc, shape, &batch, image)
 }
 
-/// The answer of `exchange apply`, as [`answer_apply`](crate::answer_apply) gives it. It plans and
-/// runs nothing, and starts no thread. Takes memory for the batch and for the image that it gives,
-/// and time that grows with the lengths of the texts and of the image.
-pub fn answer_apply_alone(
+/// The answer of `exchange apply`: the image with the blocks of the batch placed, as a run on a
+/// rack of the shape leaves it whose words are those of the image; or the refusal of what is first
+/// wrong, as [`answer_run`](crate::answer_run) looks at it.
+///
+/// An image has all words of a rack, by module, by block and by place, each as four bytes, the
+/// least significant first, and nothing else. It is written as a whole: nothing is planned, and
+/// nothing runs. Takes memory for the batch and for the image that it gives, and time that grows
+/// with the lengths of the texts and of the image.
+pub fn answer_apply(
     alloc: Global,
     shape: &[u8],
     batch: &[u8],
     image: &[u8],
 ) -> Result<Answer, AllocError>
     ensures ran { IfOk result (IsApplied shape.now batch.now image.now) }
-    ensures one { IfOk result
-        (IsOnly (IsApplied shape.now batch.now image.now)) }
+    ensures one { IfOk result (IsOnly (IsApplied shape.now batch.now image.now)) }
 {
     match apply_texts(alloc, shape, batch, image) {
         Ok(text) => Ok(Answer::done(text)),

@@ -4,8 +4,9 @@
 //!
 //! Each `answer_` function reads its texts, does what the command asks for, and gives an
 //! [`Answer`](plan_answers::Answer): what was asked for, or the line of the refusal of what is
-//! first wrong. It reads no file and prints nothing. Only those that are given workers start
-//! threads, and need a handle.
+//! first wrong. It reads no file and prints nothing. `answer_run` may start threads, and
+//! `answer_switch` and `answer_orders` may, by the
+//! [`Planner`](schedule_certificate::Planner) that they are handed.
 //!
 //! What the answers are is said by `IsRunAnswer` and `IsApplied` of `specs/Answers.antt`, by
 //! `IsSwitched` of `specs/Switching.antt`, and by `IsOrdered` of `specs/Orders.antt`. There is one
@@ -23,8 +24,8 @@ mod running;
 mod spaced;
 mod switching;
 
-pub use applying::answer_apply_alone;
+pub use applying::answer_apply;
 pub use opening::read_rack;
-pub use ordering::{answer_orders, answer_orders_alone};
-pub use running::{answer_apply, answer_run};
-pub use switching::{answer_switch, answer_switch_alone};
+pub use ordering::answer_orders;
+pub use running::answer_run;
+pub use switching::answer_switch;

@@ -12,8 +12,8 @@ use link_graph::Schedule;
 use module_orders::RackOrders;
 use plan_answers::{Answer, Scheduled, Source};
 use refusals::Refusal;
+use schedule_certificate::Planner;
 use std::alloc::{AllocError, Global};
-use std::thread::Threads;
 
 /// The answer that tells the orders for a schedule of the batch, of all modules or of one.
 fn orders_answer(
@@ -40,7 +40,7 @@ fn orders_answer(
 /// The batch is read against the widest shape. Where one module is asked for, it alone is told, if
 /// it has orders. So many workers make a plain plan. Takes time that grows with the lengths of the
 /// texts, a plain plan aside.
-pub fn answer_orders<R: Threads + Sync>(
+pub fn answer_orders<R: Planner>(
     rt: &R,
     alloc: Global,
     batch: &[u8],
@@ -54,24 +54,6 @@ pub fn answer_orders<R: Threads + Sync>(
         IfOk result (IsOnly (IsOrdered (said_by source.entry) only batch.now)) }
 {
     match Scheduled::read(rt, alloc, Shape::WIDEST, batch, source, workers) {
-        Ok(scheduled) => orders_answer(alloc, scheduled.batch(), scheduled.schedule(), only),
-        Err(refusal) => Answer::refused(alloc, refusal),
-    }
-}
-
-/// The answer of `exchange orders`, as [`answer_orders`] gives it with one worker. It starts no
-/// thread.
-pub fn answer_orders_alone(
-    alloc: Global,
-    batch: &[u8],
-    source: Source<&[u8]>,
-    only: Option<usize>,
-) -> Result<Answer, AllocError>
-    ensures ordered { IfOk result (IsOrdered (said_by source.entry) only batch.now) }
-    ensures one { IsText source.entry →
-        IfOk result (IsOnly (IsOrdered (said_by source.entry) only batch.now)) }
-{
-    match Scheduled::read_alone(alloc, Shape::WIDEST, batch, source) {
         Ok(scheduled) => orders_answer(alloc, scheduled.batch(), scheduled.schedule(), only),
         Err(refusal) => Answer::refused(alloc, refusal),
     }

@@ -1,4 +1,4 @@
-//! The commands `run` and `apply`.
+//! The command `run`.
 
 ghost use Rattle.std.specs.Prelude.{◌≡◌, ◌≢◌, IfOk, IfErr, length};
 ghost use Rattle.batch.specs.Overlap.{IsApart};
@@ -6,7 +6,7 @@ ghost use Rattle.link_graph.specs.Schedules.{IsScheduleOf};
 ghost use Rattle.module_memory.specs.declared.fault.ImageFault.TheVariants as image_fault;
 ghost use Rattle.module_memory.specs.Core.{FitsIn, IsPlaced};
 ghost use Rattle.plan_answers.specs.Answers.{IsOnly};
-ghost use Rattle.rack_answers.specs.Answers.{IsLeftBy, HasRunFrom, IsOverlapOf, IsWrongOf, IsFirstRunWrong, IsRunAnswer, IsApplied};
+ghost use Rattle.rack_answers.specs.Answers.{IsLeftBy, HasRunFrom, IsOverlapOf, IsWrongOf, IsFirstRunWrong, IsRunAnswer};
 ghost use Rattle.plan_answers.specs.Lent.{bytes_of};
 ghost use Rattle.rack_answers.specs.Openings.{IsOfImageOrMarked, IsWrongImage};
 ghost use Rattle.refusals.specs.declared.refusal.Refusal.TheVariants.{NoMemory};
@@ -208,31 +208,6 @@ pub fn answer_run<R: Threads + Sync>(
     let told = tells_changes(&source);
     match run_texts(rt, alloc, shape, batch, source, image, workers) {
         Ok((scheduled, rack)) => Ok(Answer::done(report_text(alloc, &scheduled, &rack, told)?)),
-        Err(refusal) => Answer::refused(alloc, refusal),
-    }
-}
-
-/// The answer of `exchange apply`: the image with the blocks of the batch placed, by a run on a
-/// rack of the shape whose words are those of the image; or the refusal of what is first wrong, as
-/// [`answer_run`] looks at it.
-///
-/// An image has all words of a rack, by module, by block and by place, each as four bytes, the
-/// least significant first, and nothing else. The run is of a plain plan. The answer doesn't depend
-/// on the number of workers.
-pub fn answer_apply<R: Threads + Sync>(
-    rt: &R,
-    alloc: Global,
-    shape: &[u8],
-    batch: &[u8],
-    image: &[u8],
-    workers: WorkerCount,
-) -> Result<Answer, AllocError>
-    ensures ran { IfOk result (IsApplied shape.now batch.now image.now) }
-    ensures one { IfOk result (IsOnly (IsApplied shape.now batch.now image.now)) }
-{
-    let source = Source::Plan(Planning::Plain);
-    match run_texts(rt, alloc, shape, batch, source, Some(image), workers) {
-        Ok((_, rack)) => Ok(Answer::done(rack.image()?)),
         Err(refusal) => Answer::refused(alloc, refusal),
     }
 }

@@ -1,7 +1,6 @@
 //! The command `switch`.
 
 ghost use Rattle.std.specs.Prelude.{◌≡◌, IfOk, IfSome, OnOk, None};
-ghost use Rattle.board_wiring.specs.Boards.{HasSome};
 ghost use Rattle.crossbar.specs.Pairs.{ArePairs, room_of};
 ghost use Rattle.link_graph.specs.Schedules.{IsScheduleOf};
 ghost use Rattle.plan_answers.specs.Answers.{IsOnly};
@@ -14,14 +13,14 @@ ghost use Rattle.rack_answers.specs.Switching.{bytes_text, setting_head as head_
 
 use crate::spaced::push_spaced;
 use batch::{Batch, Shape};
-use board_wiring::{Board, read_board, read_lack, shape_of, wiring_of};
+use board_wiring::{Board, read_board, read_lack, wiring_of};
 use crossbar::{BoardWiring, Pair, Wiring};
 use exchange_limits::WorkerCount;
 use line_words::{Line, hex2_of};
 use link_graph::Schedule;
 use plan_answers::{Answer, Scheduled, Source};
+use schedule_certificate::Planner;
 use std::alloc::{AllocError, Global};
-use std::thread::Threads;
 use switch_settings::{PairList, WIDE_CHANGE_BYTES, bytes_for, is_wide, numbers_of_setting};
 
 /// Puts bytes at the end of the text, each after a space and as two hexadecimal digits.
@@ -118,7 +117,7 @@ fn switch_answer(
 }
 
 /// The answer for a schedule from this source, or the refusal of what is first wrong.
-fn switch_on<R: Threads + Sync>(
+fn switch_on<R: Planner>(
     rt: &R,
     alloc: Global,
     board: &Option<Board>,
@@ -126,13 +125,12 @@ fn switch_on<R: Threads + Sync>(
     source: Source<&[u8]>,
     workers: WorkerCount,
 ) -> Result<Answer, AllocError>
-    requires some { HasSome board.now }
     ensures { IfOk result (IsSwitched (said_by source.entry) board.now batch.now) }
 {
     if let Some(lack) = read_lack(alloc, board, batch)? {
         return Answer::refused(alloc, lack);
     }
-    match Scheduled::read(rt, alloc, shape_of(board), batch, source, workers) {
+    match Scheduled::read(rt, alloc, Shape::WIDEST, batch, source, workers) {
         Ok(scheduled) => {
             let (batch, schedule) = (scheduled.batch(), scheduled.schedule());
             switch_answer(alloc, &wiring_of(board), batch, schedule)
@@ -153,10 +151,9 @@ fn switch_on<R: Threads + Sync>(
 /// is read against the widest shape. So many workers make a plain plan.
 ///
 /// Where there is a text of a board's wiring, the links are those of this wiring, and all goes to
-/// the board's one switch. That text is looked at first, and the batch is read against a shape with
-/// modules up to the board's last. Behind the batch it is looked for its first transfer that names
-/// a module that the board hasn't, or needs a link that it hasn't.
-pub fn answer_switch<R: Threads + Sync>(
+/// the board's one switch. That text is looked at first. Behind the batch it is looked for its
+/// first transfer that names a module that the board hasn't, or needs a link that it hasn't.
+pub fn answer_switch<R: Planner>(
     rt: &R,
     alloc: Global,
     wiring: Option<&[u8]>,
@@ -173,48 +170,6 @@ pub fn answer_switch<R: Threads + Sync>(
 {
     match read_board(wiring) {
         Ok(board) => switch_on(rt, alloc, &board, batch, source, workers),
-        Err(fault) => Answer::refused(alloc, fault.into()),
-    }
-}
-
-/// The same without threads.
-fn switch_alone_on(
-    alloc: Global,
-    board: &Option<Board>,
-    batch: &[u8],
-    source: Source<&[u8]>,
-) -> Result<Answer, AllocError>
-    requires { HasSome board.now }
-    ensures { IfOk result (IsSwitched (said_by source.entry) board.now batch.now) }
-{
-    if let Some(lack) = read_lack(alloc, board, batch)? {
-        return Answer::refused(alloc, lack);
-    }
-    match Scheduled::read_alone(alloc, shape_of(board), batch, source) {
-        Ok(scheduled) => {
-            let (batch, schedule) = (scheduled.batch(), scheduled.schedule());
-            switch_answer(alloc, &wiring_of(board), batch, schedule)
-        }
-        Err(refusal) => Answer::refused(alloc, refusal),
-    }
-}
-
-/// The answer of `exchange switch`, as [`answer_switch`] gives it with one worker. It starts no
-/// thread.
-pub fn answer_switch_alone(
-    alloc: Global,
-    wiring: Option<&[u8]>,
-    batch: &[u8],
-    source: Source<&[u8]>,
-) -> Result<Answer, AllocError>
-    ensures switched { IfOk result
-        (IsOn (λ board. IsSwitched (said_by source.entry) board batch.now)
-        (bytes_of wiring.entry)) }
-    ensures one { IsText source.entry → bytes_of wiring.entry ≡ None →
-        IfOk result (IsOnly (IsSwitched (said_by source.entry) None batch.now)) }
-{
-    match read_board(wiring) {
-        Ok(board) => switch_alone_on(alloc, &board, batch, source),
         Err(fault) => Answer::refused(alloc, fault.into()),
     }
 }

@@ -11,8 +11,8 @@ use Rattle.batch_book.specs.Machine.{Machine, opened}
 use Rattle.book_record.specs.RecordText.{entry_text, CanTell}
 use Rattle.book_record.specs.Untold.{told_entry}
 use Rattle.book_record.proofs.Records.{fit_at_first, goes_on}
-use Rattle.record_fronts.specs.Fronts.{IsReadAs, lined}
-use Rattle.record_fronts.proofs.Fronts.{one_reading, each_front}
+use Rattle.book_record.specs.Fronts.{IsReadAs, lined}
+use Rattle.book_record.proofs.Fronts.{one_reading, each_front}
 use Rattle.record_replay.specs.ResumeLaws.{LeadsToFront, CutIsResumed, StreamIsResumed}
 
 -- where two lists follow each other, the first leads to a machine from which the second goes on

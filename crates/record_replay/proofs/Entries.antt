@@ -1,10 +1,10 @@
 -- One entry of a record, made again.
-use Rattle.std.proofs.Common.{◌≡◌, ◌≢◌, ℕ, ◌+◌, ◌<◌, List, [], ◌∷◌, ◌++◌, ◌-◌, drop, length, All, true, false, Bool, Option, None, Some, refl, sym, ap, ◌∙◌, append_assoc, append-nil, subst, arith}
+use Rattle.std.proofs.Common.{◌≡◌, ◌≢◌, ◌⊎◌, ℕ, ◌+◌, ◌<◌, List, [], ◌∷◌, ◌++◌, ◌-◌, drop, length, All, true, false, Bool, Option, None, Some, refl, sym, ap, ◌∙◌, append_assoc, append-nil, subst, arith, inl, inr}
 use Rattle.std.specs.Prelude.{if◌then◌else◌, option_map, unwrap_or}
 use Rattle.std.specs.List.{flat_map}
 use Rattle.std.proofs.lemmas.Bool.{false≢true}
 use Rattle.std.proofs.lemmas.Grind.{flat_map-append}
-use Rattle.std.proofs.lemmas.List.{drop_at, length-append}
+use Rattle.std.proofs.lemmas.List.{drop_at, length-append, length-map}
 use Rattle.std.proofs.lemmas.List.Elements.{All-push}
 use Rattle.batch.specs.Equal.{same_transfers}
 use Rattle.batch.proofs.Equal.{same_transfers-Decides}
@@ -29,8 +29,10 @@ use Rattle.book_record.specs.RecordText.{id_of, call_text, reply_text, entry_tex
 use Rattle.book_record.proofs.Records.{entry_parts}
 use Rattle.record_replay.specs.declared.fault.RecordError.{RecordError}
 use Rattle.record_replay.specs.declared.fault.RecordFault.TheVariants as fault
-use Rattle.record_fronts.specs.Fronts.{end_line}
-use Rattle.record_replay.specs.Replays.{AreFewer, IsPlanFor, HasOwnPlanIn, GoesOnBy, IsOtherReply, IsReplayed, IsRecordFault, IsRecordError, IsWrongEnd, call, reply, more, no_call, more_behind}
+use Rattle.book_record.proofs.Fronts.{cut_entry, one_reading, same_count}
+use Rattle.book_record.specs.Fronts.{HasBegun, HasNoneBegun, IsUnfinished, end_line, lined}
+use Rattle.record_replay.specs.declared.fault.RecordFault.{RecordFault}
+use Rattle.record_replay.specs.Replays.{AreFewer, IsPlanFor, HasOwnPlanIn, GoesOnBy, IsOtherReply, IsRemade, IsReplayed, IsRecordFault, IsRecordError, IsTornBehind, IsTornEntry, IsWrongEnd, call, reply, more, no_call, more_behind}
 
 -- ---- a plan of its own batch is no stranger's
 
@@ -70,6 +72,60 @@ came_as old new text replied rest session tc c r is fits can may grown asks answ
     came old new text replied rest session c r fits (subst CanSay (sym is) can) may grown
     (subst (λ (x : PlanlessCall). text ≡ number session space ++ (call_text x ++ replied)) (sym is) asks) (subst (λ (x : PlanlessCall). replied ≡ reply_text (id_of x) r ++ rest) (sym is) answers)
 
+-- ---- an entry that has begun
+
+-- where something stands behind a call, the call is whole
+pub asked_of : (text replied : List ℕ) (s : ℕ) (c : PlanlessCall) → HasBegun text s c replied → replied ≢ [] → text ≡ number s space ++ (call_text c ++ replied)
+asked_of text replied s c h some = elim h.whole [
+  | inl none ↦ sym (h.begins ∙ ap (λ (l : List ℕ). text ++ l) none ∙ append-nil text)
+  | inr nothing ↦ absurd (some nothing)
+]
+
+torn_form : (n c r m : List ℕ) → n ++ (c ++ (r ++ m)) ≡ (n ++ (c ++ r)) ++ m
+torn_form n c r m = simp append_assoc
+
+some_right : (a b : List ℕ) → b ≢ [] → a ++ b ≢ []
+some_right [] b some none = some none
+some_right (x ∷ a) b some none = absurd cc
+
+-- the whole of the line doesn't stand there
+pub not_all : (line due replied rest : List ℕ) → line ≡ due → line ≡ replied ++ rest → ((left : List ℕ) → replied ≢ due ++ left) → rest ≢ []
+not_all line due replied rest same is none nothing = none [] (sym (append-nil replied) ∙ ap (λ (l : List ℕ). replied ++ l) (sym nothing) ∙ sym is ∙ same ∙ sym (append-nil due))
+
+-- what stands there is a front of the line of the reply, and not the whole of it
+pub torn_there : (m n : Machine) (text replied rest : List ℕ) (s : ℕ) (tc : PlanlessCall) (c : Call) (r : Reply) → told c ≡ tc → HasBegun text s tc replied → CanBeReplied r → IsMachineStep m s c r n → reply_text (id_of tc) r ≡ replied ++ rest → rest ≢ [] → IsTornEntry m text
+torn_there m n text replied rest s tc c r is h may step line some =
+    let say : CanSay (told c) = subst CanSay (sym is) h.can_say in
+    let texts : number s space ++ (call_text tc ++ reply_text (id_of tc) r) ≡ text ++ (h.missing ++ rest) =
+    ap (λ (l : List ℕ). number s space ++ (call_text tc ++ l)) line ∙ torn_form (number s space) (call_text tc) replied rest ∙ ap (λ (l : List ℕ). l ++ rest) h.begins ∙ append_assoc text h.missing rest in
+    record {
+      entry = entry s c r;
+      can = record { session = h.number_fits; call = say; reply = may };
+      next = n;
+      step = step;
+      missing = h.missing ++ rest;
+      some = some_right h.missing rest some;
+      cut = subst (λ (x : PlanlessCall). number s space ++ (call_text x ++ reply_text (id_of x) r) ≡ text ++ (h.missing ++ rest)) (sym is) texts;
+    }
+
+-- another line stands there
+pub other_there : (m n : Machine) (text replied due : List ℕ) (s : ℕ) (tc : PlanlessCall) (c : Call) (r : Reply) → told c ≡ tc → HasBegun text s tc replied → CanBeReplied r → IsMachineStep m s c r n → due ≡ reply_text (id_of tc) r
+    → ((rest : List ℕ) → replied ≢ due ++ rest) → ((missing : List ℕ) → due ≢ replied ++ missing) → IsOtherReply m text replied due
+other_there m n text replied due s tc c r is h may step line differs untorn = record {
+  session = s;
+  call = c;
+  reply = r;
+  next = n;
+  number_fits = h.number_fits;
+  can_say = subst CanSay (sym is) h.can_say;
+  can_reply = may;
+  step = step;
+  asks = subst (λ (x : PlanlessCall). text ≡ number s space ++ (call_text x ++ replied)) (sym is) (asked_of text replied s tc h (λ none. untorn due (ap (λ (l : List ℕ). l ++ due) (sym none))));
+  due_is = line ∙ ap (λ (x : PlanlessCall). reply_text (id_of x) r) (sym is);
+  differs = differs;
+  untorn = untorn;
+}
+
 -- ---- how far a record was made again
 
 pub record Going (text : List ℕ) (opening : Store) (k : ℕ) (book : Account) (rest : List ℕ) : Type 0 where
@@ -78,12 +134,12 @@ pub record Going (text : List ℕ) (opening : Store) (k : ℕ) (book : Account) 
   pub each : All CanTell book.history
   pub front : text ≡ flat_map entry_text book.history ++ rest
 
-pub going_on : (text : List ℕ) (opening : Store) (k : ℕ) (old new : Account) (rest asked after : List ℕ) → Going text opening k old rest → rest ≡ asked → GoesOnBy old new asked after → new.opening ≡ old.opening → Going text opening (k + 1) new after
-going_on text opening k old new rest asked after had same by is =
+pub going_on : (text : List ℕ) (opening : Store) (k : ℕ) (old new : Account) (rest after : List ℕ) → Going text opening k old rest → GoesOnBy old new rest after → new.opening ≡ old.opening → Going text opening (k + 1) new after
+going_on text opening k old new rest after had by is =
     let e = by.entry in
     let f = by.grown.history in
     let texts : flat_map entry_text old.history ++ rest ≡ flat_map entry_text new.history ++ after =
-    ap (λ (t : List ℕ). flat_map entry_text old.history ++ t) (same ∙ by.text_is) ∙ sym (append_assoc (flat_map entry_text old.history) (entry_text e) after)
+    ap (λ (t : List ℕ). flat_map entry_text old.history ++ t) by.text_is ∙ sym (append_assoc (flat_map entry_text old.history) (entry_text e) after)
     ∙ ap (λ (t : List ℕ). (flat_map entry_text old.history ++ t) ++ after) (sym (append-nil (entry_text e)))
     ∙ ap (λ (t : List ℕ). t ++ after) (sym (flat_map-append entry_text old.history (e ∷ []))) ∙ ap (λ (l : List Entry). flat_map entry_text l ++ after) (sym f) in
     record {
@@ -105,6 +161,16 @@ replayed_so_far text opening k book rest had led = record {
 pub fewer_so_far : (n k end most : ℕ) (first : Option ℕ) → n ≡ k → end ≡ unwrap_or first most → k < end → AreFewer n first
 fewer_so_far n k end most None same is less = tt
 fewer_so_far n k end most (Some wanted) same is less = let e : end ≡ wanted = is in omega (arith, same, e, less)
+
+-- where others are fewer
+pub fewer_still : (n k : ℕ) (first : Option ℕ) → n < k → AreFewer k first → AreFewer n first
+fewer_still n k None less few = tt
+fewer_still n k (Some wanted) less few = omega (arith, less, few)
+
+-- there are as many as are wanted, or fewer
+pub fewer_or_all : (first : Option ℕ) (n m : ℕ) (E : Type 0) → n ≡ m → (first ≡ Some n) ⊎ (AreFewer n first × E) → (first ≡ Some m) ⊎ AreFewer m first
+fewer_or_all first n m E same (inl all) = inl (subst (λ (k : ℕ). first ≡ Some k) same all)
+fewer_or_all first n m E same (inr before) = inr (subst (λ (k : ℕ). AreFewer k first) same before.0)
 
 -- where it has ended, there are as many as are wanted
 pub as_wanted : (n k end most wanted : ℕ) (first : Option ℕ) → n ≡ k → end ≡ unwrap_or first most → k ≡ end → first ≡ Some wanted → n ≡ wanted
@@ -136,6 +202,12 @@ no_due error none = ap (option_map (λ line. line.items)) none
 pub wrong_behind : (n : ℕ) (text rest left : List ℕ) (error : RecordError) → rest ≡ end_line ++ left → rest ≢ end_line → error.fault ≡ fault.More → error.offset ≡ length text - length left → error.due ≡ None → IsWrongEnd n text rest error
 wrong_behind n text rest left error is other wrong at due = more_behind left is (λ none. other (is ∙ ap (λ (l : List ℕ). end_line ++ l) none ∙ append-nil end_line)) wrong at due
 
+-- nothing stands there
+pub none_there : (n : ℕ) (text rest : List ℕ) (error : RecordError) → (rest ≡ []) ⊎ HasNoneBegun rest → ((missing : List ℕ) → end_line ≢ rest ++ missing) → ((other : List ℕ) → rest ≢ end_line ++ other) → error.fault ≡ fault.Call n → error.offset ≡ length text - length rest → error.due ≡ None
+    → IsWrongEnd n text rest error
+none_there n text rest error (inl nothing) unbegun no_end wrong at due = absurd (unbegun end_line (ap (λ (l : List ℕ). l ++ end_line) (sym nothing)))
+none_there n text rest error (inr none) unbegun no_end wrong at due = no_call (record { none = none; no_end = no_end; unbegun = λ b. unbegun b.0 b.1 }) wrong at due
+
 -- where the rest is wrong
 pub told_end : (text : List ℕ) (opening : Store) (first : Option ℕ) (n : ℕ) (es : List Entry) (end : Machine) (rest : List ℕ) (error : RecordError) → IsReplayed text opening es end rest → length es ≡ n → AreFewer (length es) first → IsWrongEnd n text rest error → IsRecordError text opening first error
 told_end text opening first n es end rest error so counted fewer (no_call none is at due) =
@@ -153,3 +225,57 @@ told_reply text opening first es end last replied line error so fewer other is a
     told_error text (flat_map entry_text es ++ (session ++ asked)) replied opening first error (Some line)
     (so.front ∙ ap (λ (t : List ℕ). flat_map entry_text es ++ t) (other.asks ∙ sym (append_assoc session asked replied)) ∙ sym (append_assoc (flat_map entry_text es) (session ++ asked) replied)) at tells
     (reply es end last line so fewer other is refl)
+
+-- ---- a text that was torn off
+
+replay_push : (m : Machine) (es : List Entry) (k : Machine) (e : Entry) (n : Machine) → IsReplay m es k → IsMachineStep k e.session e.call e.reply n → IsReplay m (es ++ e ∷ []) n
+replay_push m [] k e n led step = (n, subst (λ (i : Machine). IsMachineStep i e.session e.call e.reply n) led step, refl)
+replay_push m (x ∷ es) k e n led step = (led.0, led.1, replay_push led.0 es k e n led.2 step)
+
+pub torn_off : (text : List ℕ) (opening : Store) (first : Option ℕ) (k : ℕ) (es : List Entry) (end : Machine) (rest : List ℕ) → IsReplayed text opening es end rest → length es ≡ k → AreFewer k first → IsTornEntry end rest → IsTornBehind text opening first k
+torn_off text opening first k es end rest so counted fewer t = record {
+  es = es;
+  end = end;
+  rest = rest;
+  replayed = so;
+  counted = counted;
+  fewer = fewer;
+  unfinished = cut_entry t.entry rest t.missing t.can t.cut t.some;
+  torn = record {
+    all = es ++ t.entry ∷ [];
+    end = t.next;
+    each = All-push CanTell es t.entry so.each t.can;
+    replay = replay_push (opened opening) es end t.entry t.next so.replay t.step;
+    missing = t.missing;
+    cut = flat_map-append entry_text es (t.entry ∷ []) ∙ ap (λ (l : List ℕ). flat_map entry_text es ++ l) (append-nil (entry_text t.entry) ∙ t.cut) ∙ sym (append_assoc (flat_map entry_text es) rest t.missing)
+        ∙ ap (λ (l : List ℕ). l ++ t.missing) (sym so.front);
+  };
+}
+
+-- the entries before it, made again
+pub torn_remade : (text : List ℕ) (opening : Store) (first : Option ℕ) (k : ℕ) (es : List Entry) (end : Machine) (rest : List ℕ) → IsTornBehind text opening first k → IsRemade text opening (Some k) es end rest → IsRemade text opening first es end rest
+torn_remade text opening first k es end rest t r = record {
+  replayed = r.replayed;
+  ends = elim r.ends [
+    | inl all ↦
+        let count : length es ≡ k = sym (ap (λ (o : Option ℕ). unwrap_or o 0) all) in
+        let left : t.rest ≡ rest = same_count t.es es t.rest rest t.replayed.each r.replayed.each (t.counted ∙ sym count) (sym t.replayed.front ∙ r.replayed.front) in
+        inr (subst (λ (n : ℕ). AreFewer n first) (sym count) t.fewer, (subst IsUnfinished left t.unfinished, inr t.torn))
+    | inr before ↦ inr (fewer_still (length es) k first before.0 t.fewer, before.1)
+  ];
+}
+
+fault_still : (text : List ℕ) (opening : Store) (first : Option ℕ) (k : ℕ) (f : RecordFault) (rest : List ℕ) (due : Option (List ℕ)) → AreFewer k first → IsRecordFault text opening (Some k) f rest due → IsRecordFault text opening first f rest due
+fault_still text opening first k f rest due few (call es m p fewer none e d) = call es m p (fewer_still (length es) k first fewer few) none e d
+fault_still text opening first k f rest due few (reply es m last line p fewer other e d) = reply es m last line p (fewer_still (length es) k first fewer few) other e d
+fault_still text opening first k f rest due few (more es m p fewer some e d) = more es m p (fewer_still (length es) k first fewer few) some e d
+
+pub wrong_still : (text : List ℕ) (opening : Store) (first : Option ℕ) (k : ℕ) (error : RecordError) → AreFewer k first → IsRecordError text opening (Some k) error → IsRecordError text opening first error
+wrong_still text opening first k error few e = record { within = e.within; wrong = fault_still text opening first k error.fault _ _ few e.wrong }
+
+-- it was torn off in one place
+pub torn_once : (text : List ℕ) (opening : Store) (first : Option ℕ) (k n : ℕ) → IsTornBehind text opening first k → IsTornBehind text opening (Some k) n → ⊥
+torn_once text opening first k n t u =
+    let one = one_reading text t.es u.es t.rest u.rest (record { front = t.replayed.front; each = t.replayed.each; unfinished = t.unfinished }) (record { front = u.replayed.front; each = u.replayed.each; unfinished = u.unfinished }) in
+    let long : length t.es ≡ length u.es = sym (length-map t.es lined) ∙ ap length one.0 ∙ length-map u.es lined in
+    omega (arith, long, t.counted, u.counted, u.fewer)

@@ -1,10 +1,11 @@
 -- The entries of a record are made again in one way, or one thing is first wrong with them.
-use Rattle.std.proofs.Common.{◌≡◌, ℕ, ◌+◌, ◌<◌, ◌≤◌, List, [], ◌∷◌, ◌++◌, length, map, All, Option, Some, refl, sym, ap, ◌∙◌, append_assoc, append-nil, subst, arith, inl, inr, ◌⊎◌}
+use Rattle.std.proofs.Common.{◌≡◌, ℕ, get_or, ◌+◌, ◌<◌, ◌≤◌, List, [], ◌∷◌, ◌++◌, length, map, All, Option, Some, refl, sym, ap, ◌∙◌, append_assoc, append-nil, subst, arith, inl, inr, ◌⊎◌}
 use Rattle.std.specs.List.{flat_map}
 use Rattle.std.proofs.lemmas.Bool.{cases_lt}
 use Rattle.std.proofs.lemmas.List.{append_cancel_left, length-append, nil_from_length}
 use Rattle.std.proofs.lemmas.List.Elements.{All-head}
-use Rattle.batch.specs.Text.{number, space}
+use Rattle.std.specs.Fmt.{decimal}
+use Rattle.batch.specs.Text.{IsNumber, number, space}
 use Rattle.module_memory.specs.Store.{Store, HasAllBlocks}
 use Rattle.batch_book.specs.declared.entry.Entry.{Entry}
 use Rattle.batch_book.specs.Machine.{Machine, opened, IsMachineStep}
@@ -14,13 +15,13 @@ use Rattle.book_record.specs.RecordText.{id_of, call_text, reply_text, entry_tex
 use Rattle.book_record.specs.Untold.{ToldEntry, told_entry}
 use Rattle.book_record.proofs.Alike.{Alike}
 use Rattle.book_record.proofs.Records.{IsFit, GoesOn, due_of, entry_parts, fit_along, fit_at_first, goes_on, one_asked}
-use Rattle.record_fronts.specs.Fronts.{IsUnfinished, MayBeTorn, end_line}
-use Rattle.record_fronts.proofs.Fronts.{never}
-use Rattle.record_fronts.proofs.Reading.{end_is_no_entry}
-use Rattle.record_fronts.proofs.TornFronts.{end_untorn}
+use Rattle.book_record.specs.Fronts.{IsUnfinished, end_line}
+use Rattle.book_record.specs.Reading.{BeginsWithNoEntry}
+use Rattle.book_record.proofs.Fronts.{never, nil_left, split}
+use Rattle.book_record.proofs.OneReading.{end_is_no_entry, first_digit, no_entry}
 use Rattle.record_replay.specs.declared.fault.RecordFault.{RecordFault}
 use Rattle.record_replay.specs.declared.fault.RecordFault.TheVariants as fault
-use Rattle.record_replay.specs.Replays.{AreFewer, Ends, IsOtherReply, IsRecordFault, IsReplayed, call, reply, more}
+use Rattle.record_replay.specs.Replays.{AreFewer, BeginsEnd, Ends, IsNoCall, IsOtherReply, IsRecordFault, IsReplayed, IsTornOff, call, reply, more}
 use Rattle.record_replay.specs.Laws.{NeverBoth, OneFault, OneRemade}
 
 -- no entry that comes stands there
@@ -105,7 +106,7 @@ record Stopped (text : List ℕ) (opening : Store) (first : Option ℕ) : Type 0
   stops : Stops end rest
 
 abbrev stopped_by : (text : List ℕ) (opening : Store) (first : Option ℕ) (f : RecordFault) (rest : List ℕ) (due : Option (List ℕ)) → IsRecordFault text opening first f rest due → Stopped text opening first
-stopped_by text opening first f rest due (call es end p fewer none e d) = record { es = es; end = end; rest = rest; replayed = p; fewer = fewer; stops = inl none.unfinished }
+stopped_by text opening first f rest due (call es end p fewer none e d) = record { es = es; end = end; rest = rest; replayed = p; fewer = fewer; stops = inl (no_entry rest none.none.none) }
 stopped_by text opening first f rest due (reply es end last line p fewer other e d) = record { es = es; end = end; rest = last; replayed = p; fewer = fewer; stops = inr (rest, line, other) }
 stopped_by text opening first f rest due (more es end p fewer some e d) = record { es = es; end = end; rest = end_line ++ rest; replayed = p; fewer = fewer; stops = inl (end_is_no_entry.1 rest) }
 
@@ -129,15 +130,106 @@ none_before : (text : List ℕ) (opening : Store) (first : Option ℕ) (es : Lis
 none_before text opening first es end rest all p is q =
     inside text opening q.es es q.end end q.rest rest all q.replayed p (fewer_than (length q.es) (length es) first is q.fewer) q.stops
 
--- behind the call that stands there another line stands, so a whole entry does
-whole_there : (m : Machine) (text replied due : List ℕ) → IsOtherReply m text replied due → IsUnfinished text → ⊥
-whole_there m text replied due o unfinished =
-    unfinished o.session (told o.call) o.line.line o.line.rest o.number_fits o.can_say o.line.none
-    (o.asks ∙ ap (λ (l : List ℕ). number o.session space ++ (call_text (told o.call) ++ l)) o.line.text_is)
+-- ---- what stands where it stops
+
+-- a call stands there
+asked_there : (m : Machine) (text replied due : List ℕ) → IsOtherReply m text replied due → BeginsWithNoEntry text → ⊥
+asked_there m text replied due o none = none o.session (told o.call) replied o.number_fits o.can_say o.asks
+
+-- no session's number begins as the last line
+no_number : (tail : List ℕ) → BeginsWithNoEntry (end_line ++ tail)
+no_number tail s c rest fits say is = first_digit s (call_text c ++ rest) fits (ap (λ (l : List ℕ). get_or l 0 0) is)
+
+no_front : (front missing : List ℕ) (s : ℕ) (rest : List ℕ) → IsNumber s → end_line ≡ front ++ missing → front ≡ number s space ++ rest → ⊥
+no_front [] missing s rest fits same is = omega (arith, ap length is, length-append (number s space) rest, length-append (decimal s) (space ∷ []))
+no_front (b ∷ front) missing s rest fits same is =
+    let first : 101 ≡ b = cc in
+    first_digit s rest fits (first ∙ ap (λ (l : List ℕ). get_or l 0 0) is)
+
+-- behind the entries of a text that was torn off nothing stands, or what an entry that comes begins
+-- with
+record Comes (a : Machine) (x : List ℕ) : Type 0 where
+  mid : Machine
+  alike : Alike a mid
+  fit : IsFit mid
+  entry_that : Entry
+  can : CanTell entry_that
+  next : Machine
+  step : IsMachineStep mid entry_that.session entry_that.call entry_that.reply next
+  missing : List ℕ
+  behind : List ℕ
+  text : x ++ missing ≡ entry_text entry_that ++ behind
+
+comes_behind : (a mid b : Machine) (more : List Entry) (x missing : List ℕ) → Alike a mid → IsFit mid → All CanTell more → IsReplay mid more b → x ++ missing ≡ flat_map entry_text more ++ [] → (x ≡ []) ⊎ Comes a x
+comes_behind a mid b [] x missing alike fit each led is = inl (nil_left x missing (sym is))
+comes_behind a mid b (e ∷ es) x missing alike fit each led is = inr (record {
+  mid = mid;
+  alike = alike;
+  fit = fit;
+  entry_that = e;
+  can = All-head CanTell e es each;
+  next = led.0;
+  step = led.1;
+  missing = missing;
+  behind = flat_map entry_text es ++ [];
+  text = is ∙ append_assoc (entry_text e) (flat_map entry_text es) [];
+})
+
+torn_behind : (text : List ℕ) (opening : Store) (es : List Entry) (a : Machine) (x : List ℕ) → HasAllBlocks opening → IsReplayed text opening es a x → IsTornOff opening text → (x ≡ []) ⊎ Comes a x
+torn_behind text opening es a x all p t =
+    let texts : text ++ t.missing ≡ flat_map entry_text es ++ (x ++ t.missing) = ap (λ (l : List ℕ). l ++ t.missing) p.front ∙ append_assoc (flat_map entry_text es) x t.missing in
+    let here : IsReplayed (text ++ t.missing) opening es a (x ++ t.missing) = record { front = texts; each = p.each; replay = p.replay } in
+    let whole : IsReplayed (text ++ t.missing) opening t.all t.end [] = record { front = sym t.cut ∙ sym (append-nil (flat_map entry_text t.all)); each = t.each; replay = t.replay } in
+    elim (cases_lt (length t.all) (length es)) [
+      | inl less ↦
+          let go = goes (text ++ t.missing) opening t.all es t.end a [] (x ++ t.missing) all whole here (omega (arith, less)) in
+          inl (nil_left x t.missing (sym (nil_right_of (flat_map entry_text go.more) (x ++ t.missing) go.rest)))
+      | inr up ↦
+          let go = goes (text ++ t.missing) opening es t.all a t.end (x ++ t.missing) [] all here whole up in
+          comes_behind a go.mid t.end go.more x t.missing go.alike go.fit go.each go.replay go.rest
+    ]
+  where
+    nil_right_of : (a b : List ℕ) → [] ≡ a ++ b → b ≡ []
+    nil_right_of [] b e = sym e
+    nil_right_of (x ∷ a) b e = absurd cc
+
+-- no call stands there, nor a front of one: so none comes
+no_call_comes : (a : Machine) (x : List ℕ) → IsNoCall x → Comes a x → ⊥
+no_call_comes a x none c =
+    let e = c.entry_that in
+    let asked = number e.session space ++ call_text (told e.call) in
+    let reply = reply_text (id_of (told e.call)) e.reply in
+    let text : asked ++ (reply ++ c.behind) ≡ x ++ c.missing = append_assoc (number e.session space) (call_text (told e.call)) (reply ++ c.behind) ∙ sym (entry_parts e c.behind) ∙ sym c.text in
+    elim (split asked (reply ++ c.behind) x c.missing text) [
+      | inl s ↦ none.none.none e.session (told e.call) s.0 c.can.session c.can.call (s.1 ∙ append_assoc (number e.session space) (call_text (told e.call)) s.0)
+      | inr s ↦ none.none.unbegun e.session (told e.call) s.0 c.can.session c.can.call s.2
+    ]
+
+-- another reply stands there than that of the one that comes
+other_comes : (a : Machine) (x replied due : List ℕ) → IsFit a → IsOtherReply a x replied due → Comes a x → ⊥
+other_comes a x replied due fit o c =
+    let e = c.entry_that in
+    let asked : number o.session space ++ (call_text (told o.call) ++ (replied ++ c.missing)) ≡ number e.session space ++ (call_text (told e.call) ++ (reply_text (id_of (told e.call)) e.reply ++ c.behind)) =
+    sym (asked_form (number o.session space) (call_text (told o.call)) replied c.missing) ∙ ap (λ (l : List ℕ). l ++ c.missing) (sym o.asks) ∙ c.text ∙ entry_parts e c.behind in
+    let one = one_asked a c.mid (due_entry a x replied due o) e o.next c.next (replied ++ c.missing) (reply_text (id_of (told e.call)) e.reply ++ c.behind) c.alike fit c.fit (can_tell a x replied due o) c.can o.step c.step asked in
+    let same : due ++ c.behind ≡ replied ++ c.missing = ap (λ (l : List ℕ). l ++ c.behind) (o.due_is ∙ ap due_of one.same) ∙ sym one.rest in
+    elim (split due c.behind replied c.missing same) [
+      | inl s ↦ o.differs s.0 s.1
+      | inr s ↦ o.untorn s.0 s.2
+    ]
+  where
+    asked_form : (n c r m : List ℕ) → (n ++ (c ++ r)) ++ m ≡ n ++ (c ++ (r ++ m))
+    asked_form n c r m = simp append_assoc
+
+-- the last line begins as no entry that comes
+end_comes : (a : Machine) (rest : List ℕ) → Comes a (end_line ++ rest) → ⊥
+end_comes a rest c =
+    let e = c.entry_that in
+    no_number (rest ++ c.missing) e.session (told e.call) (reply_text (id_of (told e.call)) e.reply ++ c.behind) c.can.session c.can.call (sym (append_assoc end_line rest c.missing) ∙ c.text ∙ entry_parts e c.behind)
 
 -- ---- the laws
 
-abbrev ended : (text : List ℕ) (opening : Store) (first : Option ℕ) (es : List Entry) (end : Machine) (rest : List ℕ) → IsReplayed text opening es end rest → AreFewer (length es) first → Ends rest → Stopped text opening first
+abbrev ended : (text : List ℕ) (opening : Store) (first : Option ℕ) (es : List Entry) (end : Machine) (rest : List ℕ) → IsReplayed text opening es end rest → AreFewer (length es) first → Ends opening text rest → Stopped text opening first
 ended text opening first es end rest p fewer ends = record { es = es; end = end; rest = rest; replayed = p; fewer = fewer; stops = inl ends.0 }
 
 remade_as : (es fs : List Entry) (a b : Machine) (x y : List ℕ) → SameEnd es fs a b x y → (map told_entry es ≡ map told_entry fs) × (a.store ≡ b.store) × (x ≡ y)
@@ -147,7 +239,7 @@ the_count : (n m : ℕ) (first : Option ℕ) → first ≡ Some n → first ≡ 
 the_count n m first p q = cc
 
 one_remade_by : (opening : Store) (text : List ℕ) (first : Option ℕ) (es fs : List Entry) (a b : Machine) (x y : List ℕ) → HasAllBlocks opening → IsReplayed text opening es a x → IsReplayed text opening fs b y
-    → (first ≡ Some (length es)) ⊎ (AreFewer (length es) first × Ends x) → (first ≡ Some (length fs)) ⊎ (AreFewer (length fs) first × Ends y) → (map told_entry es ≡ map told_entry fs) × (a.store ≡ b.store) × (x ≡ y)
+    → (first ≡ Some (length es)) ⊎ (AreFewer (length es) first × Ends opening text x) → (first ≡ Some (length fs)) ⊎ (AreFewer (length fs) first × Ends opening text y) → (map told_entry es ≡ map told_entry fs) × (a.store ≡ b.store) × (x ≡ y)
 one_remade_by opening text first es fs a b x y all p q (inl n) (inl m) = remade_as es fs a b x y (same_end text opening es fs a b x y all p q (the_count (length es) (length fs) first n m))
 one_remade_by opening text first es fs a b x y all p q (inl n) (inr m) = absurd (none_before text opening first es a x all p n (ended text opening first fs b y q m.0 m.1))
 one_remade_by opening text first es fs a b x y all p q (inr n) (inl m) = absurd (none_before text opening first fs b y all q m (ended text opening first es a x p n.0 n.1))
@@ -156,23 +248,34 @@ one_remade_by opening text first es fs a b x y all p q (inr n) (inr m) = remade_
 pub one_remade : OneRemade
 one_remade opening text first es fs a b x y all p q = one_remade_by opening text first es fs a b x y all p.replayed q.replayed p.ends q.ends
 
-no_more : (x : List ℕ) → end_line ≡ end_line ++ x → x ≡ []
-no_more x same = sym (append_cancel_left end_line [] x (append-nil end_line ∙ same))
+-- nothing is wrong where the last line has begun
+end_right : (text : List ℕ) (opening : Store) (first : Option ℕ) (f : RecordFault) (rest left : List ℕ) (due : Option (List ℕ)) → BeginsEnd left → (is : IsRecordFault text opening first f rest due) → left ≡ (stopped_by text opening first f rest due is).rest → ⊥
+end_right text opening first f rest left due begun (call es m p fewer none e d) same = none.unbegun (subst BeginsEnd same begun)
+end_right text opening first f rest left due begun (reply es m last line p fewer other e d) same = no_front left begun.0 other.session (call_text (told other.call) ++ rest) other.number_fits begun.1 (same ∙ other.asks)
+end_right text opening first f rest left due begun (more es m p fewer some e d) same =
+    some (nil_left rest begun.0 (append_cancel_left end_line [] (rest ++ begun.0) (append-nil end_line ∙ begun.1 ∙ ap (λ (l : List ℕ). l ++ begun.0) same ∙ append_assoc end_line rest begun.0)))
 
--- nothing is wrong where a record ends
-ends_right : (text : List ℕ) (opening : Store) (first : Option ℕ) (f : RecordFault) (rest left : List ℕ) (due : Option (List ℕ)) → Ends left → (is : IsRecordFault text opening first f rest due) → left ≡ (stopped_by text opening first f rest due is).rest → ⊥
-ends_right text opening first f rest left due (unfinished, inl end) (call es m p fewer none e d) same = none.no_end [] (sym same ∙ end ∙ sym (append-nil end_line))
-ends_right text opening first f rest left due (unfinished, inr torn) (call es m p fewer none e d) same = none.untorn (subst MayBeTorn same torn)
-ends_right text opening first f rest left due ends (reply es m last line p fewer other e d) same = whole_there m last rest line other (subst IsUnfinished same ends.0)
-ends_right text opening first f rest left due (unfinished, inl end) (more es m p fewer some e d) same = some (no_more rest (sym end ∙ same))
-ends_right text opening first f rest left due (unfinished, inr torn) (more es m p fewer some e d) same = end_untorn rest (subst MayBeTorn same torn)
+-- nor where the text was torn off
+torn_right : (text : List ℕ) (opening : Store) (first : Option ℕ) (f : RecordFault) (rest : List ℕ) (due : Option (List ℕ)) → HasAllBlocks opening → IsTornOff opening text → IsRecordFault text opening first f rest due → ⊥
+torn_right text opening first f rest due all torn (call es m p fewer none e d) = elim (torn_behind text opening es m rest all p torn) [
+  | inl nothing ↦ none.unbegun (end_line, ap (λ (l : List ℕ). l ++ end_line) (sym nothing))
+  | inr comes ↦ no_call_comes m rest none comes
+]
+torn_right text opening first f rest due all torn (reply es m last line p fewer other e d) = elim (torn_behind text opening es m last all p torn) [
+  | inl nothing ↦ no_front [] end_line other.session (call_text (told other.call) ++ rest) other.number_fits refl (sym nothing ∙ other.asks)
+  | inr comes ↦ other_comes m last rest line (fit_along (opened opening) es m (fit_at_first opening all) p.replay) other comes
+]
+torn_right text opening first f rest due all torn (more es m p fewer some e d) = elim (torn_behind text opening es m (end_line ++ rest) all p torn) [
+  | inl nothing ↦ absurd cc
+  | inr comes ↦ end_comes m rest comes
+]
 
 never_both_by : (opening : Store) (text : List ℕ) (first : Option ℕ) (es : List Entry) (end : Machine) (left : List ℕ) (f : RecordFault) (rest : List ℕ) (due : Option (List ℕ)) → HasAllBlocks opening → IsReplayed text opening es end left
-    → (first ≡ Some (length es)) ⊎ (AreFewer (length es) first × Ends left) → IsRecordFault text opening first f rest due → ⊥
+    → (first ≡ Some (length es)) ⊎ (AreFewer (length es) first × Ends opening text left) → IsRecordFault text opening first f rest due → ⊥
 never_both_by opening text first es end left f rest due all p (inl n) is = none_before text opening first es end left all p n (stopped_by text opening first f rest due is)
-never_both_by opening text first es end left f rest due all p (inr n) is =
-    ends_right text opening first f rest left due n.1 is
-    (stop_at text opening first all (ended text opening first es end left p n.0 n.1) (stopped_by text opening first f rest due is)).rest
+never_both_by opening text first es end left f rest due all p (inr (fewer, (unfinished, inl begun))) is =
+    end_right text opening first f rest left due begun is (stop_at text opening first all (ended text opening first es end left p fewer (unfinished, inl begun)) (stopped_by text opening first f rest due is)).rest
+never_both_by opening text first es end left f rest due all p (inr (fewer, (unfinished, inr torn))) is = torn_right text opening first f rest due all torn is
 
 pub never_both : NeverBoth
 never_both opening text first es end left f rest due all p is = never_both_by opening text first es end left f rest due all p.replayed p.ends is
@@ -182,16 +285,16 @@ one_fault_by : (opening : Store) (text : List ℕ) (first : Option ℕ) (f g : R
     → SameEnd (stopped_by text opening first f x d p).es (stopped_by text opening first g y l q).es (stopped_by text opening first f x d p).end (stopped_by text opening first g y l q).end (stopped_by text opening first f x d p).rest (stopped_by text opening first g y l q).rest
     → length (stopped_by text opening first f x d p).es ≡ length (stopped_by text opening first g y l q).es → (f ≡ g) × (x ≡ y) × (d ≡ l)
 one_fault_by opening text first f g x y d l all (call es a p fewer none e why_due) (call fs b q fewer_too none_too h why_line) same long = (e ∙ ap fault.Call long ∙ sym h, same.rest, why_due ∙ sym why_line)
-one_fault_by opening text first f g x y d l all (call es a p fewer none e why_due) (reply fs b last line q fewer_too other h why_line) same long = absurd (whole_there b last y line other (subst IsUnfinished same.rest none.unfinished))
+one_fault_by opening text first f g x y d l all (call es a p fewer none e why_due) (reply fs b last line q fewer_too other h why_line) same long = absurd (asked_there b last y line other (subst BeginsWithNoEntry same.rest none.none.none))
 one_fault_by opening text first f g x y d l all (call es a p fewer none e why_due) (more fs b q fewer_too some h why_line) same long = absurd (none.no_end y same.rest)
-one_fault_by opening text first f g x y d l all (reply es a last line p fewer other e why_due) (call fs b q fewer_too none h why_line) same long = absurd (whole_there a last x line other (subst IsUnfinished (sym same.rest) none.unfinished))
+one_fault_by opening text first f g x y d l all (reply es a last line p fewer other e why_due) (call fs b q fewer_too none h why_line) same long = absurd (asked_there a last x line other (subst BeginsWithNoEntry (sym same.rest) none.none.none))
 one_fault_by opening text first f g x y d l all (reply es a last line p fewer other e why_due) (reply fs b left due q fewer_too other_too h why_line) same long =
     let fit = fit_at_first opening all in
     let one = one_other a b last left x y line due same.alike (fit_along (opened opening) es a fit p.replay) (fit_along (opened opening) fs b fit q.replay) same.rest other other_too in
     (e ∙ ap fault.Reply long ∙ sym h, one.0, why_due ∙ ap Some one.1 ∙ sym why_line)
-one_fault_by opening text first f g x y d l all (reply es a last line p fewer other e why_due) (more fs b q fewer_too some h why_line) same long = absurd (whole_there a last x line other (subst IsUnfinished (sym same.rest) (end_is_no_entry.1 y)))
+one_fault_by opening text first f g x y d l all (reply es a last line p fewer other e why_due) (more fs b q fewer_too some h why_line) same long = absurd (asked_there a last x line other (subst BeginsWithNoEntry (sym same.rest) (no_number y)))
 one_fault_by opening text first f g x y d l all (more es a p fewer some e why_due) (call fs b q fewer_too none h why_line) same long = absurd (none.no_end x (sym same.rest))
-one_fault_by opening text first f g x y d l all (more es a p fewer some e why_due) (reply fs b last line q fewer_too other h why_line) same long = absurd (whole_there b last y line other (subst IsUnfinished same.rest (end_is_no_entry.1 x)))
+one_fault_by opening text first f g x y d l all (more es a p fewer some e why_due) (reply fs b last line q fewer_too other h why_line) same long = absurd (asked_there b last y line other (subst BeginsWithNoEntry same.rest (no_number x)))
 one_fault_by opening text first f g x y d l all (more es a p fewer some e why_due) (more fs b q fewer_too some_too h why_line) same long = (e ∙ sym h, append_cancel_left end_line x y same.rest, why_due ∙ sym why_line)
 
 pub one_fault : OneFault

@@ -7,3 +7,6 @@ mod Telling
 mod Turns
 pub mod Cuts
 pub mod Recorded
+mod OneReplay
+mod Heads
+mod Books

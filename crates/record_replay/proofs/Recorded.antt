@@ -13,11 +13,11 @@ use Rattle.book_record.specs.RecordText.{entry_text, CanTell}
 use Rattle.book_record.specs.Untold.{told_entry}
 use Rattle.client_session.specs.Bytes.{HasNoFeed}
 use Rattle.line_words.specs.HexWords.{IsWord}
-use Rattle.record_fronts.specs.Fronts.{end_line}
-use Rattle.record_fronts.specs.Heads.{AreNames, BeginsWithNoHead, adler, head_of, whole_text}
-use Rattle.record_fronts.proofs.Heads.{one_head}
-use Rattle.record_fronts.proofs.Reading.{end_is_no_entry}
-use Rattle.record_fronts.proofs.Sums.{sum_is_word}
+use Rattle.book_record.specs.Fronts.{end_line}
+use Rattle.book_record.specs.Heads.{AreNames, BeginsWithNoHead, adler, head_of, whole_text}
+use Rattle.book_record.proofs.Heads.{one_head}
+use Rattle.book_record.proofs.OneReading.{end_is_no_entry}
+use Rattle.book_record.proofs.Sums.{sum_is_word}
 use Rattle.record_replay.specs.declared.fault.RecordError.{RecordError}
 use Rattle.record_replay.specs.declared.fault.RecordFault.{RecordFault}
 use Rattle.record_replay.specs.declared.fault.RecordFault.TheVariants as fault
@@ -44,7 +44,7 @@ its_body book text body e sum shape is read =
 its_record : (book : Account) (body : List ℕ) → All CanTell book.history → IsReplay (opened book.opening) book.history book.machine → body ≡ flat_map entry_text book.history ++ end_line → IsRemade body book.opening None book.history book.machine end_line
 its_record book body each led is = record {
   replayed = record { front = is; each = each; replay = led };
-  ends = inr (tt, (end_is_no_entry.0 end_line [] (sym (append-nil end_line)), inl refl));
+  ends = inr (tt, (end_is_no_entry.0 end_line [] (sym (append-nil end_line)), inl ([], sym (append-nil end_line))));
 }
 
 pub again_same : (book : Account) (rack : Store) (body rest : List ℕ) (es : List Entry) (end : Machine) → HasAllBlocks book.opening → rack ≡ book.opening → All CanTell book.history → IsReplay (opened book.opening) book.history book.machine

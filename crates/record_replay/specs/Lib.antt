@@ -3,3 +3,5 @@ pub mod Laws
 pub mod Fetched
 pub mod SessionLaws
 pub mod ResumeLaws
+pub mod ReplayAnswers
+pub mod SessionRecords

@@ -13,12 +13,14 @@ use Rattle.batch_book.specs.History.{Account, IsGrown, IsReplay}
 use Rattle.batch_book.specs.Machine.{Machine, batch_of, opened, IsMachineStep}
 use Rattle.batch_book.specs.Told.{told}
 use Rattle.book_record.specs.RecordText.{id_of, call_text, reply_text, entry_text, CanSay, CanBeReplied, CanTell}
-use Rattle.record_fronts.specs.Fronts.{BeginsWithLine, IsUnfinished, MayBeTorn, end_line}
+use Rattle.book_record.specs.Fronts.{HasNoneBegun, IsUnfinished, end_line}
 use Rattle.record_replay.specs.declared.fault.EntryFault.{EntryFault}
 use Rattle.record_replay.specs.declared.fault.EntryFault.TheVariants as entry_fault
 use Rattle.record_replay.specs.declared.fault.RecordError.{RecordError}
 use Rattle.record_replay.specs.declared.fault.RecordFault.{RecordFault}
-use Rattle.record_replay.specs.declared.fault.RecordFault.TheVariants.{Call as NoCall, Reply as OtherReply, More}
+use Rattle.record_replay.specs.declared.fault.RecordFault.TheVariants.{Call as NoCall, NoMemory, Reply as OtherReply, More}
+use Rattle.record_replay.specs.declared.fault.Unmade.{Unmade}
+use Rattle.record_replay.specs.declared.fault.Unmade.TheVariants as unmade
 
 -- ---- one entry
 
@@ -39,7 +41,7 @@ pub record GoesOnBy (old new : Account) (text rest : List ℕ) : Type 0 where
   pub grown : IsGrown old entry.session entry.call entry.reply new
   pub text_is : text ≡ entry_text entry ++ rest
 
--- a call stands there, and behind it another line than that of the reply that comes
+-- a call stands there, and behind it neither the line of the reply that comes, nor a front of it
 pub record IsOtherReply (m : Machine) (text replied due : List ℕ) : Type 0 where
   pub session : ℕ
   pub call : Call
@@ -52,11 +54,22 @@ pub record IsOtherReply (m : Machine) (text replied due : List ℕ) : Type 0 whe
   pub asks : text ≡ number session space ++ (call_text (told call) ++ replied)
   pub due_is : due ≡ reply_text (id_of (told call)) reply
   pub differs : (rest : List ℕ) → replied ≢ due ++ rest
-  pub line : BeginsWithLine replied
+  pub untorn : (missing : List ℕ) → due ≢ replied ++ missing
 
--- why an entry that stands whole in front isn't the one that comes
+-- an entry that comes begins so, and this isn't the whole of it
+pub record IsTornEntry (m : Machine) (text : List ℕ) : Type 0 where
+  pub entry : Entry
+  pub can : CanTell entry
+  pub next : Machine
+  pub step : IsMachineStep m entry.session entry.call entry.reply next
+  pub missing : List ℕ
+  pub some : missing ≢ []
+  pub cut : entry_text entry ≡ text ++ missing
+
+-- why no whole entry that comes stands in front
 abbrev pub IsEntryFault : Machine → List ℕ → EntryFault → Type 0
 IsEntryFault m text (entry_fault.Reply replied due) = IsOtherReply m text replied.now due.items
+IsEntryFault m text entry_fault.Torn = IsTornEntry m text
 IsEntryFault m text entry_fault.NoMemory = Unit {0}
 
 -- ---- the entries of a record
@@ -74,25 +87,38 @@ abbrev pub AreFewer : ℕ → Option ℕ → Type 0
 AreFewer n None = Unit {0}
 AreFewer n (Some first) = n < first
 
--- the record ends there: its last line stands there, and nothing else; or an entry may have been torn
--- off
-abbrev pub Ends : List ℕ → Type 0
-Ends rest = IsUnfinished rest × ((rest ≡ end_line) ⊎ MayBeTorn rest)
+-- the text is a front of that of entries which are legal from this store
+pub record IsTornOff (opening : Store) (text : List ℕ) : Type 0 where
+  pub all : List Entry
+  pub end : Machine
+  pub each : All CanTell all
+  pub replay : IsReplay (opened opening) all end
+  pub missing : List ℕ
+  pub cut : flat_map entry_text all ≡ text ++ missing
+
+-- the last line stands there, or a front of it
+abbrev pub BeginsEnd : List ℕ → Type 0
+BeginsEnd rest = (missing : List ℕ) × (end_line ≡ rest ++ missing)
+
+-- The text ends there: no whole entry stands there. The last line does, or a front of it; or the
+-- text was torn off.
+abbrev pub Ends : Store → List ℕ → List ℕ → Type 0
+Ends opening text rest = IsUnfinished rest × (BeginsEnd rest ⊎ IsTornOff opening text)
 
 -- All entries stand first that are wanted, or all that stand whole there, and the record ends behind
 -- them.
 pub record IsRemade (text : List ℕ) (opening : Store) (first : Option ℕ) (es : List Entry)
     (end : Machine) (rest : List ℕ) : Type 0 where
   pub replayed : IsReplayed text opening es end rest
-  pub ends : (first ≡ Some (length es)) ⊎ (AreFewer (length es) first × Ends rest)
+  pub ends : (first ≡ Some (length es)) ⊎ (AreFewer (length es) first × Ends opening text rest)
 
 -- ---- what is first wrong
 
--- no call stands there, nor the last line, and no entry can have been torn off
+-- no call stands there, nor the last line, nor a front of either
 pub record IsNoCall (rest : List ℕ) : Type 0 where
-  pub unfinished : IsUnfinished rest
-  pub untorn : MayBeTorn rest → ⊥
+  pub none : HasNoneBegun rest
   pub no_end : (other : List ℕ) → rest ≢ end_line ++ other
+  pub unbegun : BeginsEnd rest → ⊥
 
 -- what is wrong with a rest behind so many entries, where no whole one begins, as an error tells of it
 pub data IsWrongEnd (entries : ℕ) (text rest : List ℕ) (error : RecordError) : Type 0 where
@@ -123,3 +149,25 @@ pub record IsRecordError (text : List ℕ) (opening : Store) (first : Option ℕ
   pub within : error.offset ≤ length text
   pub wrong : IsRecordFault text opening first error.fault (drop error.offset text)
       (option_map (λ line. line.items) error.due)
+
+-- ---- where an entry was torn off
+
+-- Behind so many whole entries, which are fewer than are wanted, the text was torn off.
+pub record IsTornBehind (text : List ℕ) (opening : Store) (first : Option ℕ)
+    (entries : ℕ) : Type 0 where
+  pub es : List Entry
+  pub end : Machine
+  pub rest : List ℕ
+  pub replayed : IsReplayed text opening es end rest
+  pub counted : length es ≡ entries
+  pub fewer : AreFewer entries first
+  pub unfinished : IsUnfinished rest
+  pub torn : IsTornOff opening text
+
+-- why entries weren't made again: the text was torn off within one, whose call was made; or
+-- something is wrong
+abbrev pub IsUnmade : List ℕ → Store → Option ℕ → Unmade → Type 0
+IsUnmade text opening first (unmade.Torn entries rack) =
+    (rack ≡ opening) × IsTornBehind text opening first entries
+IsUnmade text opening first (unmade.Wrong error) =
+    error.fault ≢ NoMemory → IsRecordError text opening first error

@@ -1,18 +1,17 @@
 //! One entry of a record, made again.
 
-ghost use Rattle.std.specs.Prelude.{◌≡◌, ◌++◌, IfOk, IfErr};
-ghost use Rattle.batch.specs.Text.{IsNumber, number, space};
-ghost use Rattle.book_record.specs.RecordText.{CanBePut, CanSay, call_text, reply_text};
-ghost use Rattle.record_fronts.specs.Fronts.{BeginsWithLine};
+ghost use Rattle.std.specs.Prelude.{◌≡◌, List, ℕ, IfOk, IfErr};
+ghost use Rattle.batch.specs.Text.{IsNumber};
+ghost use Rattle.book_record.specs.RecordText.{CanBePut, CanSay, reply_text};
+ghost use Rattle.book_record.specs.Fronts.{HasBegun};
 ghost use Rattle.record_replay.specs.Replays.{GoesOnBy, IsEntryFault};
 
 use crate::asking::{PlainPlant, ask, call_of};
 use crate::fault::EntryFault;
 use batch_book::{Book, Reply, Silent};
-use book_record::{id_of, push_reply};
+use book_record::{BegunEntry, id_of, push_reply};
 use exchange_limits::WorkerCount;
 use line_words::behind;
-use record_fronts::WholeEntry;
 use std::alloc::{AllocError, Global};
 use std::thread::Threads;
 
@@ -26,39 +25,41 @@ fn due_line(alloc: Global, id: usize, reply: &Reply) -> Result<Vec<u8>, AllocErr
     Ok(line)
 }
 
-/// Makes the call of an entry that stands in front of a text, and gives what stands behind the line
-/// of its reply, where that stands there. For want of memory the book may have the call all the
-/// same.
+/// Makes the call of an entry that has begun in front of a text, and gives what stands behind the
+/// line of its reply, where that stands there. Where it doesn't, or for want of memory, the book may
+/// have the call all the same.
 pub(crate) fn follow<'a, R: Threads + Sync>(
     rt: &R,
     alloc: Global,
     book: &mut Book<Silent>,
     plant: &mut PlainPlant,
-    whole: WholeEntry<'a>,
+    begun: BegunEntry<'a>,
     workers: WorkerCount,
 ) -> Result<&'a [u8], EntryFault<'a>>
-    requires number { IsNumber whole.session }
-    requires call { CanSay whole.call }
-    requires line { BeginsWithLine whole.replied.now }
-    ensures ok { IfOk result (λ rest. GoesOnBy book.old book.new
-        (number whole.entry.session space
-        ++ (call_text whole.entry.call ++ whole.entry.replied.now)) rest.now) }
-    ensures fault { IfErr result (IsEntryFault book.old.machine
-        (number whole.entry.session space
-        ++ (call_text whole.entry.call ++ whole.entry.replied.now))) }
+    requires number { IsNumber begun.session }
+    requires call { CanSay begun.call }
+    ensures ok { (text : List ℕ)
+        → HasBegun text begun.entry.session begun.entry.call begun.entry.replied.now
+        → IfOk result (λ rest. GoesOnBy book.old book.new text rest.now) }
+    ensures fault { (text : List ℕ)
+        → HasBegun text begun.entry.session begun.entry.call begun.entry.replied.now
+        → IfErr result (IsEntryFault book.old.machine text) }
     ensures opening { book.new.opening ≡ book.old.opening }
 {
-    let WholeEntry {
+    let BegunEntry {
         session,
         call: told,
         replied,
-    } = whole;
+    } = begun;
     let id = id_of(&told);
     let call = call_of(rt, alloc, book, session, told, workers)?;
     let reply = ask(rt, book, plant, session, call)?;
     let due = due_line(alloc, id, &reply)?;
-    match behind(replied, due.as_slice()) {
-        Some(rest) => Ok(rest),
+    if let Some(rest) = behind(replied, due.as_slice()) {
+        return Ok(rest);
+    }
+    match behind(due.as_slice(), replied) {
+        Some(_) => Err(EntryFault::Torn),
         None => Err(EntryFault::Reply(replied, due)),
     }
 }

@@ -5,13 +5,14 @@ ghost use Rattle.book_record.specs.RecordText.{CanTell};
 ghost use Rattle.book_record.specs.Untold.{told_entry};
 ghost use Rattle.record_replay.specs.Laws.{NeverBoth, OneFault, OneRemade};
 ghost use Rattle.record_replay.specs.ResumeLaws.{CutIsResumed, StreamIsResumed};
+ghost use Rattle.record_replay.specs.SessionRecords.{HostIsReplayed, ServeIsReplayed, TalkIsReplayed};
 ghost use Rattle.record_replay.specs.SessionLaws.{NoStrangers, SessionsAreTold, SessionsSay};
 
 use crate::fault::{RecordError, RecordFault};
 use crate::replaying::replay;
 use batch_book::{Book, Silent};
+use book_record::{read_head, write_record};
 use exchange_limits::WorkerCount;
-use record_fronts::{read_head, write_record};
 use std::alloc::Global;
 use std::thread::Threads;
 
@@ -63,4 +64,17 @@ pub fn recorded_then_replayed<R: Threads + Sync>(
     let opening = book.opening().copy()?;
     let again = replay(rt, alloc, opening, entries, None, workers)?;
     Ok(again.book)
+}
+
+/// The record of the book that `serve` leaves is replayed to that book's words: given the same
+/// image, and the same shape or none, `replay` has just this answer. What stands in the file that
+/// `host` or `talk` writes call by call, of which a front of an entry may be the last, is replayed
+/// to the words to which all that was told leads, behind what the record had before, and maybe the
+/// one entry that nobody was told.
+pub fn record_is_answered()
+    ensures serve { ServeIsReplayed }
+    ensures host { HostIsReplayed }
+    ensures talk { TalkIsReplayed }
+{
+    sessions_are_told();
 }

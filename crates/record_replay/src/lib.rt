@@ -3,9 +3,10 @@
 //!
 //! [`replay`] makes the entries behind a record's head again, all of them or so many as are wanted. It
 //! gives a book with a legal history of these entries, so one in which no run stopped and no plan
-//! was another batch's, and the rest of the text: the last line of a record, or a rest that may have
-//! been torn off (`IsRemade` of `specs/Replays.antt`). Else, lack of memory aside, it names what is
-//! first wrong, how many bytes stand before that, and of a reply the line that is due
+//! was another batch's, and the rest of the text: the last line of a record, a front of it, or what
+//! is there of entries that were torn off. Then the whole text is a front of the text of a legal
+//! history (`IsRemade`, `IsTornOff` of `specs/Replays.antt`). Else, lack of memory aside, it names
+//! what is first wrong, how many bytes stand before that, and of a reply the line that is due
 //! (`IsRecordError`). A text has one such outcome (`laws::one_outcome`). What is recorded of a book
 //! is replayed to the same words, where a record can tell all its entries
 //! (`laws::recorded_then_replayed`). It can tell all that sessions leave, where no run stopped
@@ -14,13 +15,34 @@
 //! Wherever the text of a legal history was cut, that leads to the words that a front of the history
 //! leads to; what a stream's writer holds leads to one that has each entry that was told
 //! (`laws::resumed`).
+//!
+//! [`answer_replay`] is the answer of the command `replay`, from the bytes of a record, of a shape
+//! text and of an image, where these are given, to the bytes that are printed, and the status that
+//! the program ends with. It prints the image to which a record's entries lead from the rack of its
+//! head, exactly where they are those of a legal history, in which no run stopped and no plan was
+//! another batch's, and the record ends by its last line, or was torn off so. Else it prints
+//! the refusal of what is first wrong: the shape, then the image, then the record (`IsReplayAnswer`
+//! of `specs/ReplayAnswers.antt`). Beside that stand the place and the line that is due there; or
+//! how far a record goes that was torn off. There is one such answer at most, and one thing told
+//! beside it.
+//!
+//! So the record of a book that `serve` leaves is answered by the image of that book's words, where
+//! the same shape and image are given. `host` and `talk` write their record call by call, maybe
+//! behind that of an earlier exchange. Whatever stands in its file when they have ended is answered
+//! by the image of the words to which the first entries of the history lead. They are all that any
+//! session was told, and maybe the one that couldn't be written whole (`laws::record_is_answered`,
+//! `IsReplayedTo` of `specs/SessionRecords.antt`). A premise of that comes of no contract: the entry
+//! that nobody was told, where there is such, is one that a record can tell (`CanTellLost`). So it is
+//! with `laws::resumed`, which asks for that of all entries (`CanTell`).
 #![tactic(auto)]
 
+mod answering;
 mod asking;
 mod fault;
 mod following;
 pub mod laws;
 mod replaying;
 
+pub use answering::{Replayed, Torn, answer_replay};
 pub use fault::{RecordError, RecordFault};
 pub use replaying::{Remade, replay};

@@ -4,7 +4,7 @@ use Rattle.std.specs.List.{starts_with}
 use Rattle.refusal_notes.specs.declared.differences.Difference.{Difference}
 use Rattle.refusal_notes.specs.declared.differences.Difference.TheVariants.{Moves, Stops, Taken}
 use Rattle.refusal_notes.specs.Lines.{line_at}
-use Rattle.refusal_notes.specs.Pairs.{IsTaken}
+use Rattle.refusal_notes.specs.Taken.{IsTaken}
 
 -- what is told to stand at a byte, counted from 1, is the line from there on
 abbrev pub StandsAt : List ℕ → ℕ → List ℕ → Type 0

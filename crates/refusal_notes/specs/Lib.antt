@@ -1,6 +1,7 @@
 pub mod Lines
 pub mod Wanted
 pub mod Notes
-pub mod Pairs
+pub mod Taken
+pub mod Clashes
 pub mod Differences
 pub mod Told

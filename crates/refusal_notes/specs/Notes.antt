@@ -16,8 +16,9 @@ abbrev pub IsQuoteOf : List ℕ → Quote → Type 0
 IsQuoteOf line quote =
     (quote.bytes.now ≡ take MAX_QUOTED line) × (quote.is_cut ≡ nat_lt MAX_QUOTED (length line))
 
--- the number, the beginning and the line feed are those of this line of the text
+-- the text, and the number, the beginning and the line feed of this line of it
 pub record IsAtLine (text : List ℕ) (number : ℕ) (note : LineNote) : Type 0 where
+  pub text_of : note.named.text.now ≡ text
   pub number_of : note.number ≡ number
   pub quote_of : IsQuoteOf (line_at text number) note.quote
   pub end_of : note.is_ended ≡ is_ended text number

@@ -10,24 +10,27 @@
 //! wanted there (`IsLineTold` of `specs/Told.antt`). A number that is too great stands there, and
 //! isn't below the limit that goes with it (`IsNoteAbove` of `specs/Notes.antt`). Where a line
 //! differs at a byte, what stands there is the line from there on (`IsDifferenceOf` of
-//! `specs/Differences.antt`). A link that is taken is in both lines (`IsTaken`).
+//! `specs/Differences.antt`). A link that is taken is in both lines (`IsTaken`). Two transfers that
+//! clash stand at two places of the setting, and both use the link (`Clashes`).
 #![tactic(auto)]
 
 mod boards;
+mod clashes;
 mod differences;
+mod forms;
 mod limit;
 mod lines;
 mod listed;
 mod note;
-mod pairs;
+mod pieces;
 mod quote;
 mod recorded;
 mod schedules;
 mod second;
-mod sent;
+mod sentences;
+mod taken;
 mod told;
 mod wanted;
-mod words;
 
 pub use listed::Listing;
 pub use second::{file_line, second_line, session_line};

@@ -16,6 +16,18 @@ pub enum Listing {
     Modules,
 }
 
+impl Listing {
+    /// What the line of an entry is called.
+    pub(crate) fn line_name(self) -> &'static str {
+        match self {
+            Listing::Transfers => "transfer line",
+            Listing::Moves => "move line",
+            Listing::Settings => "setting line",
+            Listing::Modules => "module line",
+        }
+    }
+}
+
 /// Whether a line begins as that of an entry.
 pub(crate) fn is_listed(listing: Listing, line: &[u8]) -> bool
     ensures { result ≡ the_listed listing line.now }

@@ -9,7 +9,6 @@ use crate::told::{Named, Note, Texts};
 use crate::wanted::Wanted;
 use batch::{Batch, BatchFault, Shape, number_before};
 use refusals::Refusal;
-use std::alloc::Global;
 
 /// The number of the line before which so many bytes stand, counted from 1.
 fn line_behind(text: &[u8], bytes: usize) -> usize
@@ -22,8 +21,8 @@ fn line_behind(text: &[u8], bytes: usize) -> usize
 pub(crate) fn note_wanting<'a>(texts: Texts<'a>, wanted: Wanted<'a>) -> LineNote<'a>
     ensures { IsRecordTold texts.entry wanted.entry result }
 {
-    let text = texts.recorded.text;
-    LineNote::wanting(text, line_behind(text, texts.offset), wanted)
+    let recorded = texts.recorded;
+    LineNote::wanting(recorded, line_behind(recorded.text, texts.offset), wanted)
 }
 
 /// What stands behind so many bytes of a text and a session's number.
@@ -35,26 +34,27 @@ fn call_behind(text: &[u8], bytes: usize) -> Option<&[u8]> {
 /// What is told of a record's call that is wrong. Where it hands in a batch whose first line is
 /// right, or announces too many transfers, it is told of that. None where there is no memory for
 /// the batch.
-pub(crate) fn note_of_call<'a>(alloc: Global, note: Note<'a>) -> Option<Note<'a>> {
+pub(crate) fn note_of_call(note: Note<'_>) -> Option<Note<'_>> {
     let (recorded, offset) = (note.texts.recorded, note.texts.offset);
     let text = call_behind(recorded.text, offset).unwrap_or(&[]);
-    let refusal = match Batch::read(alloc, text, Shape::WIDEST) {
+    let refusal = match Batch::read(note.alloc, text, Shape::WIDEST) {
         Ok(_) | Err(BatchFault::Line(1)) => return Some(note),
         Err(BatchFault::NoMemory) => return None,
         // The record ends above the last line.
         Err(BatchFault::Count) => Refusal::BatchLine(line_behind(text, text.len())),
         Err(fault) => Refusal::from(fault),
     };
-    let name = recorded.name;
-    let list = Named { name, text };
-    let texts = Texts {
-        list,
-        ..Texts::NONE
+    let list = Named {
+        name: recorded.name,
+        text,
     };
-    let above = line_behind(recorded.text, offset).saturating_sub(1);
     Some(Note {
         refusal,
-        texts,
-        above,
+        texts: Texts {
+            list,
+            ..Texts::NONE
+        },
+        above: line_behind(recorded.text, offset).saturating_sub(1),
+        alloc: note.alloc,
     })
 }

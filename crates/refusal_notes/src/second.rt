@@ -25,10 +25,11 @@ pub fn second_line(alloc: Global, refusal: Refusal, texts: Texts<'_>) -> Option<
         refusal,
         texts,
         above: 0,
+        alloc,
     };
     match refusal {
         Refusal::NoMemory | Refusal::File | Refusal::Port(_) => None,
-        Refusal::RecordCall(_) => told(alloc, &note_of_call(alloc, note)?),
+        Refusal::RecordCall(_) => told(alloc, &note_of_call(note)?),
         _ => told(alloc, &note),
     }
 }

@@ -2,19 +2,16 @@
 
 ghost use Rattle.refusal_notes.specs.Told.{IsLineTold, IsShapeOf};
 
-use crate::boards::write_missing;
 use crate::limit::Limit;
 use crate::lines::{announced, line_at};
 use crate::listed::Listing;
 use crate::note::LineNote;
 use crate::quote::{Quote, write_shown};
 use crate::recorded::note_wanting;
-use crate::schedules::write_check;
-use crate::sent::write_sent;
 use crate::wanted::Wanted;
-use crate::words::{write_asked, write_line};
 use batch::Shape;
 use refusals::{Refusal, Validity};
+use std::alloc::Global;
 use std::fmt::{self, Display, Formatter, Write};
 
 /// A text and its name.
@@ -95,6 +92,8 @@ pub(crate) struct Note<'a> {
     pub texts: Texts<'a>,
     /// How many lines of its file stand above them.
     pub above: usize,
+    /// Where the texts are read once more.
+    pub alloc: Global,
 }
 
 impl<'a> Note<'a> {
@@ -104,15 +103,12 @@ impl<'a> Note<'a> {
     pub(crate) fn line(&self) -> Option<LineNote<'a>>
         ensures { IsLineTold self.now.refusal self.now.texts result }
     {
-        let (list, listing, other) = (self.texts.list.text, self.texts.listing, self.texts.other);
+        let (list, listing) = (self.texts.list, self.texts.listing);
         match self.refusal {
             Refusal::BatchLine(n) | Refusal::MovesLine(n) => Some(LineNote::of(list, n, listing)),
-            Refusal::ScheduleLine(n) => Some(LineNote::of(other.text, n, Listing::Settings)),
-            Refusal::WiringLine(n) => {
-                let wiring = self.texts.wiring.text;
-                Some(LineNote::of(wiring, n, Listing::Modules))
-            }
-            Refusal::Count => Some(LineNote::of(list, announced(list) + 2, listing)),
+            Refusal::ScheduleLine(n) => Some(LineNote::of(self.texts.other, n, Listing::Settings)),
+            Refusal::WiringLine(n) => Some(LineNote::of(self.texts.wiring, n, Listing::Modules)),
+            Refusal::Count => Some(LineNote::of(list, announced(list.text) + 2, listing)),
             Refusal::TooMany => Some(LineNote::above(list, 1, listing, Limit::Announced)),
             Refusal::NoModule(t) => {
                 let limit = Limit::Modules(self.texts.rack().modules());
@@ -144,52 +140,5 @@ impl<'a> Display for Named<'a> {
             write_shown(f, c)?;
         }
         Ok(())
-    }
-}
-
-impl<'a> Display for Note<'a> {
-    fn fmt<W: Write>(&self, f: &mut Formatter<W>) -> fmt::Result {
-        match self.refusal {
-            Refusal::NoLink(t) => write_missing(f, *self, t),
-            Refusal::NoModule(t) if !self.texts.wiring.text.is_empty() => {
-                write_missing(f, *self, t)
-            }
-            Refusal::BatchLine(_)
-            | Refusal::MovesLine(_)
-            | Refusal::ScheduleLine(_)
-            | Refusal::WiringLine(_)
-            | Refusal::Count
-            | Refusal::TooMany
-            | Refusal::NoModule(_)
-            | Refusal::NoBlock(_)
-            | Refusal::RecordHead
-            | Refusal::RecordCall(_)
-            | Refusal::RecordReply(_)
-            | Refusal::RecordMore => write_line(f, *self),
-            Refusal::Settings
-            | Refusal::NoSetting(_)
-            | Refusal::Shape
-            | Refusal::Image { .. }
-            | Refusal::Overlap(..)
-            | Refusal::Ports(_)
-            | Refusal::Threads => write_asked(f, *self),
-            Refusal::NoCertificate
-            | Refusal::CheckUnknown(_)
-            | Refusal::CheckRepeated(_)
-            | Refusal::CheckMissing(_)
-            | Refusal::CheckClash(..)
-            | Refusal::CheckWrongLink(_)
-            | Refusal::CheckCertificateRepeats(_)
-            | Refusal::CheckNotTight { .. } => write_check(f, *self),
-            Refusal::Line
-            | Refusal::Unknown
-            | Refusal::Unplanned
-            | Refusal::Stranger
-            | Refusal::Already
-            | Refusal::Memory(_)
-            | Refusal::BookFull
-            | Refusal::HistoryFull => write_sent(f, *self),
-            Refusal::File | Refusal::Port(_) | Refusal::NoMemory => Ok(()),
-        }
     }
 }

@@ -3,10 +3,10 @@
 ghost use Rattle.std.specs.Prelude.{◌≡◌};
 ghost use Rattle.refusal_notes.specs.Wanted.{IsWantedAt, certificate_line, is_none_line as none_line};
 
+use crate::forms::{self, English, Form};
 use crate::lines::{announced, line_at};
 use crate::listed::Listing;
 use crate::quote::Quote;
-use crate::sent::{LETTERS, RULES};
 use batch::MAX_MODULES;
 use c004_commands::PORTS;
 use crossbar::JOINED_MODULES;
@@ -18,13 +18,13 @@ const _: () = prove!(MAX_MODULES == 32 && PORTS == 32 && JOINED_MODULES == 16);
 const RECORD_HEAD: &str =
     "\"record MxKxW SUM N\", where MxKxW is its shape, SUM the sum of its image, of eight digits, and N counts the lines \"client NAME\" behind it";
 
-/// The calls of a record.
-const CALLS: &str =
-    "\"batch N\" and the batch's lines, \"fetch ID\", \"settle ID\", \"run ID\", \"show ID\", \"drop ID\", \"peek M A\" or \"poke M A D\"";
+/// The call of an entry of a record.
+const CALL: &str =
+    "\"S CALL\", where S is the number of a session, CALL is \"batch N\" and the batch's lines, \"fetch ID\", \"settle ID\", \"run ID\", \"show ID\", \"drop ID\", \"peek M A\" or \"poke M A D\"";
 
-/// The forms of a module's line, with each link or without.
-const MODULE_FORMS: &str =
-    "\"module M link 0 at A link 3 at B\" \"module M link 0 at A link 3 none\" \"module M link 0 none link 3 at B\" \"module M link 0 none link 3 none\"";
+/// What names in the lines of a session and in calls stand for, and how lines are written.
+const RULES: &str =
+    "ID is the number of a batch, M a module, A an address and D a word, of eight digits 0 to 9 and a to f each: small letters, single spaces, numbers of at most nine digits and no leading zero";
 
 /// What is wanted in a line.
 #[derive(Clone, Copy)]
@@ -67,43 +67,25 @@ impl<'a> Wanted<'a> {
         }
     }
 
-    /// Its forms, each in quotation marks, and what they say; none where it is told otherwise. In a
-    /// form a word of one letter is a number, an `h` eight hexadecimal digits, and `U ..` at its end are
-    /// any more.
-    pub(crate) fn form(self) -> Option<&'static str> {
-        Some(match self {
-            Wanted::Head(Listing::Transfers) => "\"batch N\", where N counts the transfers",
-            Wanted::Head(Listing::Moves) => "\"moves N\", where N counts the moves",
-            Wanted::Head(Listing::Settings) => "\"settings S\", where S counts the settings",
-            Wanted::Head(Listing::Modules) => "\"wiring N\", where N counts the modules, 1 to 16",
-            Wanted::Entry(Listing::Transfers) => "\"push I b R c\" or \"pull I b R c\"",
-            Wanted::Entry(Listing::Moves) => "\"move M b N c\"",
-            Wanted::Entry(Listing::Modules) => {
-                "\"module M link 0 at A link 3 at B\", where M rises from line to line up to 15, A and B are 0 to 31 and stand nowhere else, and \"none\" may stand for \"at A\" or \"at B\""
-            }
-            Wanted::Entry(Listing::Settings) => {
-                "\"setting T U ..\", where T, U .. are transfers, or \"setting\" alone"
-            }
-            Wanted::BusiestLink => {
-                "\"busiest link E module M\", where E is 0 or 3 and M 0 to 31, or \"busiest none\""
-            }
-            Wanted::Named => "\"named T U ..\", where T, U .. are transfers, one at least",
-            Wanted::Sent => {
-                "\"batch N\", \"plan N\", \"run N\", \"show N\", \"drop N\", \"peek M h\", \"poke M h h\", \"progress\", \"bye\""
-            }
+    /// The forms that the line may have; none where it is told otherwise.
+    pub(crate) fn forms(self) -> &'static [Form] {
+        match self {
+            Wanted::Head(Listing::Transfers) => forms::BATCH,
+            Wanted::Head(Listing::Moves) => forms::MOVES,
+            Wanted::Head(Listing::Settings) => forms::SETTINGS,
+            Wanted::Head(Listing::Modules) => forms::WIRING,
+            Wanted::Entry(Listing::Transfers) => forms::TRANSFER,
+            Wanted::Entry(Listing::Moves) => forms::MOVE,
+            Wanted::Entry(Listing::Settings) => forms::SETTING,
+            Wanted::Entry(Listing::Modules) => forms::MODULE,
+            Wanted::BusiestLink => forms::BUSIEST,
+            Wanted::Named => forms::NAMED,
+            Wanted::Sent => forms::SENT,
             Wanted::End
             | Wanted::RecordHead
             | Wanted::Call(_)
             | Wanted::Reply(..)
-            | Wanted::RecordEnd => return None,
-        })
-    }
-
-    /// The forms that a line may have, each in quotation marks; none where it is told otherwise.
-    pub(crate) fn forms(self) -> Option<&'static str> {
-        match self {
-            Wanted::Entry(Listing::Modules) => Some(MODULE_FORMS),
-            _ => self.form(),
+            | Wanted::RecordEnd => &[],
         }
     }
 
@@ -126,27 +108,21 @@ fn is_none_line(line: &[u8]) -> bool
     line.starts_with(b"busiest none") && line.len() == 12
 }
 
-/// The form of the line in full.
+/// What is wanted, in full.
 impl<'a> Display for Wanted<'a> {
     fn fmt<W: Write>(&self, f: &mut Formatter<W>) -> fmt::Result {
-        match (self.form(), *self) {
-            (Some(form), _) => f.write_str(form),
-            (None, Wanted::RecordHead) => f.write_str(RECORD_HEAD),
-            (None, Wanted::Call(e)) => write_call(f, e),
-            (None, Wanted::Reply(e, due)) => write!(f, "the reply of entry {e}, {due}"),
-            (None, _) => f.write_str("the text's end"),
+        match *self {
+            Wanted::RecordHead => f.write_str(RECORD_HEAD),
+            Wanted::Call(e) => {
+                write!(
+                    f,
+                    "the call of entry {e}, {CALL}, {RULES}, a line feed at its end"
+                )
+            }
+            Wanted::Sent => write!(f, "{}, where {RULES}", English(forms::SENT)),
+            Wanted::Reply(e, due) => write!(f, "the reply of entry {e}, {due}"),
+            Wanted::End | Wanted::RecordEnd => f.write_str("the text's end"),
+            _ => write!(f, "{}", English(self.forms())),
         }
     }
-}
-
-/// Writes the form of the call of an entry.
-fn write_call<W: Write>(f: &mut Formatter<W>, e: usize) -> fmt::Result {
-    write!(
-        f,
-        "the call of entry {e}, \"S CALL\", where S is the number of a session, "
-    )?;
-    write!(
-        f,
-        "CALL is {CALLS}, {LETTERS}: {RULES}, a line feed at its end"
-    )
 }

@@ -53,7 +53,8 @@ pub enum Refusal {
     CheckCertificateRepeats(usize),
     /// `check not tight S U`: there are so many settings, and another number of named transfers.
     CheckNotTight { settings: usize, named: usize },
-    /// `no setting K`: this setting is to be drawn, and is the first that the schedule hasn't.
+    /// `no setting K`: this setting is to be drawn, or driven from, and is the first that the
+    /// schedule hasn't.
     NoSetting(usize),
     /// `shape`: the text isn't that of a shape. A run is refused so too where a transfer of its
     /// plan names a module or a block that the rack hasn't. No batch that a session sends has one,
@@ -64,7 +65,7 @@ pub enum Refusal {
     Image { is: usize, wanted: usize },
     /// `overlap I J`: these two transfers write one block.
     Overlap(usize, usize),
-    /// `record head`: the record's first line counts no entries, or too many.
+    /// `record head`: the record doesn't begin as one of this rack, these words and these clients.
     RecordHead,
     /// `record call E`: no call stands where that of this entry should.
     RecordCall(usize),

@@ -1,7 +1,8 @@
 //! Schedules of batches: shortest ones with their certificates, and first fit.
 //!
-//! [`schedule`] and [`schedule_alone`] give a plan of the batch that was handed in, whatever the
-//! number of workers (`IsPlan` of `specs/Plans.antt`). Its schedule is shortest, as its certificate
+//! [`schedule`] gives a plan of the batch that was handed in, whatever the number of workers
+//! (`IsPlan` of `specs/Plans.antt`). So does each [`Planner`]: whatever has threads, and
+//! [`NoThreads`], for callers that have none. The plan's schedule is shortest, as its certificate
 //! shows, which names the busiest link with all its transfers. No setting is empty, numbers ascend
 //! in each, and settings are ordered by their least numbers. At most three quarters of the
 //! transfers are put in one by one, and none where the busiest link's uses are 0 or a power of two
@@ -12,19 +13,19 @@
 //! `specs/FirstFit.antt`).
 #![tactic(auto)]
 
-mod alone;
 mod colouring;
 mod degree;
 mod gate;
 mod greedy;
 mod halving;
 mod planned;
+mod planner;
 mod planning;
 mod workers;
 
-pub use alone::schedule_alone;
 pub use gate::{Gate, OpenGate};
 pub use greedy::first_fit;
 pub use planned::Planned;
+pub use planner::{NoThreads, Planner};
 pub use planning::schedule;
 pub use workers::Workers;

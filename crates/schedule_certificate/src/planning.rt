@@ -53,7 +53,7 @@ fn colour_all<R: Threads + Sync, G: Gate>(
 }
 
 /// The certificate that names the busiest link.
-pub(crate) fn certificate_of(graph: &LinkGraph) -> Result<Certificate, AllocError>
+fn certificate_of(graph: &LinkGraph) -> Result<Certificate, AllocError>
     ensures { IfOk result (λ named. NamesBusiest graph.now named.link named.transfers) }
 {
     let Some(link) = graph.busiest() else {
@@ -61,6 +61,22 @@ pub(crate) fn certificate_of(graph: &LinkGraph) -> Result<Certificate, AllocErro
     };
     let transfers = graph.transfers_of(link)?;
     Ok(Certificate::of(link, transfers).unwrap())
+}
+
+/// The plan of a batch that such a colouring of its graph makes.
+pub(crate) fn planned_by(
+    batch: Batch,
+    graph: &LinkGraph,
+    coloured: Coloured,
+) -> Result<Planned, AllocError>
+    requires graph { graph.now ≡ batch }
+    requires coloured { IsColoured graph.now coloured }
+    ensures batch { IfOk result (λ planned. planned.batch ≡ batch) }
+    ensures plan { IfOk result (λ planned. IsPlan planned) }
+    ensures reinserted { IfOk result (λ planned. HasFewReinsertions planned) }
+{
+    let certificate = certificate_of(graph)?;
+    Ok(Planned::of(batch, coloured, certificate))
 }
 
 /// Plans a batch: a schedule with as few settings as any, and its certificate.
@@ -88,6 +104,5 @@ pub fn schedule<R: Threads + Sync, G: Gate>(
 {
     let graph = LinkGraph::of(&batch)?;
     let coloured = colour_all(rt, gate, Workers::all(workers), alloc, &graph)?;
-    let certificate = certificate_of(&graph)?;
-    Ok(Planned::of(batch, coloured, certificate))
+    planned_by(batch, &graph, coloured)
 }

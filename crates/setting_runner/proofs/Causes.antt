@@ -4,11 +4,15 @@ use Rattle.std.specs.Prelude.{All, IfSome, MatchOption}
 use Rattle.std.proofs.lemmas.Bool.{cases_lt}
 use Rattle.std.proofs.lemmas.List.Elements.{All-cons, All-push, Contains-append_left, Contains-append_right}
 use Rattle.batch.specs.declared.transfer.Transfer.{Transfer}
+use Rattle.crossbar.specs.declared.pair.Pair.{Pair}
+use Rattle.crossbar.specs.declared.traffic.Passing.{Passing}
 use Rattle.module_memory.specs.Lending.{RestView, BlockAt}
 use Rattle.setting_runner.specs.declared.outcome.StopCause.TheVariants.{Wire}
-use Rattle.switch_settings.specs.Answers.{IsConfigureFault}
-use Rattle.switch_settings.specs.declared.fault.ConfigureFault.{ConfigureFault}
-use Rattle.switch_settings.specs.declared.fault.ConfigureFault.TheVariants as fault
+use Rattle.switch_settings.specs.Answers.{IsSettingFault}
+use Rattle.switch_settings.specs.Asking.{HavePassedFor}
+use Rattle.switch_settings.specs.declared.fault.SettingFault.{SettingFault}
+use Rattle.switch_settings.specs.declared.fault.SettingFault.TheVariants as fault
+use Rattle.switch_settings.proofs.Asking.{known_output}
 use Rattle.setting_runner.specs.Causes.{cause_of}
 use Rattle.setting_runner.specs.Moves.{HaveMoved, all_moved, AllWhole}
 use Rattle.setting_runner.specs.Runs.{RunConditions, IsStopCause, IsLeastShort, names_of}
@@ -18,13 +22,15 @@ all_zero [] = λ k d l. absurd (omega arith)
 all_zero (t ∷ ts) = All-cons (λ (m : ℕ × ℕ). m.1 ≡ 0) (t, 0) (all_moved ts 0) refl (all_zero ts)
 
 -- a switch that can't be set stops the setting before a word has moved
-pub set_fault_stops : (given : RunConditions) (f : ConfigureFault) (ms : List (ℕ × ℕ)) → IsConfigureFault given.shape.modules given.before given.after given.honest f → All (λ (m : ℕ × ℕ). m.1 ≡ 0) ms → IsStopCause given (cause_of f) ms
-set_fault_stops given fault.Port ms is z = record { failed = is; unmoved = z }
-set_fault_stops given (fault.SwitchDisagrees output) ms is z = record { dishonest = is.0; known = is.1; unmoved = z; unfailed = is.2 }
+pub set_fault_stops : (given : RunConditions) (f : SettingFault) (ms : List (ℕ × ℕ)) (standing : Option (List Pair)) (pairs : List Pair) (old new : Option (List Passing)) → IsSettingFault given.before given.after given.honest f → HavePassedFor given.shape.modules f standing pairs old new
+    → All (λ (m : ℕ × ℕ). m.1 ≡ 0) ms → IsStopCause given (cause_of f) ms
+set_fault_stops given fault.Port ms standing pairs old new is passed z = record { failed = is; unmoved = z }
+set_fault_stops given (fault.Switch found) ms standing pairs old new is passed z =
+    record { dishonest = is.0; known = known_output given.shape.modules found standing pairs old new passed; unmoved = z; unfailed = is.1 }
 
-pub no_wire : (f : ConfigureFault) (t : ℕ) → cause_of f ≡ Wire t → ⊥
+pub no_wire : (f : SettingFault) (t : ℕ) → cause_of f ≡ Wire t → ⊥
 no_wire fault.Port t e = absurd cc
-no_wire (fault.SwitchDisagrees output) t e = absurd cc
+no_wire (fault.Switch found) t e = absurd cc
 
 -- those whose wires never fail have moved all words
 pub sure_moved : (sure : ℕ → Type 0) (rest : RestView) (batch : List Transfer) (ts : List ℕ) (os ns : List BlockAt) (ms : List (ℕ × ℕ)) → HaveMoved sure rest batch ts os ns ms → All (λ (m : ℕ × ℕ). sure m.0 → m.1 ≡ rest.store.shape.words) ms

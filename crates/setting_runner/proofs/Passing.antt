@@ -1,5 +1,5 @@
 -- What passes over the configuration links, setting by setting.
-use Rattle.std.proofs.Common.{◌≡◌, ℕ, List, Option, Result, Ok, Err}
+use Rattle.std.proofs.Common.{◌≡◌, ℕ, List, Option, Result, Ok, Err, refl}
 use Rattle.std.specs.Prelude.{IfErr}
 use Rattle.crossbar.specs.declared.pair.Pair.{Pair}
 use Rattle.crossbar.specs.declared.traffic.Passing.{Passing}
@@ -10,13 +10,13 @@ use Rattle.setting_runner.specs.declared.outcome.StopCause.{StopCause}
 use Rattle.setting_runner.specs.declared.outcome.StopCause.TheVariants.{Port, SwitchDisagrees, Wire}
 use Rattle.setting_runner.specs.declared.setting.Stop.{Stop}
 use Rattle.switch_settings.specs.Asking.{HaveReplied, HavePassedFor}
-use Rattle.switch_settings.specs.declared.fault.ConfigureFault.{ConfigureFault}
-use Rattle.switch_settings.specs.declared.fault.ConfigureFault.TheVariants as fault
+use Rattle.switch_settings.specs.declared.fault.SettingFault.{SettingFault}
+use Rattle.switch_settings.specs.declared.fault.SettingFault.TheVariants as fault
 
 -- the switches couldn't be set
-pub fault_passes : (f : ConfigureFault) (modules : ℕ) (standing : Option (List Pair)) (pairs : List Pair) (old new : Option (List Passing)) → HavePassedFor modules f standing pairs old new → PassesFor modules (cause_of f) standing pairs old new
+pub fault_passes : (f : SettingFault) (modules : ℕ) (standing : Option (List Pair)) (pairs : List Pair) (old new : Option (List Passing)) → HavePassedFor modules f standing pairs old new → PassesFor modules (cause_of f) standing pairs old new
 fault_passes fault.Port modules standing pairs old new has = has
-fault_passes (fault.SwitchDisagrees output) modules standing pairs old new has = has
+fault_passes (fault.Switch found) modules standing pairs old new has = (found, refl, has)
 
 short_passes : (cause : StopCause) (words modules : ℕ) (ms : List (ℕ × ℕ)) (standing : Option (List Pair)) (pairs : List Pair) (old new : Option (List Passing)) → IsShortfall words ms cause → HaveReplied modules standing pairs old new → PassesFor modules cause standing pairs old new
 short_passes (Wire t) words modules ms standing pairs old new short replied = replied

@@ -7,10 +7,12 @@ use Rattle.setting_runner.specs.declared.outcome.Outcome.{Outcome}
 use Rattle.setting_runner.specs.declared.outcome.Outcome.TheVariants.{Completed, Refused, Stopped}
 use Rattle.setting_runner.specs.declared.outcome.StopCause.{StopCause}
 use Rattle.setting_runner.specs.declared.outcome.StopCause.TheVariants.{Port, SwitchDisagrees, Wire}
+use Rattle.switch_settings.specs.Answers.{number_of}
 use Rattle.switch_settings.specs.Asking.{HaveReplied, HavePassedFor}
 use Rattle.switch_settings.specs.Schedules.{HaveAllReplied}
 use Rattle.switch_settings.specs.Sending.{pairs_at, standing_before}
-use Rattle.switch_settings.specs.declared.fault.ConfigureFault.TheVariants as fault
+use Rattle.switch_settings.specs.declared.fault.Disagreement.{Disagreement}
+use Rattle.switch_settings.specs.declared.fault.SettingFault.TheVariants as fault
 
 -- What passed for a setting that stopped for this cause: it broke off where the port failed. It
 -- went to its end where a switch disagreed, and where all replied as they should and a wire failed.
@@ -19,7 +21,8 @@ abbrev pub PassesFor : ℕ → StopCause → Option (List Pair) → List Pair �
 PassesFor modules Port standing pairs old new =
     HavePassedFor modules fault.Port standing pairs old new
 PassesFor modules (SwitchDisagrees output) standing pairs old new =
-    HavePassedFor modules (fault.SwitchDisagrees output) standing pairs old new
+    (found : Disagreement) × (number_of found ≡ output)
+    × HavePassedFor modules (fault.Switch found) standing pairs old new
 PassesFor modules (Wire transfer) standing pairs old new =
     HaveReplied modules standing pairs old new
 

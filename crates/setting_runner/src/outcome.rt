@@ -1,5 +1,5 @@
 use crate::moved::Moved;
-use switch_settings::ConfigureFault;
+use switch_settings::SettingFault;
 use thiserror::Error;
 
 /// Why a run was refused: the rack is as it was, and the port wasn't called. The causes are tested
@@ -33,16 +33,16 @@ pub enum StopCause {
     Wire(usize),
 }
 
-impl From<ConfigureFault> for StopCause {
+impl From<SettingFault> for StopCause {
     ghost use Rattle.std.specs.Prelude.{◌≡◌};
     ghost use Rattle.setting_runner.specs.Causes.{cause_of};
 
     ghost from_gives = { λ fault cause. cause ≡ cause_of fault };
 
-    fn from(fault: ConfigureFault) -> StopCause {
+    fn from(fault: SettingFault) -> StopCause {
         match fault {
-            ConfigureFault::Port => StopCause::Port,
-            ConfigureFault::SwitchDisagrees(output) => StopCause::SwitchDisagrees(output),
+            SettingFault::Port => StopCause::Port,
+            SettingFault::Switch(found) => StopCause::SwitchDisagrees(found.number()),
         }
     }
 }

@@ -3,13 +3,13 @@
 
 mod byte_streams_rows;
 mod c004_commands_rows;
-mod contract_data_rows;
 mod crossbar_rows;
+mod failure_count_rows;
 mod link_bytes_rows;
+mod link_ends_rows;
 mod module_memory_rows;
 mod peek_poke_rows;
 mod prints;
 mod progress_word_rows;
 mod racks;
 mod streams;
-mod switch_end_rows;

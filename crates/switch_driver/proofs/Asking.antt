@@ -1,23 +1,28 @@
 -- The outputs of a switch, asked one after another.
-use Rattle.std.proofs.Common.{◌≡◌, ◌<◌, ◌+◌, ◌-◌, ◌++◌, ◌∷◌, [], ℕ, zero, suc, Bool, true, false, IsTrue, List, length, map, get_or, replicate, Option, Some, None, Result, Ok, Err, inl, inr, refl, sym, ap, ◌∙◌, subst, arith, append-nil, append_assoc, length-append}
+use Rattle.std.proofs.Common.{◌≡◌, ◌<◌, ◌+◌, ◌-◌, ◌++◌, ◌∷◌, [], ℕ, zero, suc, Bool, true, false, IsTrue, List, length, map, get_or, replicate, Option, Some, None, inl, inr, refl, sym, ap, ◌∙◌, subst, arith, append-nil, append_assoc, length-append}
 use Rattle.std.proofs.lemmas.Bool.{cases_lt}
 use Rattle.std.proofs.lemmas.List.{get_or_append_left, length-replicate, map-append}
 use Rattle.std.proofs.Math.Seq.{get_or-append_seam}
 use Rattle.std.specs.List.{range_with_len}
-use Rattle.std.specs.Prelude.{OnOk}
 use Rattle.batch.proofs.Lists.{range_more}
 use Rattle.c004_commands.specs.declared.command.Command.{Command}
 use Rattle.c004_commands.specs.declared.command.Command.TheVariants.{Enquire}
 use Rattle.c004_commands.specs.declared.port.TheConstants.{PORTS}
 use Rattle.crossbar.specs.Switch.{Switch, enquiries}
 use Rattle.crossbar.specs.Traffic.{Passes, PassesFront, conversed}
+use Rattle.crossbar.specs.Pairs.{switch_of}
 use Rattle.crossbar.specs.declared.chip.Chip.{Chip}
+use Rattle.crossbar.specs.declared.chip.Wiring.{Wiring}
+use Rattle.crossbar.specs.declared.pair.Pair.{Pair}
 use Rattle.crossbar.specs.declared.traffic.Passing.{Passing}
 use Rattle.switch_settings.proofs.Asking.{passes_then}
-use Rattle.switch_settings.specs.Answers.{Agrees}
+use Rattle.switch_settings.proofs.Replies.{missed}
+use Rattle.switch_settings.specs.Answers.{Agrees, Misses, seen}
 use Rattle.switch_settings.specs.Pairs.{all_enquiries}
 use Rattle.switch_driver.proofs.Conversing.{conversed-append}
-use Rattle.switch_driver.specs.Steps.{first_enquiries}
+use Rattle.switch_settings.specs.Asking.{first_enquiries, IsUnanswered}
+use Rattle.switch_settings.specs.declared.fault.SettingFault.{SettingFault}
+use Rattle.switch_settings.specs.declared.fault.SettingFault.TheVariants.{Switch as Disagreed}
 
 -- ---- enquiries
 
@@ -59,6 +64,18 @@ agree_before switch n replies reply many agree before lt =
 -- the last one
 pub last_reply : (n : ℕ) (replies : List ℕ) (reply : ℕ) → length replies ≡ n → get_or (replies ++ reply ∷ []) n 0 ≡ reply
 last_reply n replies reply many = ap (λ (i : ℕ). get_or (replies ++ reply ∷ []) i 0) (sym many) ∙ get_or-append_seam replies reply [] 0
+
+-- a switch was asked up to the first output that doesn't agree
+pub disagreed_at : (fault : SettingFault) (chip : Chip) (wiring : Wiring) (pairs : List Pair) (wanted : Switch) (n output : ℕ) (replies : List ℕ) (reply : ℕ) (old new : Option (List Passing)) → wanted ≡ switch_of wiring pairs → output ≡ n → n < PORTS → length replies ≡ n
+    → fault ≡ Disagreed (seen chip wanted output reply) → (Agrees wanted output reply → ⊥) → ((before : ℕ) → before < n → Agrees wanted before (get_or replies before 0))
+    → Passes old new (conversed chip (first_enquiries (n + 1)) (replies ++ reply ∷ [])) → IsUnanswered fault chip wiring pairs old new
+disagreed_at fault chip wiring pairs wanted n output replies reply old new e f lt many is differs agree passed =
+    let all = replies ++ reply ∷ [] in
+    let here = last_reply n replies reply many in
+    let first : Misses chip (switch_of wiring pairs) all fault =
+    missed fault chip (switch_of wiring pairs) wanted all n output e f lt (is ∙ ap (λ (r : ℕ). Disagreed (seen chip wanted output r)) (sym here)) (rw (sym here) at differs) (agree_before wanted n replies reply many agree) in
+    let at : fault ≡ Disagreed (seen chip (switch_of wiring pairs) n reply) = rw (e, f) at is in
+    rw at (record { replies = all; all = omega (arith, many, length-append replies (reply ∷ [])); are = rw at at first; passed = passed })
 
 pub passes_none : (old : Option (List Passing)) → Passes old old []
 passes_none None = tt
@@ -119,8 +136,3 @@ front_more chip n replies (Some old) (Some mid) (Some new) lt many p (more, note
 pub not_honest : (honest : Bool) → (IsTrue honest → ⊥) → honest ≡ false
 not_honest true none = absurd (none refl)
 not_honest false none = refl
-
--- what follows of what an honest port did, where it answers Ok
-pub ok_if : {T E H C D : Type 0} (r : Result T E) → (H → C → D) → (H → OnOk r C) → OnOk r (H → D)
-ok_if (Ok x) f done = λ h. f h (done h)
-ok_if (Err e) f done = tt

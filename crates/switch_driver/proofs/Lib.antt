@@ -5,5 +5,6 @@ pub mod Telling
 pub mod Texts
 pub mod Asking
 pub mod Turning
-pub mod Waking
-pub mod Rising
+pub mod Sent
+pub mod ComingUp
+pub mod ComesUp

@@ -1,11 +1,8 @@
 -- What a switch is sent while settings are driven turns it into that of each, one after another.
-use Rattle.std.proofs.Common.{◌≡◌, ◌<◌, ◌≤◌, ◌+◌, ℕ, zero, suc, List, [], ◌∷◌, ◌++◌, length, get_or, set, take, replicate, Option, None, Some, refl, sym, ap, ◌∙◌, subst, arith, add-one}
-use Rattle.std.specs.Prelude.{All, unwrap_or}
-use Rattle.std.proofs.lemmas.List.{take_all}
-use Rattle.batch.specs.declared.limits.TheConstants.{MAX_MODULES}
+use Rattle.std.proofs.Common.{◌≡◌, ◌<◌, ◌≤◌, ◌+◌, ℕ, zero, suc, List, [], ◌∷◌, ◌++◌, length, Option, None, Some, refl, ap, ◌∙◌, subst, arith, add-one}
+use Rattle.std.specs.Prelude.{unwrap_or}
 use Rattle.batch.specs.declared.transfer.Transfer.{Transfer}
 use Rattle.batch.specs.Batches.{IsBatch}
-use Rattle.batch.specs.Overlap.{transfer_at}
 use Rattle.c004_commands.specs.declared.command.Command.{Command}
 use Rattle.c004_commands.specs.declared.command.Command.TheVariants.{Settle}
 use Rattle.crossbar.specs.Pairs.{ArePairs, room_of, switch_of}
@@ -15,45 +12,15 @@ use Rattle.crossbar.specs.declared.pair.Pair.{Pair}
 use Rattle.crossbar.proofs.Carrying.{after_all-append}
 use Rattle.crossbar.proofs.Changes.{change_law, setting_law}
 use Rattle.link_graph.specs.Schedules.{IsScheduleOf}
-use Rattle.link_graph.specs.Uses.{IsMatching}
 use Rattle.switch_settings.specs.Pairs.{all_enquiries}
 use Rattle.switch_settings.specs.Racks.{HasModulesOf}
 use Rattle.switch_settings.specs.Sending.{pairs_at, turning}
 use Rattle.switch_settings.specs.Settings.{numbers_in, setting_pairs}
-use Rattle.switch_settings.proofs.Joined.{IsTableOf, table_none, table_more, table_is_pairs, table_is_switch}
-use Rattle.switch_settings.proofs.InOrder.{table_in_order}
 use Rattle.switch_settings.proofs.Replies.{more_pairs}
+use Rattle.switch_settings.proofs.Turning.{Numbers, ordered_pairs, ordered_switch}
 use Rattle.switch_driver.proofs.Telling.{settled}
 use Rattle.switch_driver.specs.Driving.{standing_behind}
 use Rattle.switch_driver.specs.Laws.{AreSentFor, DrivenTurns, IsSentFor, kept, changed}
-
--- numbers of a setting, and what is known of them
-record Numbers (batch : List Transfer) (ts : List ℕ) : Type 0 where
-  fits : IsBatch batch
-  known : All (λ u. u < length batch) ts
-  matching : IsMatching batch ts
-
--- they have a table
-record Tabled (batch : List Transfer) (ts : List ℕ) : Type 0 where
-  table : List (Option ℕ)
-  is : IsTableOf batch ts table
-
-tabled_first : (batch : List Transfer) (ts : List ℕ) (k : ℕ) → Numbers batch ts → k ≤ length ts → Tabled batch (take k ts)
-tabled_first batch ts zero n le = record {
-  table = replicate MAX_MODULES None;
-  is = record { size = refl; sound = λ i r e. absurd (table_none batch MAX_MODULES i r e); whole = λ i r none. absurd none };
-}
-tabled_first batch ts (suc k) n le =
-    let before = tabled_first batch ts k n (omega arith) in
-    let x = transfer_at batch (get_or ts k 0) in
-    let more = table_more batch ts k (get_or ts k 0) before.table x n.fits n.known n.matching (omega arith) refl refl before.is in
-    record {
-      table = set before.table x.initiator (Some x.responder);
-      is = subst (λ (m : ℕ). IsTableOf batch (take m ts) (set before.table x.initiator (Some x.responder))) (add-one k) more;
-    }
-
-tabled : (batch : List Transfer) (ts : List ℕ) → Numbers batch ts → Tabled batch ts
-tabled batch ts n = subst (Tabled batch) (take_all (length ts) ts (omega arith)) (tabled_first batch ts (length ts) n (omega arith))
 
 module _ (batch : List Transfer) (settings : List (List ℕ)) (m : ℕ) (w : Wiring) (fits : IsBatch batch) (schedule : IsScheduleOf batch settings) (has : HasModulesOf m batch) (room : m ≤ room_of w) where
   numbers_at : (k : ℕ) → k < length settings → Numbers batch (numbers_in settings k)
@@ -61,18 +28,11 @@ module _ (batch : List Transfer) (settings : List (List ℕ)) (m : ℕ) (w : Wir
 
   -- the pairs of a setting can be joined at once
   pairs_fit : (k : ℕ) → k < length settings → ArePairs (room_of w) (pairs_at batch settings k)
-  pairs_fit k lt =
-      let n = numbers_at k lt in
-      let t = tabled batch (numbers_in settings k) n in
-      more_pairs m (room_of w) (pairs_at batch settings k) room
-      (subst (ArePairs m) (table_in_order batch (numbers_in settings k) t.table t.is n.known n.matching) (table_is_pairs m batch (numbers_in settings k) t.table t.is n.known n.matching has))
+  pairs_fit k lt = more_pairs m (room_of w) (pairs_at batch settings k) room (ordered_pairs m batch (numbers_in settings k) (numbers_at k lt) has)
 
   -- and join what its transfers want joined
   switch_is : (k : ℕ) → k < length settings → switch_of w (pairs_at batch settings k) ≡ switch_of w (setting_pairs batch (numbers_in settings k))
-  switch_is k lt =
-      let n = numbers_at k lt in
-      let t = tabled batch (numbers_in settings k) n in
-      ap (switch_of w) (sym (table_in_order batch (numbers_in settings k) t.table t.is n.known n.matching)) ∙ table_is_switch m w batch (numbers_in settings k) t.table t.is n.known n.matching has room
+  switch_is k lt = ordered_switch m w batch (numbers_in settings k) (numbers_at k lt) has room
 
   -- what turns a switch, and behind it the enquiries and the end of the sequence
   whole : (standing : Option (List Pair)) (pairs : List Pair) (s : Switch) → after_all (turning w standing pairs) s ≡ switch_of w pairs → after_all (turning w standing pairs ++ (all_enquiries ++ Settle ∷ [])) s ≡ switch_of w pairs

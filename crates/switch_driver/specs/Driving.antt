@@ -1,21 +1,22 @@
 -- What passes while the settings of a schedule are put on the switches of a rack, and what is told
 -- meanwhile. The order is this project's choice: a setting is told where all outputs have replied
 -- as it calls for, and not before, and where nothing that could change one was sent since.
-use Rattle.std.specs.Prelude.{◌≡◌, ◌<◌, ◌≤◌, ◌+◌, ℕ, zero, suc, List, length, Option, Some, None}
+use Rattle.std.specs.Prelude.{◌≡◌, ◌<◌, ◌≤◌, ◌+◌, ℕ, zero, suc, List, length, Option, Some, None, Ok, Err}
 use Rattle.batch.specs.declared.transfer.Transfer.{Transfer}
 use Rattle.crossbar.specs.declared.port.ConfigPort.{Ghosts}
 use Rattle.crossbar.specs.declared.traffic.Passing.{Passing}
 use Rattle.crossbar.specs.declared.pair.Pair.{Pair}
+use Rattle.switch_settings.specs.Answers.{IsSettingFault}
 use Rattle.switch_settings.specs.RackWirings.{AreSetIn}
 use Rattle.switch_settings.specs.Sending.{pairs_at}
 use Rattle.switch_settings.specs.Settings.{numbers_in}
 use Rattle.switch_settings.specs.declared.rack_wiring.RackWiring.{RackWiring}
-use Rattle.switch_driver.specs.Steps.{HasStopped, IsSettingFault, Stands}
+use Rattle.switch_driver.specs.Hearings.{Hearing}
+use Rattle.switch_driver.specs.Steps.{HasStopped, Stands}
 use Rattle.switch_driver.specs.declared.driving.Driven.{Driven}
-use Rattle.switch_driver.specs.declared.driving.Driven.TheVariants.{Completed, Stopped, Left, Unheard as UnheardAt, Untold as UntoldAt}
-use Rattle.switch_driver.specs.declared.fault.SettingFault.{SettingFault}
-use Rattle.switch_driver.specs.declared.stage.Cue.{Cue}
-use Rattle.switch_driver.specs.declared.stage.Cue.TheVariants.{GoOn, Leave, Unheard, Untold}
+use Rattle.switch_driver.specs.declared.driving.Driven.TheVariants.{Completed, Stopped, Halted}
+use Rattle.switch_settings.specs.declared.fault.SettingFault.{SettingFault}
+use Rattle.switch_driver.specs.declared.stage.Halt.{Halt}
 
 -- the pairs that stand behind so many settings from the first one on: behind none no pairs are
 -- known to
@@ -32,7 +33,7 @@ Stood rack batch settings first n old new =
 
 -- So many settings stood from the first one on, one after another. Each was told once it stood, and
 -- the next one came when it was wanted.
-abbrev pub HaveStood : {S : Type 0} → (S → ℕ → List ℕ → Cue → S → Type 0) → RackWiring
+abbrev pub HaveStood : {S : Type 0} → Hearing S → RackWiring
     → List Transfer → List (List ℕ) → ℕ → ℕ → Option (List Passing) → S → Option (List Passing)
     → S → Type 0
 HaveStood {S} hears rack batch settings first zero old told new tells =
@@ -41,11 +42,11 @@ HaveStood {S} hears rack batch settings first (suc n) old told new tells =
     (mid : Option (List Passing)) × (telling : S)
     × HaveStood hears rack batch settings first n old told mid telling
     × Stood rack batch settings first n mid new
-    × hears telling (first + n) (numbers_in settings (first + n)) GoOn tells
+    × hears telling (first + n) (numbers_in settings (first + n)) (Ok tt) tells
 
 -- The settings from the first one to before this one stood, so many, and then it stood itself, was
 -- told, and this was said of it.
-pub record EndsWith {S : Type 0} (hears : S → ℕ → List ℕ → Cue → S → Type 0) (cue : Cue)
+pub record EndsWith {S : Type 0} (hears : Hearing S) (halt : Halt)
     (rack : RackWiring) (batch : List Transfer) (settings : List (List ℕ)) (first k : ℕ)
     (old : Option (List Passing)) (told : S) (new : Option (List Passing)) (tells : S)
     : Type 0 where
@@ -56,11 +57,11 @@ pub record EndsWith {S : Type 0} (hears : S → ℕ → List ℕ → Cue → S �
   pub telling : S
   pub before : HaveStood hears rack batch settings first count old told mid telling
   pub stood : Stood rack batch settings first count mid new
-  pub said : hears telling k (numbers_in settings k) cue tells
+  pub said : hears telling k (numbers_in settings k) (Err halt) tells
 
 -- The settings from the first one to before this one stood, so many. This one couldn't be set, and
 -- nothing was told of it.
-pub record StopsDriving {S : Type 0} (hears : S → ℕ → List ℕ → Cue → S → Type 0)
+pub record StopsDriving {S : Type 0} (hears : Hearing S)
     (fault : SettingFault)
     (rack : RackWiring) (batch : List Transfer) (settings : List (List ℕ)) (first k : ℕ)
     (old : Option (List Passing)) (told : S) (new : Option (List Passing)) (tells : S)
@@ -75,7 +76,7 @@ pub record StopsDriving {S : Type 0} (hears : S → ℕ → List ℕ → Cue →
       (pairs_at batch settings k) mid new
 
 -- what passed and what was told, from the first setting that is driven to this end
-abbrev pub IsDriven : {S : Type 0} → (S → ℕ → List ℕ → Cue → S → Type 0) → RackWiring
+abbrev pub IsDriven : {S : Type 0} → Hearing S → RackWiring
     → List Transfer → List (List ℕ) → ℕ → Driven → Option (List Passing) → S
     → Option (List Passing) → S → Type 0
 IsDriven {S} hears rack batch settings first (Completed all) old told new tells =
@@ -84,12 +85,8 @@ IsDriven {S} hears rack batch settings first (Completed all) old told new tells 
     × HaveStood hears rack batch settings first count old told new tells)
 IsDriven {S} hears rack batch settings first (Stopped k fault) old told new tells =
     StopsDriving hears fault rack batch settings first k old told new tells
-IsDriven {S} hears rack batch settings first (Left k) old told new tells =
-    EndsWith hears Leave rack batch settings first k old told new tells
-IsDriven {S} hears rack batch settings first (UnheardAt k) old told new tells =
-    EndsWith hears Unheard rack batch settings first k old told new tells
-IsDriven {S} hears rack batch settings first (UntoldAt k) old told new tells =
-    EndsWith hears Untold rack batch settings first k old told new tells
+IsDriven {S} hears rack batch settings first (Halted k halt) old told new tells =
+    EndsWith hears halt rack batch settings first k old told new tells
 
 -- ---- why it ended so
 
@@ -108,9 +105,5 @@ HasDriveCause {P} seen rack batch settings first (Completed all) old new =
     × ((k : ℕ) → first ≤ k → k + 1 ≡ all → AreOfSetting seen rack batch settings k old new)
 HasDriveCause {P} seen rack batch settings first (Stopped k fault) old new =
     IsSettingFault (seen.failures old) (seen.failures new) (seen.honest old) fault
-HasDriveCause {P} seen rack batch settings first (Left k) old new =
-    (seen.failures new ≡ seen.failures old) × AreOfSetting seen rack batch settings k old new
-HasDriveCause {P} seen rack batch settings first (UnheardAt k) old new =
-    (seen.failures new ≡ seen.failures old) × AreOfSetting seen rack batch settings k old new
-HasDriveCause {P} seen rack batch settings first (UntoldAt k) old new =
+HasDriveCause {P} seen rack batch settings first (Halted k halt) old new =
     (seen.failures new ≡ seen.failures old) × AreOfSetting seen rack batch settings k old new

@@ -1,7 +1,8 @@
 pub mod Streams
-pub mod Waking
+pub mod ComingUp
 pub mod Ports
 pub mod Steps
+pub mod Hearings
 pub mod Driving
 pub mod Lines
 pub mod Laws

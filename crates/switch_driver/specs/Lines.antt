@@ -1,13 +1,13 @@
 -- What is told of a setting that stands, and what is waited for. The texts are this project's
 -- choice.
-use Rattle.std.specs.Prelude.{◌≡◌, ◌≢◌, ℕ, Bool, true, false, IsTrue, List, [], ◌∷◌, ◌++◌, codes, All, Option}
+use Rattle.std.specs.Prelude.{◌≡◌, ◌≢◌, ℕ, Bool, true, false, IsTrue, List, [], ◌∷◌, ◌++◌, codes, All, Option, Result, Ok, Err}
 use Rattle.std.specs.Fmt.{decimal}
 use Rattle.std.specs.List.{flat_map}
 use Rattle.std.specs.Io.KnownBytes.{Appends, Consumes, IsAtEnd}
 use Rattle.byte_streams.specs.Writing.{IsCutShort}
 use Rattle.switch_driver.specs.declared.lines.Lines.{Lines}
-use Rattle.switch_driver.specs.declared.stage.Cue.{Cue}
-use Rattle.switch_driver.specs.declared.stage.Cue.TheVariants.{GoOn, Leave, Unheard, Untold}
+use Rattle.switch_driver.specs.declared.stage.Halt.{Halt}
+use Rattle.switch_driver.specs.declared.stage.Halt.TheVariants.{Left, Unheard, Untold}
 
 -- a transfer's number behind a space
 abbrev pub number_word : ℕ → List ℕ
@@ -37,26 +37,26 @@ pub record HasWaitedInVain (input_before input_after : Option (List ℕ)) : Type
 -- ended, or couldn't be read; or not all of the line could be told, and nothing was read. It is told
 -- over the same loan.
 abbrev pub HasToldLine : {I O : Type 0} → (I → Option (List ℕ)) → (O → Option (List ℕ)) → ℕ → List ℕ
-    → Cue → Lines I O → Lines I O → Type 0
-HasToldLine {I} {O} remaining contents setting numbers GoOn old new =
+    → Result (Unit {0}) Halt → Lines I O → Lines I O → Type 0
+HasToldLine {I} {O} remaining contents setting numbers (Ok done) old new =
     Appends (contents old.out.now) (contents new.out.now) (stage_line setting numbers)
     × (new.out.ghost_name ≡ old.out.ghost_name)
     × (IsTrue old.waits → HasWaited (remaining old.input.now) (remaining new.input.now) true)
     × (old.waits ≡ false → new.input ≡ old.input)
     × (new.waits ≡ old.waits)
-HasToldLine {I} {O} remaining contents setting numbers Leave old new =
+HasToldLine {I} {O} remaining contents setting numbers (Err Left) old new =
     Appends (contents old.out.now) (contents new.out.now) (stage_line setting numbers)
     × (new.out.ghost_name ≡ old.out.ghost_name)
     × IsTrue old.waits
     × HasWaited (remaining old.input.now) (remaining new.input.now) false
     × (new.waits ≡ old.waits)
-HasToldLine {I} {O} remaining contents setting numbers Unheard old new =
+HasToldLine {I} {O} remaining contents setting numbers (Err Unheard) old new =
     Appends (contents old.out.now) (contents new.out.now) (stage_line setting numbers)
     × (new.out.ghost_name ≡ old.out.ghost_name)
     × IsTrue old.waits
     × HasWaitedInVain (remaining old.input.now) (remaining new.input.now)
     × (new.waits ≡ old.waits)
-HasToldLine {I} {O} remaining contents setting numbers Untold old new =
+HasToldLine {I} {O} remaining contents setting numbers (Err Untold) old new =
     IsCutShort (contents old.out.now) (contents new.out.now) (stage_line setting numbers)
     × (new.out.ghost_name ≡ old.out.ghost_name)
     × (new.input ≡ old.input)
@@ -70,20 +70,20 @@ pub record Dialogue : Type 0 where
 -- What becomes of that where the line of a setting is told: it stands behind the others, and where
 -- one is waited for, a line was read, or the input ended, or couldn't be read; or, where it couldn't
 -- be told, a front of it stands there, and nothing was read.
-abbrev pub TellsLine : Bool → Dialogue → ℕ → List ℕ → Cue → Dialogue → Type 0
-TellsLine waits old setting numbers GoOn new =
+abbrev pub TellsLine : Bool → Dialogue → ℕ → List ℕ → Result (Unit {0}) Halt → Dialogue → Type 0
+TellsLine waits old setting numbers (Ok done) new =
     (new.told ≡ old.told ++ stage_line setting numbers)
     × (IsTrue waits → HasWaited old.left new.left true)
     × (waits ≡ false → new.left ≡ old.left)
-TellsLine waits old setting numbers Leave new =
+TellsLine waits old setting numbers (Err Left) new =
     (new.told ≡ old.told ++ stage_line setting numbers)
     × IsTrue waits
     × HasWaited old.left new.left false
-TellsLine waits old setting numbers Unheard new =
+TellsLine waits old setting numbers (Err Unheard) new =
     (new.told ≡ old.told ++ stage_line setting numbers)
     × IsTrue waits
     × HasWaitedInVain old.left new.left
-TellsLine waits old setting numbers Untold new =
+TellsLine waits old setting numbers (Err Untold) new =
     (front missing : List ℕ) × (stage_line setting numbers ≡ front ++ missing)
     × (new.told ≡ old.told ++ front)
     × (new.left ≡ old.left)

@@ -4,7 +4,7 @@ use Rattle.crossbar.specs.declared.chip.Chip.{Chip}
 use Rattle.crossbar.specs.declared.chip.Chip.TheVariants.{A, B}
 use Rattle.crossbar.specs.declared.traffic.Passing.{Passing}
 use Rattle.switch_driver.specs.Streams.{HasPassed}
-use Rattle.switch_driver.specs.Waking.{CameUp}
+use Rattle.switch_driver.specs.ComingUp.{CameUp}
 use Rattle.switch_driver.specs.declared.port.StreamPort.{StreamPort}
 use Rattle.switch_driver.specs.declared.port.SwitchLine.{SwitchLine}
 use Rattle.switch_driver.specs.declared.stream.SwitchStream.{SwitchStream}
@@ -24,7 +24,7 @@ fresh_port a b =
     record {
       a = fresh_line a;
       b = fresh_second b;
-      woke = [];
+      came_up = [];
       traffic = [];
       failed = 0;
       lost = None;
@@ -34,47 +34,57 @@ fresh_port a b =
 -- conversation.
 pub record LineCarries {I O : Type 0} (contents : O → Option (List ℕ))
     (remaining : I → Option (List ℕ)) (old new : SwitchLine I O)
-    (woke wakes before after : List Passing) : Type 0 where
+    (came_up comes_up before after : List Passing) : Type 0 where
   pub mid : SwitchStream I O
-  pub woken : HasPassed contents remaining old.stream mid woke wakes
-  pub once : IsTrue old.is_up → (mid ≡ old.stream) × (wakes ≡ woke)
+  pub came : HasPassed contents remaining old.stream mid came_up comes_up
+  pub once : IsTrue old.is_up → (mid ≡ old.stream) × (comes_up ≡ came_up)
   pub went : HasPassed contents remaining mid new.stream before after
+  -- unless it is up now, nothing passed then
+  pub down : (IsTrue new.is_up → ⊥) → (new.stream ≡ mid) × (after ≡ before)
+
+-- a switch came up, unless it had come up before
+abbrev pub CameUpOnce : Chip → Bool → List Passing → List Passing → Type 0
+CameUpOnce chip true before after = after ≡ before
+CameUpOnce chip false before after = CameUp chip before after
+
+-- a line says that its switch is up only where it came up, now or before
+abbrev pub IsUpOnce : {I O : Type 0} → Chip → SwitchLine I O → SwitchLine I O → List Passing
+    → List Passing → Type 0
+IsUpOnce chip old new before after = IsTrue new.is_up → CameUpOnce chip old.is_up before after
 
 -- the same of the second line, where there is one; else nothing passed
 abbrev pub SecondCarries : {I O : Type 0} → (O → Option (List ℕ)) → (I → Option (List ℕ))
     → Option (SwitchLine I O) → Option (SwitchLine I O) → List Passing → List Passing
     → List Passing → List Passing → Type 0
-SecondCarries contents remaining (Some old) (Some new) woke wakes before after =
-    LineCarries contents remaining old new woke wakes before after
-SecondCarries contents remaining None None woke wakes before after =
-    (wakes ≡ woke) × (after ≡ before)
-SecondCarries contents remaining (Some old) None woke wakes before after = ⊥
-SecondCarries contents remaining None (Some new) woke wakes before after = ⊥
+SecondCarries contents remaining (Some old) (Some new) came_up comes_up before after =
+    LineCarries contents remaining old new came_up comes_up before after
+    × IsUpOnce B old new came_up comes_up
+SecondCarries contents remaining None None came_up comes_up before after =
+    (comes_up ≡ came_up) × (after ≡ before)
+SecondCarries contents remaining (Some old) None came_up comes_up before after = ⊥
+SecondCarries contents remaining None (Some new) came_up comes_up before after = ⊥
 
 -- what a conversation with a chip leaves of the lines: this passed over that of the chip, and the
 -- other is as it was
 abbrev pub HasTried : {I O : Type 0} → (O → Option (List ℕ)) → (I → Option (List ℕ)) → Chip
     → StreamPort I O → StreamPort I O → Type 0
 HasTried contents remaining A old new =
-    LineCarries contents remaining old.a new.a old.woke new.woke old.traffic new.traffic
+    LineCarries contents remaining old.a new.a old.came_up new.came_up old.traffic new.traffic
+    × IsUpOnce A old.a new.a old.came_up new.came_up
     × (new.b ≡ old.b)
 HasTried contents remaining B old new =
-    SecondCarries contents remaining old.b new.b old.woke new.woke old.traffic new.traffic
+    SecondCarries contents remaining old.b new.b old.came_up new.came_up old.traffic new.traffic
     × (new.a ≡ old.a)
 
--- a switch came up, unless it had come up before
-abbrev pub WokeUp : Chip → Bool → List Passing → List Passing → Type 0
-WokeUp chip true before after = after ≡ before
-WokeUp chip false before after = CameUp chip before after
-
 -- so did the second one, and now it has
-abbrev pub SecondWokeUp : {I O : Type 0} → Option (SwitchLine I O) → Option (SwitchLine I O)
+abbrev pub SecondCameUp : {I O : Type 0} → Option (SwitchLine I O) → Option (SwitchLine I O)
     → List Passing → List Passing → Type 0
-SecondWokeUp (Some old) (Some new) before after = WokeUp B old.is_up before after × IsTrue new.is_up
-SecondWokeUp (Some old) None before after = ⊥
-SecondWokeUp None new before after = ⊥
+SecondCameUp (Some old) (Some new) before after =
+    CameUpOnce B old.is_up before after × IsTrue new.is_up
+SecondCameUp (Some old) None before after = ⊥
+SecondCameUp None new before after = ⊥
 
 -- so did the switch of the chip
-abbrev pub HasComeUp : {I O : Type 0} → Chip → StreamPort I O → StreamPort I O → Type 0
-HasComeUp A old new = WokeUp A old.a.is_up old.woke new.woke × IsTrue new.a.is_up
-HasComeUp B old new = SecondWokeUp old.b new.b old.woke new.woke
+abbrev pub PortCameUp : {I O : Type 0} → Chip → StreamPort I O → StreamPort I O → Type 0
+PortCameUp A old new = CameUpOnce A old.a.is_up old.came_up new.came_up × IsTrue new.a.is_up
+PortCameUp B old new = SecondCameUp old.b new.b old.came_up new.came_up

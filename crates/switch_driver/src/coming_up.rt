@@ -5,7 +5,7 @@ ghost use Rattle.std.specs.List.{range_with_len};
 ghost use Rattle.c004_commands.specs.declared.port.TheConstants.{PORTS as OUTPUTS};
 ghost use Rattle.crossbar.specs.Traffic.{conversed, heard_from};
 ghost use Rattle.switch_driver.specs.Streams.{HasPassed};
-ghost use Rattle.switch_driver.specs.Waking.{CameUp, answers_behind, answers_up_to, own_answer, own_joins};
+ghost use Rattle.switch_driver.specs.ComingUp.{CameUp, answers_behind, answers_up_to, own_answer, own_joins};
 
 use crate::stream::{StreamFault, SwitchStream, converse, hear};
 use c004_commands::{CONNECTED, OutputState, PORTS};
@@ -38,16 +38,17 @@ const ENDING: [u8; 3] = [3, 3, 4];
 pub(crate) fn come_up<I: Read, O: Write>(
     chip: Chip,
     stream: &mut SwitchStream<I, O>,
-    woke: &mut Traffic,
+    came_up: &mut Traffic,
 ) -> Result<(), StreamFault>
-    ensures passed { HasPassed O.contents I.remaining stream.old stream.new woke.old woke.new }
-    ensures up { OnOk result (CameUp chip woke.old woke.new) }
+    ensures passed { HasPassed O.contents I.remaining stream.old stream.new
+        came_up.old came_up.new }
+    ensures up { OnOk result (CameUp chip came_up.old came_up.new) }
 {
-    converse(chip, &ENDING, &mut [], stream, woke)?;
-    join_own(chip, stream, woke)?;
+    converse(chip, &ENDING, &mut [], stream, came_up)?;
+    join_own(chip, stream, came_up)?;
     let mut first = [0; ASKED];
-    converse(chip, &enquiry_bytes(), &mut first, stream, woke)?;
-    hear_behind(chip, &first, stream, woke)
+    converse(chip, &enquiry_bytes(), &mut first, stream, came_up)?;
+    hear_behind(chip, &first, stream, came_up)
 }
 
 /// Joins each output to the input of its own number. The sequence isn't ended, so nothing passes
@@ -55,13 +56,14 @@ pub(crate) fn come_up<I: Read, O: Write>(
 fn join_own<I: Read, O: Write>(
     chip: Chip,
     stream: &mut SwitchStream<I, O>,
-    woke: &mut Traffic,
+    came_up: &mut Traffic,
 ) -> Result<(), StreamFault>
-    ensures passed { HasPassed O.contents I.remaining stream.old stream.new woke.old woke.new }
-    ensures joined { OnOk result (woke.new ≡ woke.old ++ conversed chip own_joins []) }
+    ensures passed { HasPassed O.contents I.remaining stream.old stream.new
+        came_up.old came_up.new }
+    ensures joined { OnOk result (came_up.new ≡ came_up.old ++ conversed chip own_joins []) }
 {
     for number in 0..PORTS {
-        converse(chip, &[0, number, number], &mut [], stream, woke)?;
+        converse(chip, &[0, number, number], &mut [], stream, came_up)?;
     }
     Ok(())
 }
@@ -80,19 +82,20 @@ fn hear_behind<I: Read, O: Write>(
     chip: Chip,
     first: &[u8; ASKED],
     stream: &mut SwitchStream<I, O>,
-    woke: &mut Traffic,
+    came_up: &mut Traffic,
 ) -> Result<(), StreamFault>
-    ensures passed { HasPassed O.contents I.remaining stream.old stream.new woke.old woke.new }
+    ensures passed { HasPassed O.contents I.remaining stream.old stream.new
+        came_up.old came_up.new }
     ensures heard { OnOk result ((output : ℕ) × (output < OUTPUTS)
         × (drop (OUTPUTS - 1 - output) first.now ≡ answers_up_to output)
-        × (woke.new ≡ woke.old ++ heard_from chip (answers_behind output))) }
+        × (came_up.new ≡ came_up.old ++ heard_from chip (answers_behind output))) }
 {
     let Ok(state) = OutputState::read(first[ASKED - 1]) else {
         return Err(foreign(chip));
     };
     match state {
         OutputState::Connected(input) if are_own(first, input.get()) => {
-            hear_from(chip, input.get() + 1, stream, woke)
+            hear_from(chip, input.get() + 1, stream, came_up)
         }
         _ => Err(foreign(chip)),
     }
@@ -103,15 +106,16 @@ fn hear_from<I: Read, O: Write>(
     chip: Chip,
     first: u8,
     stream: &mut SwitchStream<I, O>,
-    woke: &mut Traffic,
+    came_up: &mut Traffic,
 ) -> Result<(), StreamFault>
     requires { first ≤ OUTPUTS }
-    ensures passed { HasPassed O.contents I.remaining stream.old stream.new woke.old woke.new }
-    ensures heard { OnOk result (woke.new ≡ woke.old
+    ensures passed { HasPassed O.contents I.remaining stream.old stream.new
+        came_up.old came_up.new }
+    ensures heard { OnOk result (came_up.new ≡ came_up.old
         ++ heard_from chip (map own_answer (range_with_len first (OUTPUTS - first)))) }
 {
     for output in first..PORTS {
-        let came = hear(chip, &mut stream.reader, woke)?;
+        let came = hear(chip, &mut stream.reader, came_up)?;
         if came != CONNECTED + output {
             return Err(foreign(chip));
         }

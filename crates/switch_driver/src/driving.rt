@@ -7,13 +7,12 @@ ghost use Rattle.switch_settings.specs.RackWirings.{wired_in};
 ghost use Rattle.switch_settings.specs.Racks.{HasModulesOf};
 ghost use Rattle.switch_driver.specs.Driving.{IsDriven, HasDriveCause};
 
-use crate::fault::SettingFault;
 use crate::setting::set_rack;
-use crate::stage::{Cue, Stage};
+use crate::stage::{Halt, Stage};
 use batch::Batch;
 use crossbar::ConfigPort;
 use link_graph::Schedule;
-use switch_settings::{PairList, RackWiring, numbers_of_setting};
+use switch_settings::{PairList, RackWiring, SettingFault, numbers_of_setting};
 
 /// How the settings of a schedule were put on the switches. Settings are counted from 0.
 #[derive(Clone, Copy, Debug, PartialEq, Eq)]
@@ -22,12 +21,8 @@ pub enum Driven {
     Completed { settings: usize },
     /// The switches couldn't be set to this setting.
     Stopped { setting: usize, fault: SettingFault },
-    /// This setting stands, and no other is wanted.
-    Left { setting: usize },
-    /// This setting stands, and it couldn't be heard whether another is wanted.
-    Unheard { setting: usize },
-    /// This setting stands, and couldn't be told.
-    Untold { setting: usize },
+    /// This setting stands, and no other comes.
+    Halted { setting: usize, halt: Halt },
 }
 
 /// Puts the settings of a schedule on the switches of a rack that is wired so, one after another,
@@ -65,11 +60,8 @@ pub fn drive<P: ConfigPort, S: Stage>(
         if let Err(fault) = set_rack(port, rack, &standing, pairs.as_slice()) {
             return Driven::Stopped { setting, fault };
         }
-        match stage.stands(setting, numbers) {
-            Cue::GoOn => {}
-            Cue::Leave => return Driven::Left { setting },
-            Cue::Unheard => return Driven::Unheard { setting },
-            Cue::Untold => return Driven::Untold { setting },
+        if let Err(halt) = stage.stands(setting, numbers) {
+            return Driven::Halted { setting, halt };
         }
         standing = Some(pairs);
     }

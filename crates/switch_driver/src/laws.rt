@@ -1,6 +1,8 @@
 //! Laws of what replies mean, of where a switch is led, and of how it comes up. They make no call.
 
-ghost use Rattle.switch_driver.specs.Laws.{ComesUp, DrivenTurns, RepliesTell};
+ghost use Rattle.switch_driver.specs.Laws.{ComesUp, DrivenIsSent, DrivenTurns, RepliesTell};
+
+use crate::stage::Stage;
 
 /// A switch that answers the enquiries of all outputs by the INMOS IMS C004 data sheet, and as
 /// pairs call for, joins just what the pairs call for, once it was sent the end of the sequence
@@ -14,6 +16,13 @@ pub fn replies_tell()
 /// turns it into that of the last of these settings, whatever it was.
 pub fn driven_turns()
     ensures { DrivenTurns }
+{}
+
+/// What passes while settings of a schedule are driven is that: by it each switch of the rack is
+/// sent the bytes of these commands, setting by setting, and nothing between them. So it is of the
+/// settings before one that stopped.
+pub fn driven_is_sent<S: Stage>()
+    ensures { DrivenIsSent S.hears }
 {}
 
 /// Whatever command a switch stands in, and whichever answers stand in its line, at most 31 with the

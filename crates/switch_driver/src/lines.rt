@@ -4,7 +4,7 @@ ghost use Rattle.std.specs.Prelude.{◌≡◌, ◌≤◌, length, IfOk, OnErr};
 ghost use Rattle.batch.specs.declared.limits.TheConstants.{MAX_MODULES};
 ghost use Rattle.switch_driver.specs.Lines.{stage_line, HasWaited, HasWaitedInVain};
 
-use crate::stage::{Cue, Stage};
+use crate::stage::{Halt, Stage};
 use byte_streams::{read_byte, write_bytes};
 use line_words::Line;
 use std::io;
@@ -78,6 +78,7 @@ fn wait_line<I: Read>(reader: &mut I) -> io::Result<bool>
     ensures vain { OnErr result
         (HasWaitedInVain (I.remaining reader.old) (I.remaining reader.new)) }
 {
+    // More turns than anybody waits for: so the call is proved to return.
     for _ in 0..u64::MAX {
         match read_byte(reader)? {
             Some(b'\n') => return Ok(true),
@@ -91,24 +92,24 @@ fn wait_line<I: Read>(reader: &mut I) -> io::Result<bool>
 impl<I: Read, O: Write> Stage for Lines<'_, I, O> {
     ghost use Rattle.switch_driver.specs.Lines.{HasToldLine};
 
-    ghost hears = { λ old setting numbers cue new.
-        HasToldLine I.remaining O.contents setting numbers cue old new };
+    ghost hears = { λ old setting numbers said new.
+        HasToldLine I.remaining O.contents setting numbers said old new };
 
-    fn stands(&mut self, setting: usize, numbers: &[usize]) -> Cue {
+    fn stands(&mut self, setting: usize, numbers: &[usize]) -> Result<(), Halt> {
         let line = line_of(setting, numbers);
         if let Err(why) = write_bytes(self.out, line.as_bytes()) {
             self.reason = Some(why);
-            return Cue::Untold;
+            return Err(Halt::Untold);
         }
         if !self.waits {
-            return Cue::GoOn;
+            return Ok(());
         }
         match wait_line(self.input) {
-            Ok(true) => Cue::GoOn,
-            Ok(false) => Cue::Leave,
+            Ok(true) => Ok(()),
+            Ok(false) => Err(Halt::Left),
             Err(why) => {
                 self.reason = Some(why);
-                Cue::Unheard
+                Err(Halt::Unheard)
             }
         }
     }

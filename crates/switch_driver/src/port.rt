@@ -3,12 +3,12 @@
 ghost use Rattle.std.specs.Prelude.{◌≡◌, ◌+◌, Some, length, IsTrue, false, OnOk, OnErr};
 ghost use Rattle.crossbar.specs.Port.{IsConversation};
 ghost use Rattle.crossbar.specs.Traffic.{HaveConversed, BreaksOff};
-ghost use Rattle.switch_driver.specs.Ports.{HasComeUp, HasTried, LineCarries, WokeUp, fresh_port};
+ghost use Rattle.switch_driver.specs.Ports.{PortCameUp, HasTried, IsUpOnce, LineCarries, fresh_port};
 ghost use Rattle.switch_driver.specs.Streams.{HasPassed};
 
 use crate::coming_up::come_up;
 use crate::stream::{StreamFault, SwitchStream, converse};
-use contract_data::FailureCount;
+use byte_streams::FailureCount;
 use crossbar::{Chip, ConfigPort, PortFault, Traffic};
 use std::io;
 use std::io::{ErrorKind, Read, Write};
@@ -34,18 +34,18 @@ impl<I, O> SwitchLine<I, O> {
 
 impl<I: Read, O: Write> SwitchLine<I, O> {
     /// Brings the switch up, unless it has come up. What passes is noted.
-    fn rise(&mut self, chip: Chip, woke: &mut Traffic) -> Result<(), StreamFault>
+    fn bring_up(&mut self, chip: Chip, came_up: &mut Traffic) -> Result<(), StreamFault>
         ensures passed { HasPassed O.contents I.remaining self.old.stream self.new.stream
-            woke.old woke.new }
+            came_up.old came_up.new }
         ensures once { IsTrue self.old.is_up →
-            (self.new.stream ≡ self.old.stream) × (woke.new ≡ woke.old) }
-        ensures up { OnOk result (WokeUp chip self.old.is_up woke.old woke.new) }
+            (self.new.stream ≡ self.old.stream) × (came_up.new ≡ came_up.old) }
+        ensures up { IsUpOnce chip self.old self.new came_up.old came_up.new }
         ensures is_up { OnOk result (IsTrue self.new.is_up) }
     {
         if self.is_up {
             return Ok(());
         }
-        come_up(chip, &mut self.stream, woke)?;
+        come_up(chip, &mut self.stream, came_up)?;
         self.is_up = true;
         Ok(())
     }
@@ -57,20 +57,20 @@ impl<I: Read, O: Write> SwitchLine<I, O> {
         chip: Chip,
         bytes: &[u8],
         replies: &mut [u8],
-        woke: &mut Traffic,
+        came_up: &mut Traffic,
         traffic: &mut Traffic,
     ) -> Result<(), StreamFault>
         requires { IsConversation bytes.now (length replies.old) }
-        ensures carried { LineCarries O.contents I.remaining self.old self.new woke.old woke.new
-            traffic.old traffic.new }
-        ensures up { OnOk result (WokeUp chip self.old.is_up woke.old woke.new) }
+        ensures carried { LineCarries O.contents I.remaining self.old self.new
+            came_up.old came_up.new traffic.old traffic.new }
+        ensures up { IsUpOnce chip self.old self.new came_up.old came_up.new }
         ensures is_up { OnOk result (IsTrue self.new.is_up) }
         ensures whole { OnOk result
             (HaveConversed chip bytes.now replies.new (Some traffic.old) (Some traffic.new)) }
         ensures broken { OnErr result
             (BreaksOff chip bytes.now (Some traffic.old) (Some traffic.new)) }
     {
-        self.rise(chip, woke)?;
+        self.bring_up(chip, came_up)?;
         converse(chip, bytes, replies, &mut self.stream, traffic)
     }
 }
@@ -85,7 +85,7 @@ impl<I: Read, O: Write> SwitchLine<I, O> {
 pub struct StreamPort<I, O> {
     a: SwitchLine<I, O>,
     b: Option<SwitchLine<I, O>>,
-    woke: Traffic,
+    came_up: Traffic,
     traffic: Traffic,
     failed: FailureCount,
     lost: Option<StreamFault>,
@@ -103,7 +103,7 @@ impl<I, O> StreamPort<I, O> {
         StreamPort {
             a: SwitchLine::new(a),
             b,
-            woke: Traffic::none(),
+            came_up: Traffic::none(),
             traffic: Traffic::none(),
             failed: FailureCount::zero(),
             lost: None,
@@ -142,17 +142,17 @@ impl<I: Read, O: Write> StreamPort<I, O> {
     ) -> Result<(), StreamFault>
         requires { IsConversation bytes.now (length replies.old) }
         ensures tried { HasTried O.contents I.remaining chip self.old self.new }
-        ensures up { OnOk result (HasComeUp chip self.old self.new) }
+        ensures up { OnOk result (PortCameUp chip self.old self.new) }
         ensures went { OnOk result (HaveConversed chip bytes.now replies.new
             (Some self.old.traffic) (Some self.new.traffic)) }
         ensures broken { OnErr result (BreaksOff chip bytes.now
             (Some self.old.traffic) (Some self.new.traffic)) }
         ensures failed { self.new.failed ≡ self.old.failed }
     {
-        let (woke, traffic) = (&mut self.woke, &mut self.traffic);
+        let (came_up, traffic) = (&mut self.came_up, &mut self.traffic);
         match (chip, &mut self.b) {
-            (Chip::A, _) => self.a.converse(chip, bytes, replies, woke, traffic),
-            (Chip::B, Some(b)) => b.converse(chip, bytes, replies, woke, traffic),
+            (Chip::A, _) => self.a.converse(chip, bytes, replies, came_up, traffic),
+            (Chip::B, Some(b)) => b.converse(chip, bytes, replies, came_up, traffic),
             (Chip::B, None) => {
                 let none = io::Error::from(ErrorKind::NotConnected);
                 Err(StreamFault::to(chip, none))
@@ -178,7 +178,7 @@ impl<I: Read, O: Write> ConfigPort for StreamPort<I, O> {
     fn converse(&mut self, chip: Chip, bytes: &[u8], replies: &mut [u8]) -> Result<(), PortFault>
         requires { IsConversation bytes.now (length replies.old) }
         ensures tried { HasTried O.contents I.remaining chip self.old self.new }
-        ensures up { OnOk result (HasComeUp chip self.old self.new) }
+        ensures up { OnOk result (PortCameUp chip self.old self.new) }
         ensures passed { OnOk result (HaveConversed chip bytes.now replies.new
             (Some self.old.traffic) (Some self.new.traffic)) }
         ensures broken { OnErr result (BreaksOff chip bytes.now

@@ -1,6 +1,6 @@
-//! A setting is put on the switches of a rack, which are asked whether they stand so.
+//! A drive puts a setting on the switches of a rack, and asks them whether they stand so.
 
-ghost use Rattle.std.specs.Prelude.{◌≡◌, ◌≢◌, ◌≤◌, ◌<◌, ◌∷◌, ◌↔◌, [], Some, IsTrue, length, OnOk, OnErr, IfOk, IfErr, IfSome};
+ghost use Rattle.std.specs.Prelude.{◌≡◌, ◌≢◌, ◌≤◌, ◌<◌, ◌∷◌, ◌↔◌, [], Some, IsTrue, true, length, OnOk, OnErr, IfOk, IfErr};
 ghost use Rattle.std.specs.Option.{option_to_list};
 ghost use Rattle.std.specs.FinMap as map;
 ghost use Rattle.c004_commands.specs.Answers.{answer_byte};
@@ -10,17 +10,15 @@ ghost use Rattle.crossbar.specs.Pairs.{ArePairs, room_of, switch_of};
 ghost use Rattle.crossbar.specs.Switch.{after, answer, enquiries};
 ghost use Rattle.crossbar.specs.Traffic.{Passes, PassesFront, conversed};
 ghost use Rattle.crossbar.specs.declared.chip.Chip.TheVariants.{A};
-ghost use Rattle.switch_settings.specs.Answers.{IsStandingAt, Reports};
-ghost use Rattle.switch_settings.specs.Asking.{turned};
+ghost use Rattle.switch_settings.specs.Answers.{AllAgree, AreBothSet, AreBothStanding, IsSettingFault, IsStandingAt};
+ghost use Rattle.switch_settings.specs.Asking.{AreDone, BreakOff, HasReplied, IsUnanswered, wirings};
 ghost use Rattle.switch_settings.specs.RackWirings.{AreSetIn, AreStandingIn, wired_in};
-ghost use Rattle.switch_settings.specs.Sending.{turning};
-ghost use Rattle.switch_driver.specs.Steps.{AreDone, AreBothSet, AreBothStanding, BreakOff, HasReplied, HasStopped, IsSettingFault, Stands, IsUnanswered, both_steps, one_steps};
-ghost use Rattle.switch_driver.specs.declared.fault.SettingFault.TheVariants.{Port};
+ghost use Rattle.switch_settings.specs.declared.fault.SettingFault.TheVariants.{Port};
+ghost use Rattle.switch_driver.specs.Steps.{HasStopped, Stands, settled_steps};
 
-use crate::fault::{Disagreement, SettingFault};
-use c004_commands::{Command, LONGEST_COMMAND, OutputState, PORTS, PortNo, write};
-use crossbar::{Chip, ConfigPort, JOINED_MODULES, MemoryPort, Pair, PortFault, Wiring};
-use switch_settings::{PairList, RackWiring, WIDE_CHANGE_BYTES, bytes_for};
+use c004_commands::{Command, LONGEST_COMMAND, PORTS, PortNo, write};
+use crossbar::{Chip, ConfigPort, JOINED_MODULES, Pair, PortFault, Wiring};
+use switch_settings::{PairList, RackWiring, SettingFault, judge, port_of, turn, wanted_switch};
 
 /// Sets the switches of a rack to the pairs, from the pairs that stand if they are known, and asks
 /// all outputs whether they are so set. Each reply is judged as it comes. Then the switches are
@@ -86,9 +84,11 @@ fn set_one<P: ConfigPort>(
         (IsSettingFault (P.failures port.old) (P.failures port.new) (P.honest port.old)) }
     ensures unfailed { OnOk result (P.failures port.new ≡ P.failures port.old) }
     ensures honesty { P.honest port.new ≡ P.honest port.old }
-    ensures done { OnOk result (AreDone standing.now pairs.now (one_steps wiring)
+    ensures done { OnOk result
+        (AreDone standing.now pairs.now (settled_steps ((A, wiring) ∷ []))
         (P.passed port.old) (P.passed port.new)) }
-    ensures vain { IfErr result (λ fault. BreakOff fault standing.now pairs.now (one_steps wiring)
+    ensures vain { IfErr result (λ fault.
+        BreakOff fault standing.now pairs.now (settled_steps ((A, wiring) ∷ []))
         (P.passed port.old) (P.passed port.new)) }
 {
     turn(port, Chip::A, wiring, standing, pairs)?;
@@ -111,9 +111,11 @@ fn set_both<P: ConfigPort>(
         (IsSettingFault (P.failures port.old) (P.failures port.new) (P.honest port.old)) }
     ensures unfailed { OnOk result (P.failures port.new ≡ P.failures port.old) }
     ensures honesty { P.honest port.new ≡ P.honest port.old }
-    ensures done { OnOk result (AreDone standing.now pairs.now both_steps
+    ensures done { OnOk result
+        (AreDone standing.now pairs.now (settled_steps (wirings true))
         (P.passed port.old) (P.passed port.new)) }
-    ensures vain { IfErr result (λ fault. BreakOff fault standing.now pairs.now both_steps
+    ensures vain { IfErr result (λ fault.
+        BreakOff fault standing.now pairs.now (settled_steps (wirings true))
         (P.passed port.old) (P.passed port.new)) }
 {
     turn(port, Chip::A, Wiring::Forth, standing, pairs)?;
@@ -123,32 +125,6 @@ fn set_both<P: ConfigPort>(
     settle(port, Chip::A)?;
     settle(port, Chip::B)?;
     Ok(())
-}
-
-/// Sends a switch the bytes that set it to the pairs.
-fn turn<P: ConfigPort>(
-    port: &mut P,
-    chip: Chip,
-    wiring: Wiring,
-    standing: &Option<PairList>,
-    pairs: &[Pair],
-) -> Result<(), PortFault>
-    requires pairs { ArePairs (room_of wiring) pairs.now }
-    requires standing { IsStandingAt chip wiring
-        (P.honest port.old) (P.switches port.old) standing.now }
-    ensures set { OnOk result (IsTrue (P.honest port.old) →
-        P.switches port.new ≡ put_switch chip (switch_of wiring pairs.now) (P.switches port.old)) }
-    ensures fault { OnErr result (P.failures port.old < P.failures port.new) }
-    ensures unfailed { OnOk result (P.failures port.new ≡ P.failures port.old) }
-    ensures honesty { P.honest port.new ≡ P.honest port.old }
-    ensures passed { OnOk result (Passes (P.passed port.old) (P.passed port.new)
-        (turned chip wiring standing.now pairs.now)) }
-    ensures broken { OnErr result (PassesFront chip (turning wiring standing.now pairs.now)
-        (P.passed port.old) (P.passed port.new)) }
-{
-    let mut bytes = [0; WIDE_CHANGE_BYTES];
-    let number = bytes_for(wiring, standing, pairs, &mut bytes);
-    port.converse(chip, &bytes[..number], &mut [])
 }
 
 /// Asks all outputs of a switch in order, up to the first whose reply isn't what the pairs call
@@ -161,7 +137,8 @@ fn ask_all<P: ConfigPort>(
 ) -> Result<(), SettingFault>
     requires { ArePairs (room_of wiring) pairs.now }
     ensures replied { OnOk result
-        (HasReplied chip wiring pairs.now (P.passed port.old) (P.passed port.new)) }
+        (HasReplied chip (AllAgree (switch_of wiring pairs.now))
+        (P.passed port.old) (P.passed port.new)) }
     ensures vain { IfErr result (λ fault.
         IsUnanswered fault chip wiring pairs.now (P.passed port.old) (P.passed port.new)) }
     ensures unmoved { OnOk result (IsTrue (P.honest port.old) →
@@ -175,69 +152,13 @@ fn ask_all<P: ConfigPort>(
     ensures unfailed { OnOk result (P.failures port.new ≡ P.failures port.old) }
     ensures honesty { P.honest port.new ≡ P.honest port.old }
 {
-    let twin = twin_of(wiring, pairs);
+    let wanted = wanted_switch(wiring, pairs);
     for number in 0..PORTS {
-        let wanted = source_in(&twin, number);
-        let came = enquire(port, chip, port_of(number))?;
-        if !reports(wanted, came) {
-            return Err(SettingFault::Switch(Disagreement {
-                chip,
-                output: number,
-                wanted,
-                came,
-            }));
-        }
+        let output = port_of(number);
+        let came = enquire(port, chip, output)?;
+        judge(chip, &wanted, output, came)?;
     }
     Ok(())
-}
-
-/// A switch in memory that has been set to the pairs, as the first of its port.
-fn twin_of(wiring: Wiring, pairs: &[Pair]) -> MemoryPort
-    requires { ArePairs (room_of wiring) pairs.now }
-    ensures { switch_at A result ≡ switch_of wiring pairs.now }
-{
-    let mut bytes = [0; WIDE_CHANGE_BYTES];
-    let number = bytes_for(wiring, &None, pairs, &mut bytes);
-    let mut twin = MemoryPort::new();
-    let _ = twin.converse(Chip::A, &bytes[..number], &mut []);
-    twin
-}
-
-/// The input that feeds this output of the first switch of a port in memory, if one does.
-fn source_in(port: &MemoryPort, output: u8) -> Option<u8>
-    requires { output < PORTS }
-    ensures source { result ≡ map.get (switch_at A port.now).sources output }
-    ensures range { IfSome result (λ input. input < PORTS) }
-{
-    match port.crossbar(Chip::A).source_of(port_of(output)) {
-        Some(input) => Some(input.get()),
-        None => None,
-    }
-}
-
-/// The port of a switch of this number.
-fn port_of(number: u8) -> PortNo
-    requires { number < PORTS }
-    ensures { result ≡ number }
-{
-    let Some(port) = PortNo::new(number) else {
-        unreachable!();
-    };
-    port
-}
-
-/// Whether a reply says that this input feeds the output, or that none does.
-fn reports(wanted: Option<u8>, reply: u8) -> bool
-    requires { IfSome wanted (λ input. input < PORTS) }
-    ensures { IsTrue result ↔ Reports wanted reply }
-{
-    let Ok(state) = OutputState::read(reply) else {
-        return false;
-    };
-    match state {
-        OutputState::Connected(input) => wanted == Some(input.get()),
-        OutputState::Loose => wanted.is_none(),
-    }
 }
 
 /// Asks an output of a switch, and gives its reply.

@@ -1,5 +1,5 @@
 -- The pairs of a setting: as the list of its transfers, and as a table by initiators.
-use Rattle.std.proofs.Common.{◌≡◌, ◌≢◌, ◌<◌, ◌≤◌, ◌+◌, ◌⊎◌, inl, inr, ℕ, true, zero, suc, List, [], ◌∷◌, ◌++◌, map, length, take, get_or, set, replicate, length-set, refl, sym, ap, ap₂, ◌∙◌, subst, arith, Option, Some, None, get_or-set_same, get_or-set_other}
+use Rattle.std.proofs.Common.{◌≡◌, ◌≢◌, ◌<◌, ◌≤◌, ◌+◌, ◌⊎◌, inl, inr, ℕ, Bool, true, false, cond, zero, suc, List, [], ◌∷◌, ◌++◌, map, length, take, get_or, set, replicate, length-set, refl, sym, ap, ap₂, ◌∙◌, subst, arith, Option, Some, None, get_or-set_same, get_or-set_other}
 use Rattle.std.specs.Prelude.{All}
 use Rattle.std.specs.Ordering.{nat_cmp}
 use Rattle.std.specs.Cmp.{nat_cmp_total}
@@ -8,7 +8,6 @@ use Rattle.std.specs.FinMap.{find, get-from_entries}
 use Rattle.std.specs.Option.{option_or}
 use Rattle.c004_commands.specs.declared.port.TheConstants.{PORTS}
 use Rattle.crossbar.proofs.Latches.{find_here, find_not}
-use Rattle.switch_settings.proofs.Sources.{found_append}
 use Rattle.std.specs.Prelude.{sum_by}
 use Rattle.std.specs.List.{range_with_len}
 use Rattle.std.proofs.lemmas.Bool.{cases_eq, cases_lt}
@@ -39,6 +38,15 @@ use Rattle.link_graph.proofs.Sums.{later, first_with, hit, swap, sum_ones, sum_a
 use Rattle.switch_settings.specs.Racks.{HasModulesOf}
 use Rattle.switch_settings.specs.Settings.{joined_pair, setting_pairs}
 use Rattle.switch_settings.specs.Tables.{table_pairs}
+
+some_first : (b : Bool) (x : ℕ) (f g h : Option ℕ) → f ≡ option_or g h → cond b (Some x) f ≡ option_or (cond b (Some x) g) h
+some_first true x f g h e = refl
+some_first false x f g h e = e
+
+-- what is found among entries and others behind them
+found_append : (o : ℕ) (es fs : List (ℕ × ℕ)) → find nat_cmp o (es ++ fs) ≡ option_or (find nat_cmp o es) (find nat_cmp o fs)
+found_append o [] fs = refl
+found_append o (e ∷ es) fs = some_first _ e.1 _ _ _ (found_append o es fs)
 
 abbrev pub joined : ℕ → ℕ → Pair
 joined i r = record { initiator = i; responder = r }

@@ -1,11 +1,11 @@
 pub mod Counting
 pub mod PairCommands
-pub mod Sources
 pub mod Replies
 pub mod Padding
 pub mod Joined
 pub mod InOrder
 pub mod Turning
 pub mod Asking
+pub mod Steps
 pub mod Schedules
 pub mod Racks

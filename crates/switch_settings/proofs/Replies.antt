@@ -18,7 +18,10 @@ use Rattle.crossbar.specs.declared.chip.Chip.{Chip}
 use Rattle.crossbar.specs.declared.chip.Chip.TheVariants.{A, B}
 use Rattle.crossbar.specs.declared.pair.Pair.{Pair}
 use Rattle.switch_settings.specs.Pairs.{Turns, all_enquiries}
-use Rattle.switch_settings.specs.Answers.{Reports, Agrees}
+use Rattle.switch_settings.specs.Answers.{Reports, Agrees, Disagrees, Misses, seen}
+use Rattle.switch_settings.specs.declared.fault.Disagreement.{Disagreement}
+use Rattle.switch_settings.specs.declared.fault.SettingFault.{SettingFault}
+use Rattle.switch_settings.specs.declared.fault.SettingFault.TheVariants.{Port, Switch as Disagreed}
 use Rattle.c004_commands.specs.declared.port.TheConstants.{PORTS}
 
 some_enquiries : (a n : ℕ) → a + n ≤ PORTS → AreCommands (map Enquire (range_with_len a n))
@@ -90,3 +93,13 @@ unnot false e = absurd (false≢true e)
 pub loose_reports : (o : Option ℕ) (reply : ℕ) (b : Bool) → is_some o ≡ not b → reply < 128 → IsTrue b ↔ Reports o reply
 loose_reports None reply b e low = (λ t. low, λ says. unnot b e)
 loose_reports (Some i) reply b e low = (λ t. absurd (false≢true (sym (ap not t) ∙ sym e)), λ says. absurd (omega arith))
+
+-- what is missed where a reply is the first that doesn't agree
+pub missed : (fault : SettingFault) (chip : Chip) (switch wanted : Switch) (replies : List ℕ) (number output : ℕ) → wanted ≡ switch → output ≡ number → number < PORTS → fault ≡ Disagreed (seen chip wanted output (get_or replies number 0)) → (Agrees wanted output (get_or replies number 0) → ⊥)
+    → ((before : ℕ) → before < number → Agrees wanted before (get_or replies before 0)) → Misses chip switch replies fault
+missed fault chip switch wanted replies number output e f lt is differs agree =
+    rw (is, e, f) (refl, record { known = lt; differs = rw (e, f) at differs; agree = rw e at agree })
+
+pub disagreed : (fault : SettingFault) (chip : Chip) (switch : Switch) (replies : List ℕ) → Misses chip switch replies fault → (found : Disagreement) × (fault ≡ Disagreed found) × Disagrees found chip switch replies
+disagreed Port chip switch replies misses = absurd misses
+disagreed (Disagreed found) chip switch replies misses = (found, refl, misses)

@@ -1,15 +1,16 @@
 -- The settings of a schedule, put on the switches one after another.
-use Rattle.std.proofs.Common.{◌≡◌, ◌<◌, ◌+◌, ◌++◌, inl, inr, ℕ, zero, suc, Bool, true, false, List, [], Option, Some, None, refl, sym, ap, ap₂, ◌∙◌, arith, add-one, append-nil}
+use Rattle.std.proofs.Common.{◌≡◌, ◌<◌, ◌≤◌, ◌+◌, ◌++◌, inl, inr, ℕ, zero, suc, Bool, true, false, List, [], Option, Some, None, refl, sym, ap, ap₂, ◌∙◌, arith, add-one, append-nil}
 use Rattle.std.proofs.lemmas.Bool.{cases_lt, false≢true}
+use Rattle.std.proofs.lemmas.Bool.Decides.{nat_tests}
 use Rattle.std.proofs.lemmas.List.{flat_map_more}
 use Rattle.std.proofs.lemmas.List.Concat.{flat_map-append}
 use Rattle.std.specs.List.{flat_map, range_with_len}
-use Rattle.std.specs.Prelude.{◌↔◌, IsTrue}
+use Rattle.std.specs.Prelude.{◌↔◌, IsTrue, nat_lt}
 use Rattle.batch.proofs.Lists.{range_more}
 use Rattle.batch.specs.declared.transfer.Transfer.{Transfer}
 use Rattle.c004_commands.specs.Commands.{row, text}
 use Rattle.c004_commands.specs.declared.command.Command.{Command}
-use Rattle.crossbar.proofs.Conversed.{bytes_to-append, conversed_bytes}
+use Rattle.crossbar.proofs.Conversed.{bytes_to-append}
 use Rattle.crossbar.specs.Traffic.{Passes, bytes_to}
 use Rattle.crossbar.specs.declared.chip.Chip.{Chip}
 use Rattle.crossbar.specs.declared.chip.Chip.TheVariants.{A, B}
@@ -19,7 +20,8 @@ use Rattle.crossbar.specs.declared.pair.Pair.{Pair}
 use Rattle.crossbar.specs.declared.switch.TheConstants.{JOINED_MODULES}
 use Rattle.crossbar.specs.declared.traffic.Passing.{Passing}
 use Rattle.switch_settings.proofs.Asking.{passes_then}
-use Rattle.switch_settings.specs.Asking.{turned, asked, set_one, set_both, HaveReplied}
+use Rattle.switch_settings.proofs.Steps.{steps_sent, two_texts}
+use Rattle.switch_settings.specs.Asking.{HaveReplied, asked_steps, wirings}
 use Rattle.switch_settings.specs.Pairs.{all_enquiries}
 use Rattle.switch_settings.specs.Racks.{IsAsWide, is_wide}
 use Rattle.switch_settings.specs.Schedules.{HaveAllReplied, EachIsSent, sent_and_asked, sent_and_asked_first}
@@ -59,44 +61,28 @@ same_sent : (wide : Bool) (c d : Wiring → List Command) (xs : List Passing) �
 same_sent true c d xs e p = (p.0 ∙ ap text (e Forth), p.1 ∙ ap text (e Back))
 same_sent false c d xs e p = (p.0 ∙ ap text (e Both), p.1)
 
--- a setting of one switch
-one_sent : (standing : Option (List Pair)) (pairs : List Pair) (replies : List ℕ) → EachIsSent false (λ w. turning w standing pairs ++ all_enquiries) (set_one Both standing pairs replies)
-one_sent standing pairs replies =
-    let cs = turning Both standing pairs in
-    let xs = turned A Both standing pairs in
-    let ys = asked A replies in (
-      both_texts A xs ys cs all_enquiries (conversed_bytes A A cs []) (conversed_bytes A A all_enquiries replies),
-      both_bytes B xs ys [] [] (conversed_bytes B A cs []) (conversed_bytes B A all_enquiries replies),
-    )
-
--- a setting of two
-two_sent : (standing : Option (List Pair)) (pairs : List Pair) (of_a of_b : List ℕ) → EachIsSent true (λ w. turning w standing pairs ++ all_enquiries) (set_both standing pairs of_a of_b)
-two_sent standing pairs of_a of_b =
-    let cs = turning Forth standing pairs in
-    let ds = turning Back standing pairs in
-    let xs = turned A Forth standing pairs in
-    let ys = turned B Back standing pairs in
-    let es = text all_enquiries in
-    let asked_a = both_bytes A (asked A of_a) (asked B of_b) es [] (conversed_bytes A A all_enquiries of_a) (conversed_bytes A B all_enquiries of_b) ∙ append-nil es in
-    let asked_b = both_bytes B (asked A of_a) (asked B of_b) [] es (conversed_bytes B A all_enquiries of_a) (conversed_bytes B B all_enquiries of_b) in
-    let behind = asked A of_a ++ asked B of_b in (
-      both_texts A xs (ys ++ behind) cs all_enquiries (conversed_bytes A A cs []) (both_bytes A ys behind [] es (conversed_bytes A B ds []) asked_a),
-      both_bytes B xs (ys ++ behind) [] (text (ds ++ all_enquiries)) (conversed_bytes B A cs []) (both_texts B ys behind ds all_enquiries (conversed_bytes B B ds []) asked_b),
-    )
-
 -- what passed is known, and by it each switch was sent these commands
 pub record AreSent (wide : Bool) (commands : Wiring → List Command) (old : List Passing) (new : Option (List Passing)) : Type 0 where
   pub more : List Passing
   pub passed : Passes (Some old) new more
   pub sent : EachIsSent wide commands more
 
+not_wide : (modules : ℕ) → (IsTrue false ↔ (JOINED_MODULES < modules)) → modules ≤ JOINED_MODULES
+not_wide modules as_wide = elim (cases_lt JOINED_MODULES modules) [
+  | inl less ↦ absurd (false≢true (as_wide.1 less))
+  | inr few ↦ few
+]
+
+-- a setting, whose switches are turned and asked
 setting_sent : (modules : ℕ) (wide : Bool) (standing : Option (List Pair)) (pairs : List Pair) (old : List Passing) (new : Option (List Passing)) → (IsTrue wide ↔ (JOINED_MODULES < modules)) → HaveReplied modules standing pairs (Some old) new → AreSent wide (λ w. turning w standing pairs ++ all_enquiries) old new
 setting_sent modules true standing pairs old new as_wide h =
-    let both = h.wide (as_wide.0 refl) in record { more = set_both standing pairs both.of_a both.of_b; passed = both.passed; sent = two_sent standing pairs both.of_a both.of_b }
-setting_sent modules false standing pairs old new as_wide h = elim (cases_lt JOINED_MODULES modules) [
-  | inl less ↦ absurd (false≢true (as_wide.1 less))
-  | inr few ↦ let one = h.narrow (omega arith) in record { more = set_one Both standing pairs one.replies; passed = one.passed; sent = one_sent standing pairs one.replies }
-]
+    let two : nat_lt JOINED_MODULES modules ≡ true = (let wide = as_wide.0 refl in grind (arith, nat_tests)) in
+    let s = steps_sent standing pairs (asked_steps (wirings true)) old new (rw two at h) in
+    record { more = s.more; passed = s.passed; sent = (s.sent A ∙ two_texts (turning Forth standing pairs) all_enquiries, s.sent B ∙ two_texts (turning Back standing pairs) all_enquiries) }
+setting_sent modules false standing pairs old new as_wide h =
+    let one : nat_lt JOINED_MODULES modules ≡ false = (let few : modules ≤ JOINED_MODULES = not_wide modules as_wide in grind (arith, nat_tests)) in
+    let s = steps_sent standing pairs (asked_steps (wirings false)) old new (rw one at h) in
+    record { more = s.more; passed = s.passed; sent = (s.sent A ∙ two_texts (turning Both standing pairs) all_enquiries, s.sent B) }
 
 sent_then : (modules : ℕ) (wide : Bool) (c : Wiring → List Command) (standing : Option (List Pair)) (pairs : List Pair) (old : List Passing) (mid new : Option (List Passing)) → (IsTrue wide ↔ (JOINED_MODULES < modules)) → AreSent wide c old mid → HaveReplied modules standing pairs mid new
     → AreSent wide (λ w. c w ++ (turning w standing pairs ++ all_enquiries)) old new

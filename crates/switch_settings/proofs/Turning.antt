@@ -29,10 +29,10 @@ use Rattle.switch_settings.proofs.InOrder.{table_in_order}
 use Rattle.switch_settings.proofs.Replies.{more_pairs}
 
 -- numbers of a setting, and what is known of them
-record Numbers (batch : List Transfer) (ts : List ℕ) : Type 0 where
-  fits : IsBatch batch
-  known : All (λ u. u < length batch) ts
-  matching : IsMatching batch ts
+pub record Numbers (batch : List Transfer) (ts : List ℕ) : Type 0 where
+  pub fits : IsBatch batch
+  pub known : All (λ u. u < length batch) ts
+  pub matching : IsMatching batch ts
 
 -- they have a table
 record Tabled (batch : List Transfer) (ts : List ℕ) : Type 0 where
@@ -58,12 +58,12 @@ tabled batch ts n = subst (Tabled batch) (take_all (length ts) ts (omega arith))
 
 -- in a rack that has the batch's modules they are pairs of that rack, and join what the setting's
 -- transfers want joined
-ordered_pairs : (m : ℕ) (batch : List Transfer) (ts : List ℕ) → Numbers batch ts → HasModulesOf m batch → ArePairs m (in_order (setting_pairs batch ts))
+pub ordered_pairs : (m : ℕ) (batch : List Transfer) (ts : List ℕ) → Numbers batch ts → HasModulesOf m batch → ArePairs m (in_order (setting_pairs batch ts))
 ordered_pairs m batch ts n has =
     let t = tabled batch ts n in
     subst (ArePairs m) (table_in_order batch ts t.table t.is n.known n.matching) (table_is_pairs m batch ts t.table t.is n.known n.matching has)
 
-ordered_switch : (m : ℕ) (w : Wiring) (batch : List Transfer) (ts : List ℕ) → Numbers batch ts → HasModulesOf m batch → m ≤ room_of w → switch_of w (in_order (setting_pairs batch ts)) ≡ switch_of w (setting_pairs batch ts)
+pub ordered_switch : (m : ℕ) (w : Wiring) (batch : List Transfer) (ts : List ℕ) → Numbers batch ts → HasModulesOf m batch → m ≤ room_of w → switch_of w (in_order (setting_pairs batch ts)) ≡ switch_of w (setting_pairs batch ts)
 ordered_switch m w batch ts n has room =
     let t = tabled batch ts n in
     ap (switch_of w) (sym (table_in_order batch ts t.table t.is n.known n.matching)) ∙ table_is_switch m w batch ts t.table t.is n.known n.matching has room

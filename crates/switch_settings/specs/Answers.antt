@@ -11,11 +11,13 @@ use Rattle.crossbar.specs.Pairs.{ArePairs, AreSwitchesOf, room_of, switch_of}
 use Rattle.crossbar.specs.declared.chip.Chip.{Chip}
 use Rattle.crossbar.specs.declared.chip.Chip.TheVariants.{A, B}
 use Rattle.crossbar.specs.declared.chip.Wiring.{Wiring}
+use Rattle.crossbar.specs.declared.chip.Wiring.TheVariants.{Forth, Back}
 use Rattle.crossbar.specs.declared.switch.TheConstants.{JOINED_MODULES}
 use Rattle.crossbar.specs.declared.pair.Pair.{Pair}
 use Rattle.switch_settings.specs.Pairs.{Turns}
-use Rattle.switch_settings.specs.declared.fault.ConfigureFault.{ConfigureFault}
-use Rattle.switch_settings.specs.declared.fault.ConfigureFault.TheVariants.{Port, SwitchDisagrees}
+use Rattle.switch_settings.specs.declared.fault.Disagreement.{Disagreement}
+use Rattle.switch_settings.specs.declared.fault.SettingFault.{SettingFault}
+use Rattle.switch_settings.specs.declared.fault.SettingFault.TheVariants.{Port, Switch as Disagreed}
 
 -- The reply says that the output has this input, or none. Of a reply whose top bit is 0 nothing
 -- else is read.
@@ -67,25 +69,45 @@ abbrev pub first_output : Chip → ℕ
 first_output A = 0
 first_output B = PORTS
 
--- the output of a switch that has this number in a fault is the first that doesn't answer what the
--- pairs call for
-abbrev pub IsDisagreementAt : Chip → Switch → List ℕ → ℕ → Type 0
-IsDisagreementAt chip switch replies number =
-    (output : ℕ) × (number ≡ first_output chip + output) × IsFirstDisagreement switch replies output
+-- the number of an output in a rack
+abbrev pub number_of : Disagreement → ℕ
+number_of found = first_output found.chip + found.output
+
+-- what is seen of an output of a switch that is wanted, where this came
+abbrev pub seen : Chip → Switch → ℕ → ℕ → Disagreement
+seen chip switch output came =
+    record { chip = chip; output = output; wanted = map.get switch.sources output; came = came }
+
+-- an output of a chip is the first that doesn't answer what the pairs call for, and this is seen of
+-- it
+abbrev pub Disagrees : Disagreement → Chip → Switch → List ℕ → Type 0
+Disagrees found chip switch replies =
+    (found ≡ seen chip switch found.output (slice_index replies found.output))
+    × IsFirstDisagreement switch replies found.output
+
+-- why a switch isn't taken for that of the pairs
+abbrev pub Misses : Chip → Switch → List ℕ → SettingFault → Type 0
+Misses chip switch replies Port = ⊥
+Misses chip switch replies (Disagreed found) = Disagrees found chip switch replies
 
 -- an output of a switch that a rack of so many modules has, has this number
 abbrev pub HasOutput : ℕ → ℕ → Type 0
 HasOutput modules number = (number < PORTS) ⊎ ((JOINED_MODULES < modules) × (number < 2 * PORTS))
 
--- why a switch isn't taken for that of the pairs: the output of this number is the first that
--- doesn't answer what they call for
-abbrev pub IsMisset : Chip → Switch → List ℕ → ConfigureFault → Type 0
-IsMisset chip switch replies (SwitchDisagrees number) = IsDisagreementAt chip switch replies number
-IsMisset chip switch replies Port = ⊥
-
 -- why switches can't be set: a failure that was counted, or a port that isn't honest and hasn't
 -- failed
-abbrev pub IsConfigureFault : ℕ → ℕ → ℕ → Bool → ConfigureFault → Type 0
-IsConfigureFault modules before after honest Port = before < after
-IsConfigureFault modules before after honest (SwitchDisagrees number) =
-    (honest ≡ false) × HasOutput modules number × (after ≡ before)
+abbrev pub IsSettingFault : ℕ → ℕ → Bool → SettingFault → Type 0
+IsSettingFault before after honest Port = before < after
+IsSettingFault before after honest (Disagreed found) = (honest ≡ false) × (after ≡ before)
+
+-- ---- both switches of a wider rack
+
+-- at an honest port both are those of the pairs
+abbrev pub AreBothSet : Bool → Switches → List Pair → Type 0
+AreBothSet honest switches pairs =
+    IsTrue honest → (switches.a ≡ switch_of Forth pairs) × (switches.b ≡ switch_of Back pairs)
+
+-- the pairs that stand on both, where they are known
+abbrev pub AreBothStanding : Bool → Switches → Option (List Pair) → Type 0
+AreBothStanding honest switches known =
+    IfSome known (λ pairs. ArePairs PORTS pairs × AreBothSet honest switches pairs)

@@ -1,7 +1,10 @@
--- What passes over the configuration links where a setting is put on the switches of a rack and
--- these are asked whether they stand so. That all outputs are asked, and in which order, is this
--- project's choice.
-use Rattle.std.specs.Prelude.{◌≡◌, ◌<◌, ◌≤◌, ◌⊎◌, ℕ, List, [], ◌++◌, length, Option}
+-- What passes over the configuration links where a setting is put on the switches of a rack, and
+-- these are asked whether they stand so, step by step. That all outputs are asked, and in which
+-- order, is this project's choice.
+use Rattle.std.specs.Prelude.{◌≡◌, ◌+◌, ◌⊎◌, ℕ, Bool, true, false, List, [], ◌∷◌, ◌++◌, length, map, nat_lt, Option}
+use Rattle.std.specs.List.{range_with_len}
+use Rattle.c004_commands.specs.declared.command.Command.{Command}
+use Rattle.c004_commands.specs.declared.command.Command.TheVariants.{Enquire, Settle}
 use Rattle.c004_commands.specs.declared.port.TheConstants.{PORTS}
 use Rattle.crossbar.specs.Pairs.{switch_of}
 use Rattle.crossbar.specs.Traffic.{Passes, PassesFront, conversed}
@@ -12,11 +15,12 @@ use Rattle.crossbar.specs.declared.chip.Wiring.TheVariants.{Both, Forth, Back}
 use Rattle.crossbar.specs.declared.pair.Pair.{Pair}
 use Rattle.crossbar.specs.declared.switch.TheConstants.{JOINED_MODULES}
 use Rattle.crossbar.specs.declared.traffic.Passing.{Passing}
-use Rattle.switch_settings.specs.Answers.{AllAgree, IsDisagreementAt}
+use Rattle.switch_settings.specs.Answers.{AllAgree, Disagrees}
 use Rattle.switch_settings.specs.Pairs.{all_enquiries}
 use Rattle.switch_settings.specs.Sending.{turning}
-use Rattle.switch_settings.specs.declared.fault.ConfigureFault.{ConfigureFault}
-use Rattle.switch_settings.specs.declared.fault.ConfigureFault.TheVariants.{Port, SwitchDisagrees}
+use Rattle.switch_settings.specs.declared.fault.Disagreement.{Disagreement}
+use Rattle.switch_settings.specs.declared.fault.SettingFault.{SettingFault}
+use Rattle.switch_settings.specs.declared.fault.SettingFault.TheVariants.{Port, Switch}
 
 -- a switch is sent what turns it from the pairs that stand, where they are known, to the pairs
 abbrev pub turned : Chip → Wiring → Option (List Pair) → List Pair → List Passing
@@ -26,99 +30,130 @@ turned chip wiring standing pairs = conversed chip (turning wiring standing pair
 abbrev pub asked : Chip → List ℕ → List Passing
 asked chip replies = conversed chip all_enquiries replies
 
--- the one switch of a rack is set, and asked
-abbrev pub set_one : Wiring → Option (List Pair) → List Pair → List ℕ → List Passing
-set_one wiring standing pairs replies = turned A wiring standing pairs ++ asked A replies
+-- ---- the replies of a switch
 
--- both switches of a wider rack are set, and then asked
-abbrev pub set_both : Option (List Pair) → List Pair → List ℕ → List ℕ → List Passing
-set_both standing pairs of_a of_b =
-    turned A Forth standing pairs
-    ++ (turned B Back standing pairs ++ (asked A of_a ++ asked B of_b))
-
--- the one switch was set and asked, and each output replied what the pairs call for
-pub record OneStands (wiring : Wiring) (standing : Option (List Pair)) (pairs : List Pair)
-    (old new : Option (List Passing)) : Type 0 where
+-- a switch was asked all its outputs, and this is so of what they replied
+pub record HasReplied (chip : Chip) (judged : List ℕ → Type 0) (old new : Option (List Passing))
+    : Type 0 where
   pub replies : List ℕ
   pub all : length replies ≡ PORTS
-  pub agree : AllAgree (switch_of wiring pairs) replies
-  pub passed : Passes old new (set_one wiring standing pairs replies)
+  pub are : judged replies
+  pub passed : Passes old new (asked chip replies)
 
--- both switches were set and asked, and each output replied what the pairs call for
-pub record BothStand (standing : Option (List Pair)) (pairs : List Pair)
+-- enquiries of the first outputs, so many, in order
+abbrev pub first_enquiries : ℕ → List Command
+first_enquiries count = map Enquire (range_with_len 0 count)
+
+-- a switch was asked up to the first output that didn't reply what the pairs call for
+pub record HasDisagreed (found : Disagreement) (chip : Chip) (wiring : Wiring) (pairs : List Pair)
     (old new : Option (List Passing)) : Type 0 where
-  pub of_a : List ℕ
-  pub of_b : List ℕ
-  pub all_a : length of_a ≡ PORTS
-  pub all_b : length of_b ≡ PORTS
-  pub agree_a : AllAgree (switch_of Forth pairs) of_a
-  pub agree_b : AllAgree (switch_of Back pairs) of_b
-  pub passed : Passes old new (set_both standing pairs of_a of_b)
-
--- the switches of a rack of so many modules were set and asked, and replied as the pairs call for
-pub record HaveReplied (modules : ℕ) (standing : Option (List Pair)) (pairs : List Pair)
-    (old new : Option (List Passing)) : Type 0 where
-  pub narrow : modules ≤ JOINED_MODULES → OneStands Both standing pairs old new
-  pub wide : JOINED_MODULES < modules → BothStand standing pairs old new
-
--- the one switch was set and asked, and the output of this number is the first that didn't reply
--- what the pairs call for
-pub record OneDisagrees (wiring : Wiring) (standing : Option (List Pair)) (pairs : List Pair)
-    (number : ℕ) (old new : Option (List Passing)) : Type 0 where
   pub replies : List ℕ
-  pub all : length replies ≡ PORTS
-  pub differ : IsDisagreementAt A (switch_of wiring pairs) replies number
-  pub passed : Passes old new (set_one wiring standing pairs replies)
+  pub all : length replies ≡ found.output + 1
+  pub are : Disagrees found chip (switch_of wiring pairs) replies
+  pub passed : Passes old new (conversed chip (first_enquiries (found.output + 1)) replies)
 
--- the same of both switches, of which the first is judged first
-pub record BothDisagree (standing : Option (List Pair)) (pairs : List Pair) (number : ℕ)
-    (old new : Option (List Passing)) : Type 0 where
-  pub of_a : List ℕ
-  pub of_b : List ℕ
-  pub all_a : length of_a ≡ PORTS
-  pub all_b : length of_b ≡ PORTS
-  pub differ :
-      IsDisagreementAt A (switch_of Forth pairs) of_a number
-      ⊎ (AllAgree (switch_of Forth pairs) of_a
-      × IsDisagreementAt B (switch_of Back pairs) of_b number)
-  pub passed : Passes old new (set_both standing pairs of_a of_b)
-
--- the port failed while the one switch was set, or while it was asked
-abbrev pub OneBreaksOff : Wiring → Option (List Pair) → List Pair → Option (List Passing)
+-- a switch that was asked output by output didn't reply so: an output disagrees, or the port failed
+abbrev pub IsUnanswered : SettingFault → Chip → Wiring → List Pair → Option (List Passing)
     → Option (List Passing) → Type 0
-OneBreaksOff wiring standing pairs old new =
-    PassesFront A (turning wiring standing pairs) old new
-    ⊎ ((mid : Option (List Passing)) × Passes old mid (turned A wiring standing pairs)
-    × PassesFront A all_enquiries mid new)
+IsUnanswered Port chip wiring pairs old new = PassesFront chip all_enquiries old new
+IsUnanswered (Switch found) chip wiring pairs old new =
+    HasDisagreed found chip wiring pairs old new
 
--- the port failed while one of both switches was set, or asked
-abbrev pub BothBreakOff : Option (List Pair) → List Pair → Option (List Passing)
+-- ---- one step after another
+
+-- What is done with a switch to which this is wired: it is turned; it is asked all outputs, which
+-- may reply anything, or reply what the pairs call for, or of which this is the first that doesn't;
+-- it is sent the end of the sequence.
+pub data Step : Type 0 where
+  turn : Chip → Wiring → Step
+  hear : Chip → Wiring → Step
+  ask : Chip → Wiring → Step
+  miss : Disagreement → Chip → Wiring → Step
+  settle : Chip → Wiring → Step
+
+-- the step was done, from the pairs that stand, where they are known, to the pairs
+abbrev pub IsDone : Option (List Pair) → List Pair → Step → Option (List Passing)
     → Option (List Passing) → Type 0
-BothBreakOff standing pairs old new =
-    PassesFront A (turning Forth standing pairs) old new
-    ⊎ (((mid : Option (List Passing)) × Passes old mid (turned A Forth standing pairs)
-    × PassesFront B (turning Back standing pairs) mid new)
-    ⊎ (((mid : Option (List Passing))
-    × Passes old mid (turned A Forth standing pairs ++ turned B Back standing pairs)
-    × PassesFront A all_enquiries mid new)
-    ⊎ ((mid : Option (List Passing)) × (of_a : List ℕ) × (length of_a ≡ PORTS)
-    × Passes old mid (turned A Forth standing pairs
-    ++ (turned B Back standing pairs ++ asked A of_a))
-    × PassesFront B all_enquiries mid new)))
+IsDone standing pairs (turn chip wiring) old new =
+    Passes old new (turned chip wiring standing pairs)
+IsDone standing pairs (hear chip wiring) old new = HasReplied chip (λ replies. Unit {0}) old new
+IsDone standing pairs (ask chip wiring) old new =
+    HasReplied chip (AllAgree (switch_of wiring pairs)) old new
+IsDone standing pairs (miss found chip wiring) old new =
+    HasReplied chip (Disagrees found chip (switch_of wiring pairs)) old new
+IsDone standing pairs (settle chip wiring) old new =
+    Passes old new (conversed chip (Settle ∷ []) [])
 
--- what passed where the one switch couldn't be set for this cause
-abbrev pub OneHasPassedFor : Wiring → ConfigureFault → Option (List Pair) → List Pair
-    → Option (List Passing) → Option (List Passing) → Type 0
-OneHasPassedFor wiring Port standing pairs old new = OneBreaksOff wiring standing pairs old new
-OneHasPassedFor wiring (SwitchDisagrees number) standing pairs old new =
-    OneDisagrees wiring standing pairs number old new
+-- these were done, one after another, and nothing else passed
+abbrev pub AreDone : Option (List Pair) → List Pair → List Step → Option (List Passing)
+    → Option (List Passing) → Type 0
+AreDone standing pairs [] old new = new ≡ old
+AreDone standing pairs (step ∷ steps) old new =
+    (mid : Option (List Passing)) × IsDone standing pairs step old mid
+    × AreDone standing pairs steps mid new
 
--- what passed where the switches of a rack of so many modules couldn't be set for this cause
-abbrev pub HavePassedFor : ℕ → ConfigureFault → Option (List Pair) → List Pair
+-- it broke off for this cause: the port failed, or the switch that was asked disagrees
+abbrev pub Breaks : SettingFault → Option (List Pair) → List Pair → Step → Option (List Passing)
+    → Option (List Passing) → Type 0
+Breaks Port standing pairs (turn chip wiring) old new =
+    PassesFront chip (turning wiring standing pairs) old new
+Breaks (Switch found) standing pairs (turn chip wiring) old new = ⊥
+Breaks Port standing pairs (hear chip wiring) old new = PassesFront chip all_enquiries old new
+Breaks (Switch found) standing pairs (hear chip wiring) old new = ⊥
+Breaks fault standing pairs (ask chip wiring) old new =
+    IsUnanswered fault chip wiring pairs old new
+Breaks fault standing pairs (miss found chip wiring) old new = ⊥
+Breaks Port standing pairs (settle chip wiring) old new = PassesFront chip (Settle ∷ []) old new
+Breaks (Switch found) standing pairs (settle chip wiring) old new = ⊥
+
+-- one of these broke off for this cause, and those before it were done
+abbrev pub BreakOff : SettingFault → Option (List Pair) → List Pair → List Step
     → Option (List Passing) → Option (List Passing) → Type 0
-HavePassedFor modules Port standing pairs old new =
-    (modules ≤ JOINED_MODULES → OneBreaksOff Both standing pairs old new)
-    × (JOINED_MODULES < modules → BothBreakOff standing pairs old new)
-HavePassedFor modules (SwitchDisagrees number) standing pairs old new =
-    (modules ≤ JOINED_MODULES → OneDisagrees Both standing pairs number old new)
-    × (JOINED_MODULES < modules → BothDisagree standing pairs number old new)
+BreakOff fault standing pairs [] old new = ⊥
+BreakOff fault standing pairs (step ∷ steps) old new =
+    Breaks fault standing pairs step old new
+    ⊎ ((mid : Option (List Passing)) × IsDone standing pairs step old mid
+    × BreakOff fault standing pairs steps mid new)
+
+-- ---- the switches of a rack
+
+-- the switches of a rack, and what is wired to them: one alone, or two
+abbrev pub wirings : Bool → List (Chip × Wiring)
+wirings false = (A, Both) ∷ []
+wirings true = (A, Forth) ∷ (B, Back) ∷ []
+
+-- what is done with each of these, in order
+abbrev pub each : (Chip → Wiring → Step) → List (Chip × Wiring) → List Step
+each step switches = map (λ switch. step switch.0 switch.1) switches
+
+-- each is turned, and then each is asked
+abbrev pub asked_steps : List (Chip × Wiring) → List Step
+asked_steps switches = each turn switches ++ each ask switches
+
+-- ---- a setting of a run
+
+-- each was turned and asked, and replied as the pairs call for
+abbrev pub HaveReplied : ℕ → Option (List Pair) → List Pair → Option (List Passing)
+    → Option (List Passing) → Type 0
+HaveReplied modules standing pairs old new =
+    AreDone standing pairs (asked_steps (wirings (nat_lt JOINED_MODULES modules))) old new
+
+-- What passed where they couldn't be set for this cause. The port failed, before both were judged.
+-- Or each was asked all outputs, and then one didn't reply so; the first is judged first.
+abbrev pub HasPassedFor : Bool → SettingFault → Option (List Pair) → List Pair
+    → Option (List Passing) → Option (List Passing) → Type 0
+HasPassedFor wide Port standing pairs old new =
+    BreakOff Port standing pairs (each turn (wirings wide) ++ each hear (wirings wide)) old new
+HasPassedFor false (Switch found) standing pairs old new =
+    AreDone standing pairs (turn A Both ∷ miss found A Both ∷ []) old new
+HasPassedFor true (Switch found) standing pairs old new =
+    AreDone standing pairs (turn A Forth ∷ turn B Back ∷ miss found A Forth ∷ hear B Back ∷ []) old
+    new
+    ⊎ AreDone standing pairs (turn A Forth ∷ turn B Back ∷ ask A Forth ∷ miss found B Back ∷ []) old
+    new
+
+-- the same in a rack of so many modules
+abbrev pub HavePassedFor : ℕ → SettingFault → Option (List Pair) → List Pair
+    → Option (List Passing) → Option (List Passing) → Type 0
+HavePassedFor modules fault standing pairs old new =
+    HasPassedFor (nat_lt JOINED_MODULES modules) fault standing pairs old new

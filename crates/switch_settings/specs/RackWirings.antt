@@ -6,10 +6,7 @@ use Rattle.crossbar.specs.Pairs.{ArePairs, switch_of}
 use Rattle.crossbar.specs.Wired.{links_of}
 use Rattle.crossbar.specs.declared.chip.Wiring.TheVariants.{Board}
 use Rattle.crossbar.specs.declared.pair.Pair.{Pair}
-use Rattle.crossbar.specs.declared.traffic.Passing.{Passing}
 use Rattle.switch_settings.specs.Answers.{AreSetTo}
-use Rattle.switch_settings.specs.Asking.{HaveReplied, HavePassedFor, OneStands, OneHasPassedFor}
-use Rattle.switch_settings.specs.declared.fault.ConfigureFault.{ConfigureFault}
 use Rattle.switch_settings.specs.declared.rack_wiring.RackWiring.{RackWiring}
 use Rattle.switch_settings.specs.declared.rack_wiring.RackWiring.TheVariants.{Usual, Own}
 
@@ -28,17 +25,3 @@ AreSetIn (Own board) honest switches pairs =
 abbrev pub AreStandingIn : RackWiring → Bool → Switches → Option (List Pair) → Type 0
 AreStandingIn rack honest switches known =
     IfSome known (λ pairs. ArePairs (wired_in rack) pairs × AreSetIn rack honest switches pairs)
-
--- the switches of the rack were set and asked, and replied as the pairs call for
-abbrev pub HaveRepliedIn : RackWiring → Option (List Pair) → List Pair → Option (List Passing)
-    → Option (List Passing) → Type 0
-HaveRepliedIn (Usual modules) standing pairs old new = HaveReplied modules standing pairs old new
-HaveRepliedIn (Own board) standing pairs old new = OneStands (Board board) standing pairs old new
-
--- what passed where the switches of the rack couldn't be set for this cause
-abbrev pub HavePassedIn : RackWiring → ConfigureFault → Option (List Pair) → List Pair
-    → Option (List Passing) → Option (List Passing) → Type 0
-HavePassedIn (Usual modules) fault standing pairs old new =
-    HavePassedFor modules fault standing pairs old new
-HavePassedIn (Own board) fault standing pairs old new =
-    OneHasPassedFor (Board board) fault standing pairs old new

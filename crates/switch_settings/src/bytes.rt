@@ -4,21 +4,12 @@ ghost use Rattle.std.specs.Prelude.{◌≡◌, ◌≤◌, ◌<◌, ◌+◌, ◌+
 ghost use Rattle.std.specs.List.{list_any};
 ghost use Rattle.c004_commands.specs.Commands.{row, text};
 ghost use Rattle.crossbar.specs.Switch.{Switch};
-ghost use Rattle.crossbar.specs.Chips.{wide_wiring};
 ghost use Rattle.crossbar.specs.Pairs.{Fits, ArePairs, room_of, switch_of, setting, change, is_pair};
-ghost use Rattle.crossbar.specs.declared.chip.Wiring.TheVariants.{Both, Board};
+ghost use Rattle.crossbar.specs.declared.chip.Wiring.TheVariants.{Board};
 ghost use Rattle.switch_settings.specs.Pairs.{command_of, commands_of, both_ways_command, one_way_command, longest_setting, longest_change, Turns, all_enquiries};
 
 use c004_commands::{Command, LONGEST_COMMAND, PORTS, PortNo, write};
-use crossbar::{BoardWiring, Chip, JOINED_MODULES, Pair, Wiring, laws};
-
-/// How many bytes the longest change has where one switch joins all modules, 97: three for each
-/// pair that goes, three for each pair that comes, and one for the end of the sequence.
-pub const CHANGE_BYTES: usize = 2 * LONGEST_COMMAND * (JOINED_MODULES as usize) + 1;
-
-/// How many bytes the longest setting of a switch of a wider rack has, 98: three for each pair, one
-/// for the reset, and one for the end of the sequence.
-pub const WIDE_SETTING_BYTES: usize = LONGEST_COMMAND * (PORTS as usize) + 2;
+use crossbar::{BoardWiring, JOINED_MODULES, Pair, Wiring, laws};
 
 /// How many bytes the longest change of a switch of a wider rack has, 161: two for each pair that
 /// goes, three for each pair that comes, and one for the end of the sequence.
@@ -34,84 +25,14 @@ enum Way {
     Cut,
 }
 
-/// Writes the bytes that set the one switch of a rack to the pairs, whatever it was, and gives
-/// their number, at most 50: a reset, the joins of the pairs in their order, and the end of the
-/// sequence (INMOS IMS C004 data sheet, configuration messages): `04`, a row `01 I 16+R` a pair,
-/// `03`. What stands in `out` behind them isn't said.
-///
-/// The initiators have to ascend, the responders to be distinct, and all to be below 16. Takes time
-/// by the number of pairs.
-pub fn setting_bytes(pairs: &[Pair], out: &mut [u8; CHANGE_BYTES]) -> usize
-    requires { ArePairs JOINED_MODULES pairs.now }
-    ensures bytes { take result out.new ≡ text (setting Both pairs.now) }
-    ensures sets { (switch : Switch) →
-        Turns (take result out.new) switch (switch_of Both pairs.now) }
-    ensures room { result ≤ CHANGE_BYTES }
-{
-    put_setting(Wiring::Both, pairs, out)
-}
-
-/// Writes the bytes that set the one switch of a rack from the old pairs to the new ones, and gives
-/// their number, at most 97: the cuts of the pairs that go, the joins of those that come, each in
-/// their order, and the end of the sequence (INMOS IMS C004 data sheet, configuration messages): a
-/// row `06 I 16+R` a cut, a row `01 I 16+R` a join, `03`. What stands in `out` behind them isn't
-/// said.
-///
-/// Of both, the initiators have to ascend, the responders to be distinct, and all to be below 16.
-/// The time grows with the product of the numbers of pairs.
-pub fn change_bytes(old: &[Pair], new: &[Pair], out: &mut [u8; CHANGE_BYTES]) -> usize
-    requires old { ArePairs JOINED_MODULES old.now }
-    requires new { ArePairs JOINED_MODULES new.now }
-    ensures bytes { take result out.new ≡ text (change Both old.now new.now) }
-    ensures sets { Turns (take result out.new) (switch_of Both old.now) (switch_of Both new.now) }
-    ensures room { result ≤ CHANGE_BYTES }
-{
-    put_change(Wiring::Both, old, new, out)
-}
-
-/// Writes the bytes that set a switch of a wider rack to the pairs, whatever it was, and gives
-/// their number, at most 98: a reset, a connection of each pair in their order, and the end of the
-/// sequence (INMOS IMS C004 data sheet, configuration messages): `04`, a row `00 I R` a pair for
-/// `A` or `00 R I` for `B`, `03`. What stands in `out` behind them isn't said.
-///
-/// The initiators have to ascend, the responders to be distinct, and all to be below 32. Takes time
-/// by the number of pairs.
-pub fn wide_bytes(chip: Chip, pairs: &[Pair], out: &mut [u8; WIDE_SETTING_BYTES]) -> usize
-    requires { ArePairs PORTS pairs.now }
-    ensures bytes { take result out.new ≡ text (setting (wide_wiring chip) pairs.now) }
-    ensures sets { (switch : Switch) →
-        Turns (take result out.new) switch (switch_of (wide_wiring chip) pairs.now) }
-    ensures room { result ≤ WIDE_SETTING_BYTES }
-{
-    put_setting(Wiring::of_wide(chip), pairs, out)
-}
-
-/// Writes the bytes that set a switch of a wider rack from the old pairs to the new ones, and gives
-/// their number, at most 161: the cuts of the pairs that go, the connections of those that come,
-/// each in their order, and the end of the sequence (INMOS IMS C004 data sheet, configuration
-/// messages): a row `05 R` a cut for `A` or `05 I` for `B`, a row `00 I R` a connection for `A` or
-/// `00 R I` for `B`, `03`. What stands in `out` behind them isn't said.
-///
-/// Of both, the initiators have to ascend, the responders to be distinct, and all to be below 32.
-/// The time grows with the product of the numbers of pairs.
-pub fn wide_change(
-    chip: Chip,
-    old: &[Pair],
-    new: &[Pair],
-    out: &mut [u8; WIDE_CHANGE_BYTES],
-) -> usize
-    requires old { ArePairs PORTS old.now }
-    requires new { ArePairs PORTS new.now }
-    ensures bytes { take result out.new ≡ text (change (wide_wiring chip) old.now new.now) }
-    ensures sets { Turns (take result out.new)
-        (switch_of (wide_wiring chip) old.now) (switch_of (wide_wiring chip) new.now) }
-    ensures room { result ≤ WIDE_CHANGE_BYTES }
-{
-    put_change(Wiring::of_wide(chip), old, new, out)
-}
-
 /// Puts the bytes that set a switch of this wiring to the pairs, whatever it was, and says how many
-/// they are.
+/// they are: a reset, the joins of the pairs in their order, and the end of the sequence (INMOS IMS
+/// C004 data sheet, configuration messages). Where one switch joins both ways that is `04`, a row
+/// `01 I 16+R` a pair, `03`; on the way forth a row is `00 I R`, on the way back `00 R I`. What
+/// stands in `out` behind them isn't said.
+///
+/// The initiators have to ascend, the responders to be distinct, and all to be below the number of
+/// modules that can be wired so. Takes time by the number of pairs.
 pub fn put_setting(wiring: Wiring, pairs: &[Pair], out: &mut [u8]) -> usize
     requires pairs { ArePairs (room_of wiring) pairs.now }
     requires room { longest_setting wiring ≤ length out.old }
@@ -127,7 +48,10 @@ pub fn put_setting(wiring: Wiring, pairs: &[Pair], out: &mut [u8]) -> usize
 }
 
 /// Puts the bytes that set a switch of this wiring from the old pairs to the new ones, and says how
-/// many they are.
+/// many they are: the cuts of the pairs that go, the joins of those that come, each in their order,
+/// and the end of the sequence. A row `06 I 16+R` is a cut both ways, `05 R` one on the way forth,
+/// `05 I` one on the way back. What stands in `out` behind them isn't said. The time grows with the
+/// product of the numbers of pairs.
 pub fn put_change(wiring: Wiring, old: &[Pair], new: &[Pair], out: &mut [u8]) -> usize
     requires old { ArePairs (room_of wiring) old.now }
     requires new { ArePairs (room_of wiring) new.now }
@@ -151,7 +75,7 @@ pub fn enquiry_bytes() -> [u8; ENQUIRY_BYTES]
     let mut bytes = [0; ENQUIRY_BYTES];
     let mut stand = 0;
     for number in 0..PORTS {
-        let output = port(number);
+        let output = port_of(number);
         stand = put(&mut bytes, stand, Command::Enquire { output });
     }
     bytes
@@ -223,7 +147,7 @@ fn both_ways(way: Way, link1: u8, link2: u8) -> Command
     requires { (link1 < PORTS) × (link2 < PORTS) }
     ensures { result ≡ both_ways_command way link1 link2 }
 {
-    let (link1, link2) = (port(link1), port(link2));
+    let (link1, link2) = (port_of(link1), port_of(link2));
     match way {
         Way::Join => Command::Join { link1, link2 },
         Way::Cut => Command::CutPair { link1, link2 },
@@ -235,15 +159,15 @@ fn one_way(way: Way, input: u8, output: u8) -> Command
     requires { (input < PORTS) × (output < PORTS) }
     ensures { result ≡ one_way_command way input output }
 {
-    let (input, output) = (port(input), port(output));
+    let (input, output) = (port_of(input), port_of(output));
     match way {
         Way::Join => Command::Connect { input, output },
         Way::Cut => Command::Cut { output },
     }
 }
 
-/// The port of a number.
-fn port(number: u8) -> PortNo
+/// The port of this number, below [`PORTS`].
+pub fn port_of(number: u8) -> PortNo
     requires { number < PORTS }
     ensures { result ≡ number }
 {

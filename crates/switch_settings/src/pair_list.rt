@@ -103,8 +103,8 @@ impl PairList {
         }
     }
 
-    /// The pairs of the transfers of a setting, by their initiators: what [`crate::setting_bytes`],
-    /// [`crate::wide_bytes`] and their changes take.
+    /// The pairs of the transfers of a setting, by their initiators: what [`crate::put_setting`]
+    /// and [`crate::put_change`] take.
     ///
     /// The numbers have to be those of transfers of the batch, of which no two want one end of a
     /// module's link, as those of each setting of a schedule. Takes time by their number.

@@ -13,7 +13,7 @@ use std::io;
 use std::io::{Read, Write};
 use std::sync::atomic::{AtomicBool, AtomicUsize, Ordering};
 use std::thread::Threads;
-use switch_driver::{Cue, Stage, StreamPort, SwitchStream};
+use switch_driver::{Halt, Stage, StreamPort, SwitchStream};
 
 /// Module 0 sends a block to each of three others.
 const BATCH: &[u8] = b"batch 3\npush 0 0 1 0\npush 0 0 2 0\npush 0 0 3 0\n";
@@ -321,7 +321,7 @@ impl<'a> Ports for DeskPorts<'a> {
 #[derive(Clone, Copy, Drop)]
 struct DeskStage<'a> {
     desk: &'a Desk<'a>,
-    says: [Cue; 3],
+    says: [Result<(), Halt>; 3],
 }
 
 impl Stage for DeskStage<'_> {
@@ -329,11 +329,11 @@ impl Stage for DeskStage<'_> {
 
     ghost hears = { λ _ _ _ _ _. ⊤ };
 
-    fn stands(&mut self, setting: usize, numbers: &[usize]) -> Cue {
+    fn stands(&mut self, setting: usize, numbers: &[usize]) -> Result<(), Halt> {
         if numbers != [setting].as_slice() || !self.desk.make(Step::Told(setting)) {
-            return Cue::Leave;
+            return Err(Halt::Left);
         }
-        self.says.get(setting).copied().unwrap_or(Cue::Leave)
+        self.says.get(setting).copied().unwrap_or(Err(Halt::Left))
     }
 }
 
@@ -341,7 +341,7 @@ impl Stage for DeskStage<'_> {
 fn answer_at<R: AllocGlobal + Threads + Sync>(
     rt: &R,
     desk: &Desk<'_>,
-    says: [Cue; 3],
+    says: [Result<(), Halt>; 3],
     is_refused: bool,
     wiring: Option<&[u8]>,
 ) -> Result<DriveEnd, DriveFault> {
@@ -353,7 +353,7 @@ fn answer_from<R: AllocGlobal + Threads + Sync>(
     rt: &R,
     desk: &Desk<'_>,
     first: usize,
-    says: [Cue; 3],
+    says: [Result<(), Halt>; 3],
     is_refused: bool,
     wiring: Option<&[u8]>,
 ) -> Result<DriveEnd, DriveFault> {
@@ -379,7 +379,7 @@ fn is_line(end: &Result<DriveEnd, DriveFault>, line: &[u8], status: u8) -> bool 
     matches!(end, Ok(end) if end.answer.text() == line && end.answer.status() == status)
 }
 
-const ON: [Cue; 3] = [Cue::GoOn, Cue::GoOn, Cue::GoOn];
+const ON: [Result<(), Halt>; 3] = [Ok(()), Ok(()), Ok(())];
 
 /// How many settings are told in these steps.
 fn told_in(steps: &[Step]) -> usize {
@@ -459,7 +459,7 @@ fn lied_to(rt: HostRuntime) {
 fn left(rt: HostRuntime) {
     let steps = steps_of(rt.alloc(), &USUAL, None).expect(&rt, "memory");
     let desk = Desk::of(steps.as_slice().get(..WAKING + FIRST + 105).unwrap_or(&[]));
-    let says = [Cue::GoOn, Cue::Leave, Cue::GoOn];
+    let says = [Ok(()), Err(Halt::Left), Ok(())];
     let answer = answer_at(&rt, &desk, says, false, None);
     assert!(rt; is_line(&answer, b"left setting 1\n", REFUSED));
     assert!(rt; desk.is_followed());
@@ -469,7 +469,7 @@ fn left(rt: HostRuntime) {
 fn untold(rt: HostRuntime) {
     let steps = steps_of(rt.alloc(), &USUAL, None).expect(&rt, "memory");
     let desk = Desk::of(steps.as_slice().get(..WAKING + FIRST).unwrap_or(&[]));
-    let says = [Cue::Untold, Cue::GoOn, Cue::GoOn];
+    let says = [Err(Halt::Untold), Ok(()), Ok(())];
     let answer = answer_at(&rt, &desk, says, false, None);
     assert!(rt; matches!(answer, Err(DriveFault::Untold)));
     assert!(rt; desk.is_followed());

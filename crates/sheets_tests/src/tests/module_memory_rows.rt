@@ -3,7 +3,7 @@
 
 use super::prints::prints;
 use super::racks::{marked_rack, place};
-use batch::Place;
+use batch::{MAX_BLOCKS, MAX_WORDS, Place};
 use module_memory::{
     BLOCK_MARK, HOLD_START, ImageFault, LendFault, MODULE_MARK, MemoryFault, WINDOW_START,
     WORD_BYTES,
@@ -53,6 +53,13 @@ fn held_places_are_refused(rt: HostRuntime) {
 fn sizes_have_numbers(rt: HostRuntime) {
     assert!(rt; WINDOW_START == 0x8000_0800 && WORD_BYTES == 4 && HOLD_START == 0x8001_0800);
     assert!(rt; MODULE_MARK == 0x0001_0000 && BLOCK_MARK == 0x0100);
+}
+
+/// No two words of a marked rack are equal: those of a block end before the next block begins, and
+/// those of a module before the next module does.
+#[test]
+fn marks_differ(rt: HostRuntime) {
+    assert!(rt; MAX_WORDS <= BLOCK_MARK && MAX_BLOCKS * BLOCK_MARK <= MODULE_MARK);
 }
 
 /// Whether each fault of lending is printed.

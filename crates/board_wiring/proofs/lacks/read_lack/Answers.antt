@@ -7,12 +7,9 @@ use Rattle.board_wiring.proofs.lacks.read_lack.Goals as goal
 
 pub returns-in-Ok-clause-none : goal.returns-in-Ok-clause-none
 returns-in-Ok-clause-none c =
-    let board = c.args.board.now in
-    let is = rw c.shape_of.ensures at c.in-Ok.ensures.batch in
-    none_is c.first_lack.result (HasWays (modules_of c.in-Some.its) c.in-Ok.batch) _ (λ has. of_read board c.in-Some.its c.args.text.now c.in-Ok.batch c.in-Some.is c.requires is has) c.first_lack.ensures.none
+    none_is c.first_lack.result (HasWays (modules_of c.in-Some.its) c.in-Ok.batch) _ (of_read c.args.board.now c.in-Some.its c.args.text.now c.in-Ok.batch c.in-Some.is c.in-Ok.ensures.batch) c.first_lack.ensures.none
 
 pub returns-in-Err-2-clause-none : goal.returns-in-Err-2-clause-none
 returns-in-Err-2-clause-none c =
     let other : c.in-Err.fault ≢ NoMemory = λ e. let differs = rw e at c.if-eq.ensures in absurd cc in
-    let wrong = rw c.shape_of.ensures at (c.in-Err.ensures.fault other) in
-    of_fault c.args.board.now c.args.text.now c.in-Err.fault c.requires wrong
+    of_fault c.args.board.now c.args.text.now c.in-Err.fault (c.in-Err.ensures.fault other)

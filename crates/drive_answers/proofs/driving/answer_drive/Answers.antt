@@ -1,7 +1,7 @@
 use Rattle.std.proofs.Common.{◌≡◌, ◌∙◌, IsTrue, false, refl, sym, rules}
 use Rattle.std.proofs.lemmas.Bool.{false≢true}
 use Rattle.std.proofs.lemmas.Result.{IfErr-weaker, IfOk-weaker}
-use Rattle.board_wiring.specs.Boards.{extent_of}
+use Rattle.batch.specs.Extent.{widest}
 use Rattle.board_wiring.specs.Sources.{of_wiring}
 use Rattle.board_wiring.proofs.ReadBoards.{joins_all}
 use Rattle.plan_answers.proofs.OneSource.{denoted}
@@ -20,8 +20,8 @@ pub rack_of-rack-requires : goal.rack_of-rack-requires
 rack_of-rack-requires g c =
     let its = c.in-Ok-read.scheduled in
     let board = c.in-Ok.board in
-    let from = rw c.shape_of.ensures at c.in-Ok-read.ensures.schedule in
-    rw c.batch-batch.ensures (joins_all board c.wiring_of.result c.args.batch.now its.batch c.wiring_of.ensures (denoted (said_by c.args.source) (extent_of board) c.args.batch.now its.batch its.settings from))
+    let has = (rw c.in_default.is at c.in_ok-lack.ensures.none) its.batch (denoted (said_by c.args.source) widest c.args.batch.now its.batch its.settings c.in-Ok-read.ensures.schedule) in
+    rw c.batch-batch.ensures (joins_all board c.wiring_of.result its.batch c.wiring_of.ensures has)
 
 pub returns-in-Err-clause-answer : goal.returns-in-Err-clause-answer
 returns-in-Err-clause-answer g c =
@@ -36,28 +36,28 @@ returns-in-Some-clause-answer g c =
     let lack = c.in-Some.lack in
     let found = rw c.in-Some.is at c.in_ok-lack.ensures.some in
     IfOk-weaker c.refused-in-Some.result (λ (end : DriveEnd). Refuses lack end.answer) _
-    (λ end refuses. wrong lack (lacking board found.0 (board_of c.args.wiring board c.in-Ok.ensures.board) found.1 found.2) refuses refl refl) c.refused-in-Some.ensures.refused
+    (λ end refuses. wrong lack (lacking board (board_of c.args.wiring board c.in-Ok.ensures.board) found) refuses refl refl) c.refused-in-Some.ensures.refused
 
 pub returns-then-not-is_start-clause-answer : goal.returns-then-not-is_start-clause-answer
 returns-then-not-is_start-clause-answer g c =
     let its = c.in-Ok-read.scheduled in
     let board = c.in-Ok.board in
     let first = c.args.first in
-    let from = rw c.shape_of.ensures at c.in-Ok-read.ensures.schedule in
-    let has = (rw c.in_default.is at c.in_ok-lack.ensures.none) its.batch (denoted (said_by c.args.source) (extent_of board) c.args.batch.now its.batch its.settings from) in
+    let from = c.in-Ok-read.ensures.schedule in
+    let has = (rw c.in_default.is at c.in_ok-lack.ensures.none) its.batch (denoted (said_by c.args.source) widest c.args.batch.now its.batch its.settings from) in
     let starts = rw c.schedule-schedule.ensures.schedule at c.is_start.ensures in
     let stopped : c.is_start.result ≡ false = search rules in
     let none : IsStart first its.settings → ⊥ = λ start. false≢true (sym stopped ∙ starts.1 start) in
-    IfOk-weaker c.refused-then-not-is_start.result (λ (end : DriveEnd). Refuses (NoSetting first) end.answer) _
-    (λ end refuses. wrong (NoSetting first) (no_setting board its.batch its.settings (board_of c.args.wiring board c.in-Ok.ensures.board) from has none refl) refuses refl refl) c.refused-then-not-is_start.ensures.refused
+    IfOk-weaker c.no_setting.result (λ (end : DriveEnd). Refuses (NoSetting first) end.answer) _
+    (λ end refuses. wrong (NoSetting first) (no_setting board its.batch its.settings (board_of c.args.wiring board c.in-Ok.ensures.board) from has none refl) refuses refl refl) c.no_setting.ensures.refused
 
 pub returns-else-not-is_start-clause-answer : goal.returns-else-not-is_start-clause-answer
 returns-else-not-is_start-clause-answer g c =
     let its = c.in-Ok-read.scheduled in
     let board = c.in-Ok.board in
     let first = c.args.first in
-    let from = rw c.shape_of.ensures at c.in-Ok-read.ensures.schedule in
-    let has = (rw c.in_default.is at c.in_ok-lack.ensures.none) its.batch (denoted (said_by c.args.source) (extent_of board) c.args.batch.now its.batch its.settings from) in
+    let from = c.in-Ok-read.ensures.schedule in
+    let has = (rw c.in_default.is at c.in_ok-lack.ensures.none) its.batch (denoted (said_by c.args.source) widest c.args.batch.now its.batch its.settings from) in
     let starts = rw c.schedule-schedule.ensures.schedule at c.is_start.ensures in
     let started : IsTrue c.is_start.result = search rules in
     let start : IsStart first its.settings = starts.0 started in
@@ -72,8 +72,8 @@ pub returns-else-not-is_start-clause-fault : goal.returns-else-not-is_start-clau
 returns-else-not-is_start-clause-fault g c =
     let its = c.in-Ok-read.scheduled in
     let board = c.in-Ok.board in
-    let from = rw c.shape_of.ensures at c.in-Ok-read.ensures.schedule in
-    let has = (rw c.in_default.is at c.in_ok-lack.ensures.none) its.batch (denoted (said_by c.args.source) (extent_of board) c.args.batch.now its.batch its.settings from) in
+    let from = c.in-Ok-read.ensures.schedule in
+    let has = (rw c.in_default.is at c.in_ok-lack.ensures.none) its.batch (denoted (said_by c.args.source) widest c.args.batch.now its.batch its.settings from) in
     let is = rw (c.rack_of-rack.ensures.rack, c.batch-batch.ensures, c.schedule-schedule.ensures.schedule) at c.drive_over.ensures.fault in
     IfErr-weaker c.drive_over.result _ _
     (failed g.S.Stage.hears (said_by c.args.source) c.args.batch.now (bytes_of c.args.wiring) c.args.first (names_of c.args.names) (g.Q.Ports.ways c.args.ports.now) (g.Q.Ports.ways c.drive_over.new.ports) c.args.stage.now c.drive_over.new.stage board c.wiring_of.result its.batch its.settings (board_of c.args.wiring board c.in-Ok.ensures.board) from has c.wiring_of.ensures) is
@@ -83,4 +83,4 @@ returns-in-Err-read-clause-answer g c =
     let board = c.in-Ok.board in
     let refusal = c.in-Err-read.refusal in
     IfOk-weaker c.refused-in-Err-read.result (λ (end : DriveEnd). Refuses refusal end.answer) _
-    (λ end refuses. let first = rw c.shape_of.ensures at (c.in-Err-read.ensures.wrong refuses.0) in wrong refusal (texts_wrong board (board_of c.args.wiring board c.in-Ok.ensures.board) first (rw c.in_default.is at c.in_ok-lack.ensures.none)) refuses refl refl) c.refused-in-Err-read.ensures.refused
+    (λ end refuses. wrong refusal (texts_wrong board (board_of c.args.wiring board c.in-Ok.ensures.board) (c.in-Err-read.ensures.wrong refuses.0) (rw c.in_default.is at c.in_ok-lack.ensures.none)) refuses refl refl) c.refused-in-Err-read.ensures.refused

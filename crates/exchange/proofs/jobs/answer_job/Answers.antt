@@ -1,10 +1,10 @@
-use Rattle.std.proofs.Common.{[], refl}
+use Rattle.std.proofs.Common.{[], ap, refl, rules}
 use Rattle.std.proofs.KnownBytes.{Appends-nil}
 use Rattle.named_files.specs.Clients.{clients_by}
 use Rattle.named_files.specs.Contents.{contents_in}
 use Rattle.exchange.specs.Responses.{given_by}
 use Rattle.exchange.proofs.Comes.{err_so, leaves_rest, none_of, ok_so, on_err, told_kept, told_plain}
-use Rattle.exchange.proofs.Told.{none_served}
+use Rattle.exchange.proofs.Told.{host_beside, none_served, talk_beside, told_lines_more}
 use Rattle.exchange.proofs.jobs.answer_job.Goals as goal
 
 pub returns-in-Serve-clause-response : goal.returns-in-Serve-clause-response
@@ -53,6 +53,10 @@ returns-in-Talk-2-clause-rest g c = rw c.in-Talk-2.is (refl, none_served _ c.req
 pub returns-in-Talk-2-clause-unkept : goal.returns-in-Talk-2-clause-unkept
 returns-in-Talk-2-clause-unkept g c = rw c.in-Talk-2.is (on_err c.talk-kept.result.end _ _ (λ m is. is.2) c.talk-kept.ensures.session.2.missed)
 
+pub returns-in-Talk-2-clause-beside : goal.returns-in-Talk-2-clause-beside
+returns-in-Talk-2-clause-beside g c =
+    talk_beside _ c.args.request.now _ _ (g.E.Write.contents c.args.err.now) _ _ (rw c.in-Talk-2.is tt) c.if-request.false c.talk-kept.ensures.beside (ap g.E.Write.contents c.new-beside.ensures.1) (search rules) c.tell_cut-in-Talk-2.ensures
+
 pub returns-in-Ok-clause-response : goal.returns-in-Ok-clause-response
 returns-in-Ok-clause-response g c =
     let is = c.host-kept.ensures in
@@ -63,6 +67,9 @@ returns-in-Ok-clause-note g c = err_so c.host-kept.result.end _ _ (λ m is. none
 
 pub returns-in-Ok-clause-unkept : goal.returns-in-Ok-clause-unkept
 returns-in-Ok-clause-unkept g c = rw c.in-Host.is (on_err c.host-kept.result.end _ _ (λ m is. is.2) (rw c.as_slice-clients.ensures at c.host-kept.ensures.missed))
+
+pub returns-in-Ok-clause-beside : goal.returns-in-Ok-clause-beside
+returns-in-Ok-clause-beside g c = host_beside _ c.args.request.now _ _ (rw c.in-Host.is tt) (told_lines_more c.args.request.now.is_quiet _ _ _ c.tell_lacks.ensures c.tell_cut.ensures)
 
 pub returns-in_default-clause-response : goal.returns-in_default-clause-response
 returns-in_default-clause-response g c =

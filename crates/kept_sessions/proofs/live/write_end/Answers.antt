@@ -1,13 +1,25 @@
+use Rattle.std.proofs.KnownBytes.{Appends-nil}
+use Rattle.std.specs.Prelude.{[]}
+use Rattle.kept_sessions.proofs.Told.{grown_by}
 use Rattle.named_files.proofs.Written.{left_behind, written_behind}
-use Rattle.record_fronts.specs.Fronts.{end_line}
+use Rattle.book_record.specs.Fronts.{end_line}
 use Rattle.kept_sessions.proofs.live.write_end.Goals as goal
 
-pub returns-then-is_whole : goal.returns-then-is_whole
-returns-then-is_whole g c = λ text so.
+pub returns-then-is_whole-clause-end : goal.returns-then-is_whole-clause-end
+returns-then-is_whole-clause-end g c = λ text so.
     written_behind c.write_bytes.result _ _ text end_line (rw c.if-is_whole.true at so) c.write_bytes.ensures.went c.write_bytes.ensures.cut
 
-pub returns-in-Some : goal.returns-in-Some
-returns-in-Some g c = λ text so. left_behind _ text end_line (rw c.if-is_whole.false at so)
+pub returns-in-Some-clause-end : goal.returns-in-Some-clause-end
+returns-in-Some-clause-end g c = λ text so. left_behind _ text end_line (rw c.if-is_whole.false at so)
 
-pub returns-in-None : goal.returns-in-None
-returns-in-None g c = λ text so. left_behind _ text end_line (rw c.if-is_whole.false at so)
+pub returns-in-None-clause-end : goal.returns-in-None-clause-end
+returns-in-None-clause-end g c = λ text so. left_behind _ text end_line (rw c.if-is_whole.false at so)
+
+pub returns-then-is_whole-clause-grown : goal.returns-then-is_whole-clause-grown
+returns-then-is_whole-clause-grown g c = grown_by c.write_bytes.result _ _ _ c.write_bytes.ensures.went c.write_bytes.ensures.cut
+
+pub returns-in-Some-clause-grown : goal.returns-in-Some-clause-grown
+returns-in-Some-clause-grown g c = ([], Appends-nil _)
+
+pub returns-in-None-clause-grown : goal.returns-in-None-clause-grown
+returns-in-None-clause-grown g c = ([], Appends-nil _)

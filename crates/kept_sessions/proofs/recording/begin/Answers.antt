@@ -14,4 +14,4 @@ returns-then-starts_with-clause-begins g c =
 pub returns-clause-front : goal.returns-clause-front
 returns-clause-front g c =
     let t = c.in_ok-book.ensures.resumed in
-    resumed_front c.args.held.now c.as_slice-2.result.now c.args.rack c.args.names.now c.in_ok-book.book c.in_ok-book.kept c.new-head.result.items (c.as_slice-2.ensures.value ∙ c.in_ok-head.ensures) t.0 t.1 c.new-head.ensures.items
+    resumed_front c.args.held.now c.as_slice-2.result.now c.args.rack c.args.names.now c.in_ok-book.book c.in_ok-book.kept c.new.result.items (c.as_slice-2.ensures.value ∙ c.in_ok-head.ensures) t.0 t.1 c.new.ensures.items

@@ -2,7 +2,7 @@ use Rattle.std.proofs.Common.{◌∙◌, List, subst, sym, true}
 use Rattle.std.specs.Prelude.{IfSome}
 use Rattle.batch_book.specs.declared.entry.Entry.{Entry}
 use Rattle.batch_book.specs.History.{Account, AreUnstopped}
-use Rattle.record_stream.specs.Streams.{IsWritten as IsStreamed}
+use Rattle.book_record.specs.Streams.{IsWritten as IsStreamed}
 use Rattle.kept_sessions.specs.Live.{IsTalkOver}
 use Rattle.kept_sessions.proofs.Lived.{same_account, talk_opening}
 use Rattle.kept_sessions.proofs.sessions.talk_recorded.Goals as goal

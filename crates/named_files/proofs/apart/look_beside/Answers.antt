@@ -17,7 +17,7 @@ loop-file-preserved g c =
     let other : IsOther leads place file = (
       there,
       subst (λ (n : List ℕ). leads n there) c.as_str.ensures c.in_ok-there.ensures,
-      λ one. let t : IsTrue c.are_one_plain.result = c.are_one_plain.ensures.1 one in absurd (let bad : false ≡ true = sym c.if-are_one_plain.false ∙ t in cc),
+      λ one. let t : IsTrue c.is_barred_seen.result = c.is_barred_seen.ensures.1 one in absurd (let bad : false ≡ true = sym c.if-is_barred_seen.false ∙ t in cc),
     ) in
     All-more (IsOther leads place) files c.loop-file.file-index file below c.loop-file.invariant (subst (IsOther leads place) c.file-item.is other)
 

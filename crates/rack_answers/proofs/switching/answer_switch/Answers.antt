@@ -1,7 +1,6 @@
 use Rattle.std.proofs.Common.{Option, List, ℕ}
 use Rattle.std.proofs.lemmas.Result.{IfOk-weaker}
 use Rattle.board_wiring.specs.Sources.{of_wiring}
-use Rattle.board_wiring.proofs.ReadBoards.{has_some}
 use Rattle.board_wiring.specs.declared.board.Board.{Board}
 use Rattle.plan_answers.specs.Lent.{bytes_of}
 use Rattle.plan_answers.specs.Refusals.{Refuses, Printed}
@@ -14,9 +13,6 @@ use Rattle.rack_answers.proofs.switching.answer_switch.Goals as goal
 
 abbrev By : Source (List ℕ) → List ℕ → Option Board → Printed → Type 0
 By source batch board = IsSwitched source board batch
-
-pub switch_on-requires-clause-some : goal.switch_on-requires-clause-some
-switch_on-requires-clause-some g c = λ κs lives. has_some _ c.in-Ok.board c.in-Ok.ensures.board
 
 pub returns-in-Ok-clause-switched : goal.returns-in-Ok-clause-switched
 returns-in-Ok-clause-switched g c =

@@ -7,8 +7,7 @@ use c004_commands::PORTS;
 use crossbar::JOINED_MODULES;
 use setting_runner::line_bits;
 use switch_settings::{
-    CHANGE_BYTES, Chip, ENQUIRY_BYTES, Pair, WIDE_CHANGE_BYTES, WIDE_SETTING_BYTES, change_bytes,
-    setting_bytes, wide_bytes, wide_change,
+    Chip, ENQUIRY_BYTES, Pair, WIDE_CHANGE_BYTES, Wiring, put_change, put_setting,
 };
 
 fn pair(initiator: u8, responder: u8) -> Pair
@@ -24,8 +23,8 @@ fn pair(initiator: u8, responder: u8) -> Pair
 fn is_setting(pairs: &[Pair], bytes: &[u8]) -> bool
     requires { ArePairs JOINED_MODULES pairs.now }
 {
-    let mut out = [0; CHANGE_BYTES];
-    let count = setting_bytes(pairs, &mut out);
+    let mut out = [0; WIDE_CHANGE_BYTES];
+    let count = put_setting(Wiring::Both, pairs, &mut out);
     &out[..count] == bytes
 }
 
@@ -34,8 +33,8 @@ fn is_change(old: &[Pair], new: &[Pair], bytes: &[u8]) -> bool
     requires old { ArePairs JOINED_MODULES old.now }
     requires new { ArePairs JOINED_MODULES new.now }
 {
-    let mut out = [0; CHANGE_BYTES];
-    let count = change_bytes(old, new, &mut out);
+    let mut out = [0; WIDE_CHANGE_BYTES];
+    let count = put_change(Wiring::Both, old, new, &mut out);
     &out[..count] == bytes
 }
 
@@ -43,8 +42,11 @@ fn is_change(old: &[Pair], new: &[Pair], bytes: &[u8]) -> bool
 fn is_wide_setting(chip: Chip, pairs: &[Pair], bytes: &[u8]) -> bool
     requires { ArePairs PORTS pairs.now }
 {
-    let mut out = [0; WIDE_SETTING_BYTES];
-    let count = wide_bytes(chip, pairs, &mut out);
+    let mut out = [0; WIDE_CHANGE_BYTES];
+    let count = match chip {
+        Chip::A => put_setting(Wiring::Forth, pairs, &mut out),
+        Chip::B => put_setting(Wiring::Back, pairs, &mut out),
+    };
     &out[..count] == bytes
 }
 
@@ -54,7 +56,10 @@ fn is_wide_change(chip: Chip, old: &[Pair], new: &[Pair], bytes: &[u8]) -> bool
     requires new { ArePairs PORTS new.now }
 {
     let mut out = [0; WIDE_CHANGE_BYTES];
-    let count = wide_change(chip, old, new, &mut out);
+    let count = match chip {
+        Chip::A => put_change(Wiring::Forth, old, new, &mut out),
+        Chip::B => put_change(Wiring::Back, old, new, &mut out),
+    };
     &out[..count] == bytes
 }
 
@@ -88,7 +93,6 @@ fn change_of_a_wide_rack(rt: HostRuntime) {
 
 #[test]
 fn named_sizes(rt: HostRuntime) {
-    assert!(rt; CHANGE_BYTES == 97 && WIDE_SETTING_BYTES == 98 && WIDE_CHANGE_BYTES == 161);
-    assert!(rt; ENQUIRY_BYTES == 64);
+    assert!(rt; WIDE_CHANGE_BYTES == 161 && ENQUIRY_BYTES == 64);
     assert!(rt; line_bits(1) == 117 && line_bits(1_048_576) == 122_683_392);
 }

@@ -2,7 +2,7 @@
 
 use crate::tests::common::TWO_PUSHES;
 use crate::tests::running::{Block, Case, End, THREE_TRANSFERS, TURNED_ROUND, ends_so};
-use contract_data::FailureCount;
+use byte_streams::FailureCount;
 use crossbar::{Chip, ConfigPort, MemoryPort, PortFault};
 use exchange_limits::WorkerCount;
 use peek_poke::PlainWires;

@@ -2,7 +2,7 @@
 
 use crate::tests::common::{TWO_PUSHES, with_wires};
 use crate::tests::running::{Case, End, ends_so};
-use contract_data::FailureCount;
+use byte_streams::FailureCount;
 use peek_poke::{FuseWires, PlainWire, Wire, WireFault, WireMaker};
 use setting_runner::StopCause;
 use std::sync::atomic::{AtomicUsize, Ordering};

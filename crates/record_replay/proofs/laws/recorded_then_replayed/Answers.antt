@@ -4,7 +4,7 @@ use Rattle.std.proofs.lemmas.Result.{err_from_is_err_and}
 use Rattle.module_memory.specs.Store.{IsWhole}
 use Rattle.module_memory.proofs.Blocks.{all_blocks}
 use Rattle.book_record.specs.RecordText.{entry_text}
-use Rattle.record_fronts.specs.Fronts.{end_line}
+use Rattle.book_record.specs.Fronts.{end_line}
 use Rattle.record_replay.proofs.Recorded.{again_same, has_head, its_body, no_fault}
 use Rattle.record_replay.proofs.laws.recorded_then_replayed.Goals as goal
 

@@ -31,8 +31,8 @@ run_setting-requires-clause-movable g c κs within =
     let part = take (c.loop-number.from + length numbers - c.loop-number.from) (drop c.loop-number.from c.loop-number.bays) in
     subst (λ (x : List ℕ). AreMovable c.args.rest.now batch x part) e movable
 
-pub returns-in-Err-clause-rejoins : goal.returns-in-Err-clause-rejoins
-returns-in-Err-clause-rejoins g c =
+pub returns-in-Err : goal.returns-in-Err
+returns-in-Err g c =
     let n = c.loop-number.number in
     let batch = c.args.batch.now in
     let settings = c.args.schedule.now in
@@ -50,54 +50,31 @@ returns-in-Err-clause-rejoins g c =
     let moves : HaveMoved none_sure c.args.rest.now batch (numbers_in settings n) part new ms =
     subst (λ (x : List ℕ). HaveMoved none_sure c.args.rest.now batch x part new ms) (sym e)
     c.in-Err.ensures.moved in
-    (going_stops c.args.rest.now c.args.bays.now c.loop-number.bays new batch settings n a k ms begun inv.going below inv.from count moves).1
-
-pub returns-in-Err-clause-memories : goal.returns-in-Err-clause-memories
-returns-in-Err-clause-memories g c =
-    let n = c.loop-number.number in
-    let batch = c.args.batch.now in
-    let settings = c.args.schedule.now in
-    let inv = c.loop-number.invariant in
-    let numbers = c.numbers_of_setting-numbers.result.now in
-    let e : numbers_in settings n ≡ numbers = sym c.numbers_of_setting-numbers.ensures.numbers in
-    let below : n < length settings = omega (arith, c.settings-number-end.ensures) in
-    let begun = c.requires.prepared in
-    let a = c.loop-number.from in
-    let k = c.loop-number.from + length numbers - c.loop-number.from in
-    let count : k ≡ length (numbers_in settings n) = omega (arith, ap (length {A = ℕ}) e) in
-    let part = take k (drop a c.loop-number.bays) in
-    let new = c.run_setting.new.bays in
-    let ms = c.in-Err.stop.moved in
-    let moves : HaveMoved none_sure c.args.rest.now batch (numbers_in settings n) part new ms =
-    subst (λ (x : List ℕ). HaveMoved none_sure c.args.rest.now batch x part new ms) (sym e)
-    c.in-Err.ensures.moved in
-    (going_stops c.args.rest.now c.args.bays.now c.loop-number.bays new batch settings n a k ms begun inv.going below inv.from count moves).0
+    let stops = going_stops c.args.rest.now c.args.bays.now c.loop-number.bays new batch settings n a k ms begun inv.going below inv.from count moves in
+    let has = rack_has c.args.rest.now c.args.bays.now batch settings begun in
+    let are : c.of_setting-pairs.result ≡ pairs_at batch settings n = pairs_are batch settings n numbers c.of_setting-pairs.result c.numbers_of_setting-numbers.ensures.numbers c.of_setting-pairs.ensures.members in
+    record {
+      rejoins = stops.1;
+      memories = stops.0;
+      plant = record {
+        cause = search rules;
+        switches = λ honest t is.
+            setting_switches c.args.rest.now c.args.bays.now batch settings n numbers c.of_setting-pairs.result (g.P.ConfigPort.switches c.run_setting.new.plant.port)
+            begun c.numbers_of_setting-numbers.ensures.numbers (λ w. c.of_setting-pairs.ensures.switch c.args.rest.now.store.shape.modules w has)
+            (c.in-Err.ensures.wire t is (subst IsTrue (sym inv.honesty) honest));
+        traffic = (g.P.ConfigPort.passed c.loop-number.plant.port, inv.replied, stops_passing _ c.in-Err.stop.cause _ _ _ _ _ _ inv.known are c.in-Err.ensures.passed);
+        refused = search rules;
+        uncalled = search rules;
+        others = search rules;
+        counted = search rules;
+        honesty = search rules;
+      };
+      told = search rules;
+      going = search rules;
+    }
 
 pub run_setting-requires-clause-pairs : goal.run_setting-requires-clause-pairs
 run_setting-requires-clause-pairs g c κs within = c.of_setting-pairs.ensures.pairs c.args.rest.now.store.shape.modules (rack_has c.args.rest.now c.args.bays.now c.args.batch.now c.args.schedule.now c.requires.prepared)
-
-pub returns-in-Err-clause-plant : goal.returns-in-Err-clause-plant
-returns-in-Err-clause-plant g c =
-    let n = c.loop-number.number in
-    let batch = c.args.batch.now in
-    let settings = c.args.schedule.now in
-    let inv = c.loop-number.invariant in
-    let has = rack_has c.args.rest.now c.args.bays.now batch settings c.requires.prepared in
-    record {
-      cause = search rules;
-      switches = λ honest t is.
-          setting_switches c.args.rest.now c.args.bays.now batch settings n c.numbers_of_setting-numbers.result.now c.of_setting-pairs.result (g.P.ConfigPort.switches c.run_setting.new.plant.port)
-          c.requires.prepared c.numbers_of_setting-numbers.ensures.numbers (λ w. c.of_setting-pairs.ensures.switch c.args.rest.now.store.shape.modules w has)
-          (c.in-Err.ensures.wire t is (subst IsTrue (sym inv.honesty) honest));
-      traffic =
-          let are : c.of_setting-pairs.result ≡ pairs_at batch settings n = pairs_are batch settings n c.numbers_of_setting-numbers.result.now c.of_setting-pairs.result c.numbers_of_setting-numbers.ensures.numbers c.of_setting-pairs.ensures.members in
-          (g.P.ConfigPort.passed c.loop-number.plant.port, inv.replied, stops_passing _ c.in-Err.stop.cause _ _ _ _ _ _ inv.known are c.in-Err.ensures.passed);
-      refused = search rules;
-      uncalled = search rules;
-      others = search rules;
-      counted = search rules;
-      honesty = search rules;
-    }
 
 pub loop-number-preserved : goal.loop-number-preserved
 loop-number-preserved g c =

@@ -5,7 +5,7 @@ use Rattle.std.proofs.lemmas.Slice.Eq.{ends_is}
 use Rattle.std.proofs.Math.Seq.{drop-append_seam}
 use Rattle.std.specs.List.{range_with_len}
 use Rattle.c004_commands.specs.declared.port.TheConstants.{PORTS}
-use Rattle.switch_driver.specs.Waking.{own_answer}
+use Rattle.switch_driver.specs.ComingUp.{own_answer}
 use Rattle.switch_driver.specs.declared.coming_up.TheConstants.{OWN_ANSWERS}
 use Rattle.switch_driver.proofs.coming_up.are_own.Goals as goal
 

@@ -4,8 +4,8 @@ use Rattle.c004_commands.specs.Commands.{AreCommands}
 use Rattle.c004_commands.specs.declared.port.TheConstants.{PORTS}
 use Rattle.switch_settings.specs.Pairs.{all_enquiries}
 use Rattle.switch_settings.proofs.Replies.{all_ports}
-use Rattle.switch_driver.specs.Waking.{ending}
-use Rattle.switch_driver.proofs.Waking.{came_up, passed_then}
+use Rattle.switch_driver.specs.ComingUp.{ending}
+use Rattle.switch_driver.proofs.ComingUp.{came_up, passed_then}
 use Rattle.switch_driver.proofs.coming_up.come_up.Goals as goal
 
 pub converse-requires : goal.converse-requires

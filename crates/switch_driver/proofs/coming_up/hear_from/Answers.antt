@@ -2,8 +2,8 @@ use Rattle.std.proofs.Common.{◌≡◌, ◌+◌, ◌-◌, ◌++◌, ◌∷◌, 
 use Rattle.c004_commands.specs.declared.port.TheConstants.{PORTS}
 use Rattle.std.specs.List.{range_with_len}
 use Rattle.crossbar.specs.Traffic.{heard_from}
-use Rattle.switch_driver.proofs.Waking.{answers_more, heard_passed, passed_none, passed_then}
-use Rattle.switch_driver.specs.Waking.{own_answer}
+use Rattle.switch_driver.proofs.ComingUp.{answers_more, heard_passed, passed_none, passed_then}
+use Rattle.switch_driver.specs.ComingUp.{own_answer}
 use Rattle.switch_driver.proofs.coming_up.hear_from.Goals as goal
 
 pub loop-output-init : goal.loop-output-init
@@ -30,4 +30,4 @@ returns-clause-heard g c =
     let so_far = c.loop-output.invariant in
     let first = c.args.first in
     let all : so_far.count ≡ PORTS - first = omega (arith, so_far.at, c.loop-output-test.false, c.requires) in
-    so_far.heard ∙ ap (λ (count : ℕ). c.args.woke.now ++ heard_from c.args.chip (map own_answer (range_with_len first count))) all
+    so_far.heard ∙ ap (λ (count : ℕ). c.args.came_up.now ++ heard_from c.args.chip (map own_answer (range_with_len first count))) all

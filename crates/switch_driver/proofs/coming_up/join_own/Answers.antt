@@ -1,7 +1,7 @@
 use Rattle.std.proofs.Common.{◌∷◌, [], refl, sym, append-nil}
 use Rattle.c004_commands.specs.Commands.{AreCommands}
 use Rattle.c004_commands.specs.declared.command.Command.TheVariants.{Connect}
-use Rattle.switch_driver.proofs.Waking.{joins_more, passed_none, passed_then}
+use Rattle.switch_driver.proofs.ComingUp.{joins_more, passed_none, passed_then}
 use Rattle.switch_driver.proofs.coming_up.join_own.Goals as goal
 
 pub loop-number-init : goal.loop-number-init

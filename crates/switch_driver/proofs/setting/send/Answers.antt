@@ -4,7 +4,7 @@ use Rattle.std.specs.Option.{option_to_list}
 use Rattle.c004_commands.specs.Commands.{row}
 use Rattle.crossbar.specs.Chips.{switch_at}
 use Rattle.crossbar.specs.Switch.{answer}
-use Rattle.switch_driver.proofs.Asking.{ok_if}
+use Rattle.switch_settings.proofs.Asking.{ok_if}
 use Rattle.switch_driver.proofs.setting.send.Goals as goal
 
 pub converse-requires : goal.converse-requires

@@ -11,8 +11,8 @@ pub loop-number-preserved : goal.loop-number-preserved
 loop-number-preserved c = record {
   size = search rules;
   stand = omega (arith, c.put-stand.ensures.number);
-  bytes = c.put-stand.ensures.bytes ∙ ap (λ t. t ++ (2 ∷ c.port-output.result ∷ [])) c.loop-number.invariant.bytes
-      ∙ ap (λ n. text (map Enquire (range_with_len 0 c.loop-number.number)) ++ (2 ∷ n ∷ [])) c.port-output.ensures ∙ sym (enquiry_more c.loop-number.number);
+  bytes = c.put-stand.ensures.bytes ∙ ap (λ t. t ++ (2 ∷ c.port_of-output.result ∷ [])) c.loop-number.invariant.bytes
+      ∙ ap (λ n. text (map Enquire (range_with_len 0 c.loop-number.number)) ++ (2 ∷ n ∷ [])) c.port_of-output.ensures ∙ sym (enquiry_more c.loop-number.number);
 }
 
 pub returns : goal.returns

@@ -17,11 +17,11 @@ returns-in-Check c =
 
 pub returns-in-Switch : goal.returns-in-Switch
 returns-in-Switch c =
-    rw c.in-Switch.is (answered_by c.answer_switch_alone.result (λ source. IsSwitched source None c.args.given.first.now) c.args.given.second.now c.source_of.result c.source_of.ensures c.answer_switch_alone.ensures.switched (λ text. c.answer_switch_alone.ensures.one text refl))
+    rw c.in-Switch.is (answered_by c.answer_switch.result (λ source. IsSwitched source None c.args.given.first.now) c.args.given.second.now c.source_of.result c.source_of.ensures c.answer_switch.ensures.switched (λ text. c.answer_switch.ensures.one text refl))
 
 pub returns-in-Apply : goal.returns-in-Apply
 returns-in-Apply c =
-    rw c.in-Apply.is (the_one c.answer_apply_alone.result (IsApplied c.args.given.first.now c.args.given.second.now c.args.given.third.now) c.answer_apply_alone.ensures.ran c.answer_apply_alone.ensures.one)
+    rw c.in-Apply.is (the_one c.answer_apply.result (IsApplied c.args.given.first.now c.args.given.second.now c.args.given.third.now) c.answer_apply.ensures.ran c.answer_apply.ensures.one)
 
 pub returns-in-Draw : goal.returns-in-Draw
 returns-in-Draw c =
@@ -33,8 +33,8 @@ returns-in-Changes c =
 
 pub returns-in-SwitchWired : goal.returns-in-SwitchWired
 returns-in-SwitchWired c =
-    rw c.in-SwitchWired.is (switched_on c.answer_switch_alone-in-SwitchWired.result c.args.given.third.now c.args.given.first.now c.args.given.second.now (said_by c.source_of-in-SwitchWired.result) c.source_of-in-SwitchWired.ensures c.answer_switch_alone-in-SwitchWired.ensures.switched)
+    rw c.in-SwitchWired.is (switched_on c.answer_switch-in-SwitchWired.result c.args.given.third.now c.args.given.first.now c.args.given.second.now (said_by c.source_of-in-SwitchWired.result) c.source_of-in-SwitchWired.ensures c.answer_switch-in-SwitchWired.ensures.switched)
 
 pub returns-in-Orders : goal.returns-in-Orders
 returns-in-Orders c =
-    rw c.in-Orders.is (answered_by c.answer_orders_alone.result (λ source. IsOrdered source None c.args.given.first.now) c.args.given.second.now c.source_of-in-Orders.result c.source_of-in-Orders.ensures c.answer_orders_alone.ensures.ordered c.answer_orders_alone.ensures.one)
+    rw c.in-Orders.is (answered_by c.answer_orders.result (λ source. IsOrdered source None c.args.given.first.now) c.args.given.second.now c.source_of-in-Orders.result c.source_of-in-Orders.ensures c.answer_orders.ensures.ordered c.answer_orders.ensures.one)

@@ -1,0 +1,207 @@
+-- The head is read in one way only.
+use Rattle.std.proofs.Common.{◌≡◌, ◌≢◌, ℕ, ◌+◌, ◌<◌, List, [], ◌∷◌, ◌++◌, length, All, codes, Result, Ok, Err, refl, sym, ap, ◌∙◌, append_assoc, append-nil, subst, arith}
+use Rattle.std.specs.Prelude.{IsOk}
+use Rattle.std.specs.List.{flat_map}
+use Rattle.std.proofs.lemmas.Bool.{false≢true}
+use Rattle.std.proofs.lemmas.List.{append_cancel_left, length-append}
+use Rattle.std.proofs.lemmas.List.Elements.{All-head, All-nil, All-push, All-tail}
+use Rattle.std.proofs.lemmas.Grind.{flat_map-append}
+use Rattle.batch.specs.Extent.{Extent, IsShape, extent}
+use Rattle.batch.specs.Text.{IsNumber, number, space, line_feed}
+use Rattle.batch.proofs.Lines.{Ends, behind_number, ends_line, ends_space}
+use Rattle.batch.proofs.Shapes.{of_shape}
+use Rattle.client_session.specs.Bytes.{HasNoFeed}
+use Rattle.line_words.specs.HexWords.{IsWord, hex8, BeginsWithNoHex8}
+use Rattle.line_words.proofs.Numbers.{behind_word}
+use Rattle.book_record.proofs.CallTexts.{one_hex_front}
+use Rattle.book_record.specs.Heads.{AreNames, BeginsWithNoHead, BeginsWithNoNames, BeginsWithNoNumbers, BeginsWithNoRackLine, client_line, head_of, letter_x, rack_line}
+use Rattle.book_record.specs.FrontLaws.{OneHead, CutHeadIsNone}
+use Rattle.book_record.proofs.Feeds.{first_line}
+
+pub ends_x : Ends letter_x
+ends_x = λ digit. omega arith
+
+form : (r m k w h n x : List ℕ) → (r ++ (m ++ (k ++ (w ++ (h ++ space ∷ n))))) ++ x ≡ r ++ (m ++ (k ++ (w ++ (h ++ space ∷ (n ++ x)))))
+form r m k w h n x = simp append_assoc
+
+line_form : (e : Extent) (sum n : ℕ) (x : List ℕ)
+    → rack_line e sum n ++ x ≡ codes "record " ++ (number e.modules letter_x ++ (number e.blocks letter_x ++ (number e.words space ++ (hex8 sum ++ space ∷ (number n line_feed ++ x)))))
+line_form e sum n x = form (codes "record ") (number e.modules letter_x) (number e.blocks letter_x) (number e.words space) (hex8 sum) (number n line_feed) x
+
+-- three numbers are those that were read
+pub record OneNumbers (a b c m k w : ℕ) (x y : List ℕ) : Type 0 where
+  pub first : a ≡ m
+  pub second : b ≡ k
+  pub third : c ≡ w
+  pub rest : x ≡ y
+
+one_numbers : (text x y : List ℕ) (a b c m k w : ℕ) → IsNumber a × IsNumber b × IsNumber c → IsNumber m → IsNumber k → IsNumber w
+    → text ≡ number a letter_x ++ (number b letter_x ++ (number c space ++ x)) → text ≡ number m letter_x ++ (number k letter_x ++ (number w space ++ y)) → OneNumbers a b c m k w x y
+one_numbers text x y a b c m k w read fm fk fw is same =
+    let p = behind_number text a m letter_x _ _ ends_x fm (read.0, is) same in
+    let q = behind_number _ b k letter_x _ _ ends_x fk (read.1, sym p.1) refl in
+    let r = behind_number _ c w space x y ends_space fw (read.2, sym q.1) refl in
+    record { first = p.0; second = q.0; third = r.0; rest = r.1 }
+
+pub no_blocks : (text after : List ℕ) (a : ℕ) → IsNumber a × (text ≡ number a letter_x ++ after) → ((n : ℕ) (rest : List ℕ) → IsNumber n → after ≢ number n letter_x ++ rest) → BeginsWithNoNumbers text
+no_blocks text after a read none m k w rest fm fk fw same = none k (number w space ++ rest) fk (behind_number text a m letter_x _ _ ends_x fm read same).1
+
+pub no_words : (text after more : List ℕ) (a b : ℕ) → IsNumber a × (text ≡ number a letter_x ++ after) → IsNumber b × (after ≡ number b letter_x ++ more) → ((n : ℕ) (rest : List ℕ) → IsNumber n → more ≢ number n space ++ rest) → BeginsWithNoNumbers text
+no_words text after more a b read next none m k w rest fm fk fw same =
+    none w rest fw (behind_number after b k letter_x _ _ ends_x fk next (behind_number text a m letter_x _ _ ends_x fm read same).1).1
+
+-- ---- what isn't there
+
+pub no_front : (text : List ℕ) → ((x : List ℕ) → text ≢ codes "record " ++ x) → BeginsWithNoRackLine text
+no_front text none e sum n rest is word fits same = none _ (same ∙ line_form e sum n rest)
+
+behind_front : (text rest : List ℕ) (e : Extent) (sum n : ℕ) (x : List ℕ) → text ≡ codes "record " ++ rest → text ≡ rack_line e sum n ++ x
+    → rest ≡ number e.modules letter_x ++ (number e.blocks letter_x ++ (number e.words space ++ (hex8 sum ++ space ∷ (number n line_feed ++ x))))
+behind_front text rest e sum n x is same = behind_word text (codes "record ") rest _ is (same ∙ line_form e sum n x)
+
+pub no_numbers : (text rest : List ℕ) → text ≡ codes "record " ++ rest → BeginsWithNoNumbers rest → BeginsWithNoRackLine text
+no_numbers text rest is none e sum n x allowed word few same =
+    let fits = of_shape e allowed in
+    none e.modules e.blocks e.words _ fits.modules fits.blocks fits.words (behind_front text rest e sum n x is same)
+
+-- what stands behind the numbers of a line that is read
+behind_numbers : (text rest after : List ℕ) (a b c : ℕ) (e : Extent) (sum n : ℕ) (x : List ℕ) → text ≡ codes "record " ++ rest → IsNumber a × IsNumber b × IsNumber c → rest ≡ number a letter_x ++ (number b letter_x ++ (number c space ++ after))
+    → IsShape e → text ≡ rack_line e sum n ++ x → OneNumbers a b c e.modules e.blocks e.words after (hex8 sum ++ space ∷ (number n line_feed ++ x))
+behind_numbers text rest after a b c e sum n x is read are allowed same =
+    let fits = of_shape e allowed in
+    one_numbers rest after (hex8 sum ++ space ∷ (number n line_feed ++ x)) a b c e.modules e.blocks e.words read fits.modules fits.blocks fits.words are (behind_front text rest e sum n x is same)
+
+pub no_sum : (text rest after : List ℕ) (a b c : ℕ) → text ≡ codes "record " ++ rest → IsNumber a × IsNumber b × IsNumber c → rest ≡ number a letter_x ++ (number b letter_x ++ (number c space ++ after)) → BeginsWithNoHex8 after space → BeginsWithNoRackLine text
+no_sum text rest after a b c is read are none e sum n x allowed word fits same =
+    none sum (number n line_feed ++ x) word (behind_numbers text rest after a b c e sum n x is read are allowed same).rest
+
+pub no_count : (text rest after more : List ℕ) (a b c s : ℕ) → text ≡ codes "record " ++ rest → IsNumber a × IsNumber b × IsNumber c → rest ≡ number a letter_x ++ (number b letter_x ++ (number c space ++ after)) → IsWord s × (after ≡ hex8 s ++ space ∷ more)
+    → ((n : ℕ) (y : List ℕ) → IsNumber n → more ≢ number n line_feed ++ y) → BeginsWithNoRackLine text
+no_count text rest after more a b c s is read are sum none e other n x allowed word fits same =
+    none n x fits (one_hex_front s other space more (number n line_feed ++ x) sum.0 word (sym sum.1 ∙ (behind_numbers text rest after a b c e other n x is read are allowed same).rest)).1
+
+pub no_shape : (text rest after : List ℕ) (a b c : ℕ) → text ≡ codes "record " ++ rest → IsNumber a × IsNumber b × IsNumber c → rest ≡ number a letter_x ++ (number b letter_x ++ (number c space ++ after)) → (IsShape (extent a b c) → ⊥) → BeginsWithNoRackLine text
+no_shape text rest after a b c is read are bad e sum n x allowed word fits same =
+    let one = behind_numbers text rest after a b c e sum n x is read are allowed same in
+    bad (subst (λ (k : ℕ). IsShape (extent a b k)) (sym one.third) (subst (λ (k : ℕ). IsShape (extent a k e.words)) (sym one.second) (subst (λ (k : ℕ). IsShape (extent k e.blocks e.words)) (sym one.first) allowed)))
+
+pub no_ok : {T E : Type 0} (r : Result T E) → ((x : T) → r ≡ Ok x → ⊥) → IsOk r → ⊥
+no_ok (Ok x) other is = other x refl
+no_ok (Err e) other is = false≢true is
+
+-- ---- one first line
+
+pub record OneRackLine (e f : Extent) (s t n m : ℕ) (x y : List ℕ) : Type 0 where
+  pub shape : e ≡ f
+  pub sum : s ≡ t
+  pub count : n ≡ m
+  pub rest : x ≡ y
+
+same_extent : (e f : Extent) → e.modules ≡ f.modules → e.blocks ≡ f.blocks → e.words ≡ f.words → e ≡ f
+same_extent e f m b w =
+    ap (λ (k : ℕ). extent k e.blocks e.words) m ∙ ap (λ (k : ℕ). extent f.modules k e.words) b ∙ ap (extent f.modules f.blocks) w
+
+pub one_rack_line : (e f : Extent) (s t n m : ℕ) (x y : List ℕ) → IsShape e → IsShape f → IsWord s → IsWord t → IsNumber n → IsNumber m → rack_line e s n ++ x ≡ rack_line f t m ++ y → OneRackLine e f s t n m x y
+one_rack_line e f s t n m x y p q ws wt fn fm same =
+    let fits = of_shape e p in
+    let numbers = behind_numbers (rack_line e s n ++ x) _ _ e.modules e.blocks e.words f t m y (line_form e s n x) (fits.modules, fits.blocks, fits.words) refl q same in
+    let hex = one_hex_front s t space _ _ ws wt numbers.rest in
+    let count = behind_number _ n m line_feed x y ends_line fm (fn, refl) hex.1 in
+    record { shape = same_extent e f numbers.first numbers.second numbers.third; sum = hex.0; count = count.0; rest = count.1 }
+
+-- ---- the names
+
+client_form : (w n x : List ℕ) → (w ++ (n ++ line_feed ∷ [])) ++ x ≡ w ++ (n ++ line_feed ∷ x)
+client_form w n x = simp append_assoc
+
+pub names_form : (name : List ℕ) (names : List (List ℕ)) (x : List ℕ) → flat_map client_line (name ∷ names) ++ x ≡ codes "client " ++ (name ++ line_feed ∷ (flat_map client_line names ++ x))
+names_form name names x = append_assoc (client_line name) (flat_map client_line names) x ∙ client_form (codes "client ") name (flat_map client_line names ++ x)
+
+one_client : (w v x y : List ℕ) → HasNoFeed w → HasNoFeed v → codes "client " ++ (w ++ line_feed ∷ x) ≡ codes "client " ++ (v ++ line_feed ∷ y) → (w ≡ v) × (x ≡ y)
+one_client w v x y p q same = first_line w v x y p q (append_cancel_left (codes "client ") _ _ same)
+
+pub one_names : (ns ms : List (List ℕ)) (x y : List ℕ) → length ns ≡ length ms → All HasNoFeed ns → All HasNoFeed ms → flat_map client_line ns ++ x ≡ flat_map client_line ms ++ y → (ns ≡ ms) × (x ≡ y)
+one_names [] [] x y len p q same = (refl, same)
+one_names [] (b ∷ ms) x y len p q same = absurd (omega (arith, len))
+one_names (a ∷ ns) [] x y len p q same = absurd (omega (arith, len))
+one_names (a ∷ ns) (b ∷ ms) x y len p q same =
+    let one = one_client a b _ _ (All-head HasNoFeed a ns p) (All-head HasNoFeed b ms q) (sym (names_form a ns x) ∙ same ∙ names_form b ms y) in
+    let more = one_names ns ms x y (omega (arith, len)) (All-tail HasNoFeed a ns p) (All-tail HasNoFeed b ms q) one.1 in
+    (ap (λ (n : List ℕ). n ∷ ns) one.0 ∙ ap (λ (l : List (List ℕ)). b ∷ l) more.0, more.1)
+
+-- so many names were read
+pub record NamesRead (text : List ℕ) (k : ℕ) (rest : List ℕ) : Type 0 where
+  pub names : List (List ℕ)
+  pub count : length names ≡ k
+  pub each : All HasNoFeed names
+  pub front : text ≡ flat_map client_line names ++ rest
+
+pub none_read : (text : List ℕ) → NamesRead text 0 text
+none_read text = record { names = []; count = refl; each = All-nil HasNoFeed; front = refl }
+
+pub one_read : (text rest after left name : List ℕ) (k : ℕ) → NamesRead text k rest → rest ≡ codes "client " ++ after → after ≡ name ++ line_feed ∷ left → HasNoFeed name → NamesRead text (k + 1) left
+one_read text rest after left name k read is line none = record {
+  names = read.names ++ name ∷ [];
+  count = omega (arith, read.count, length-append read.names (name ∷ []));
+  each = All-push HasNoFeed read.names name read.each none;
+  front =
+      read.front ∙ ap (λ (l : List ℕ). flat_map client_line read.names ++ l) (is ∙ (ap (λ (l : List ℕ). codes "client " ++ l) line ∙ sym (names_form name [] left)))
+      ∙ sym (append_assoc (flat_map client_line read.names) (flat_map client_line (name ∷ [])) left) ∙ ap (λ (l : List ℕ). l ++ left) (sym (flat_map-append client_line read.names (name ∷ [])));
+}
+
+record LeftOver (rest : List ℕ) : Type 0 where
+  name : List ℕ
+  left : List ℕ
+  none : HasNoFeed name
+  is : rest ≡ codes "client " ++ (name ++ line_feed ∷ left)
+
+-- where fewer names were read than there are, another stands there
+left_over : (ns ms : List (List ℕ)) (rest end : List ℕ) → length ns < length ms → All HasNoFeed ns → All HasNoFeed ms → flat_map client_line ns ++ rest ≡ flat_map client_line ms ++ end → LeftOver rest
+left_over [] [] rest end less p q same = absurd (omega (arith, less))
+left_over [] (b ∷ ms) rest end less p q same = record { name = b; left = flat_map client_line ms ++ end; none = All-head HasNoFeed b ms q; is = same ∙ names_form b ms end }
+left_over (a ∷ ns) [] rest end less p q same = absurd (omega (arith, less))
+left_over (a ∷ ns) (b ∷ ms) rest end less p q same =
+    let one = one_client a b _ _ (All-head HasNoFeed a ns p) (All-head HasNoFeed b ms q) (sym (names_form a ns rest) ∙ same ∙ names_form b ms end) in
+    left_over ns ms rest end (omega (arith, less)) (All-tail HasNoFeed a ns p) (All-tail HasNoFeed b ms q) one.1
+
+pub no_other_name : (text rest : List ℕ) (k n : ℕ) → NamesRead text k rest → k < n → ((name left : List ℕ) → HasNoFeed name → rest ≢ codes "client " ++ (name ++ line_feed ∷ left)) → BeginsWithNoNames text n
+no_other_name text rest k n read less none names end are is =
+    let other = left_over read.names names rest end (omega (arith, less, read.count, are.count)) read.each are.each (sym read.front ∙ is) in
+    none other.name other.left other.none other.is
+
+pub names_all : (text rest : List ℕ) (k n : ℕ) → NamesRead text k rest → k ≡ n → IsNumber n → (all : List (List ℕ)) × AreNames all n × (text ≡ flat_map client_line all ++ rest)
+names_all text rest k n read same fits = (read.names, (record { count = read.count ∙ same; number = fits; each = read.each }), read.front)
+
+-- ---- one head
+
+pub one_head : OneHead
+one_head e f s t ns ms x y p q ws wt names others same =
+    let n = names.count in
+    let m = others.count in
+    let line = one_rack_line e f s t (length ns) (length ms) (flat_map client_line ns ++ x) (flat_map client_line ms ++ y) p q ws wt names.number others.number
+    (sym (append_assoc (rack_line e s (length ns)) (flat_map client_line ns) x) ∙ same ∙ append_assoc (rack_line f t (length ms)) (flat_map client_line ms) y) in
+    let more = one_names ns ms x y line.count names.each others.each line.rest in
+    record { shape = line.shape; sum = line.sum; names = more.0; rest = more.1 }
+
+nothing_left : (a b : List ℕ) → [] ≡ a ++ b → b ≡ []
+nothing_left [] b e = sym e
+nothing_left (x ∷ a) b e = absurd cc
+
+pub cut_head : CutHeadIsNone
+cut_head e s names front missing p ws are same some f t n others rest q wt fit is =
+    let one = one_head e f s t names others [] (rest ++ missing) p q ws wt are (subst (AreNames others) (sym fit.count) fit)
+    (append-nil (head_of e s names) ∙ same ∙ ap (λ (l : List ℕ). l ++ missing) is ∙ append_assoc (head_of f t others) rest missing) in
+    some (nothing_left rest missing one.rest)
+
+-- no head where the first line is there, and not the names
+pub no_names : (text after : List ℕ) (e : Extent) (sum n : ℕ) → IsShape e → IsWord sum → IsNumber n → text ≡ rack_line e sum n ++ after → BeginsWithNoNames after n → BeginsWithNoHead text
+no_names text after e sum n p ws fits is none f other m names rest q wt are same =
+    let line = one_rack_line e f sum other n (length names) after (flat_map client_line names ++ rest) p q ws wt fits (subst IsNumber (sym are.count) are.number)
+    (sym is ∙ same ∙ append_assoc (rack_line f other (length names)) (flat_map client_line names) rest) in
+    none names rest (record { count = sym line.count; number = fits; each = are.each }) line.rest
+
+-- the whole head
+pub head_read : (text after rest : List ℕ) (e : Extent) (sum n : ℕ) (names : List (List ℕ)) → text ≡ rack_line e sum n ++ after → AreNames names n → after ≡ flat_map client_line names ++ rest → text ≡ head_of e sum names ++ rest
+head_read text after rest e sum n names is are follow =
+    is ∙ ap (λ (l : List ℕ). rack_line e sum n ++ l) follow ∙ ap (λ (k : ℕ). rack_line e sum k ++ (flat_map client_line names ++ rest)) (sym are.count)
+    ∙ sym (append_assoc (rack_line e sum (length names)) (flat_map client_line names) rest)

@@ -1,0 +1,89 @@
+-- The head of a record: its first line, and the names of the clients. Its form is this project's
+-- choice.
+use Rattle.std.specs.Prelude.{◌≡◌, ◌≢◌, ℕ, ◌+◌, ◌*◌, ◌%◌, List, [], ◌∷◌, ◌++◌, length, All, codes}
+use Rattle.std.specs.List.{flat_map}
+use Rattle.batch.specs.Extent.{Extent, IsShape}
+use Rattle.batch.specs.Text.{IsNumber, number, space, line_feed}
+use Rattle.batch_book.specs.History.{Account}
+use Rattle.book_record.specs.RecordText.{entry_text}
+use Rattle.client_session.specs.Bytes.{HasNoFeed}
+use Rattle.line_words.specs.HexWords.{IsWord, hex8}
+use Rattle.module_memory.specs.Images.{image_of}
+use Rattle.module_memory.specs.Store.{Store}
+use Rattle.book_record.specs.Fronts.{end_line}
+
+-- ---- the sum: Adler-32, as RFC 1950 has it
+
+-- that of the bytes so far, and that of all these sums
+abbrev pub sums : List ℕ → ℕ → ℕ → ℕ
+sums [] low high = high * 65536 + low
+sums (b ∷ bytes) low high = sums bytes ((low + b) % 65521) ((high + (low + b) % 65521) % 65521)
+
+abbrev pub adler : List ℕ → ℕ
+adler bytes = sums bytes 1 0
+
+-- ---- the head
+
+-- the byte between the numbers of a shape
+abbrev pub letter_x : ℕ
+letter_x = 120
+
+-- `record MxKxW SUM N`: the shape of the rack, the sum of the image of its opening words, and how
+-- many clients have names
+abbrev pub rack_line : Extent → ℕ → ℕ → List ℕ
+rack_line shape sum n =
+    codes "record "
+    ++ (number shape.modules letter_x ++ (number shape.blocks letter_x
+    ++ (number shape.words space ++ (hex8 sum ++ space ∷ number n line_feed))))
+
+-- `client NAME`
+abbrev pub client_line : List ℕ → List ℕ
+client_line name = codes "client " ++ (name ++ line_feed ∷ [])
+
+-- the first line, and one for each client that has a name, in the order of the sessions' numbers
+abbrev pub head_of : Extent → ℕ → List (List ℕ) → List ℕ
+head_of shape sum names = rack_line shape sum (length names) ++ flat_map client_line names
+
+-- so many clients have such names
+pub record AreNames (names : List (List ℕ)) (n : ℕ) : Type 0 where
+  pub count : length names ≡ n
+  pub number : IsNumber n
+  pub each : All HasNoFeed names
+
+-- the text begins with no head
+abbrev pub BeginsWithNoHead : List ℕ → Type 0
+BeginsWithNoHead text =
+    (shape : Extent) (sum n : ℕ) (names : List (List ℕ)) (rest : List ℕ) → IsShape shape
+    → IsWord sum → AreNames names n → text ≢ head_of shape sum names ++ rest
+
+-- the text begins with no first line of a head
+abbrev pub BeginsWithNoRackLine : List ℕ → Type 0
+BeginsWithNoRackLine text =
+    (shape : Extent) (sum n : ℕ) (rest : List ℕ) → IsShape shape → IsWord sum → IsNumber n
+    → text ≢ rack_line shape sum n ++ rest
+
+-- the text begins with the lines of no so many clients
+abbrev pub BeginsWithNoNames : List ℕ → ℕ → Type 0
+BeginsWithNoNames text n =
+    (names : List (List ℕ)) (rest : List ℕ) → AreNames names n
+    → text ≢ flat_map client_line names ++ rest
+
+-- the text begins with the head of a record on a rack that has these words at first, by clients of
+-- these names
+abbrev pub IsHeadOf : Store → List (List ℕ) → List ℕ → List ℕ → Type 0
+IsHeadOf opening names text rest =
+    text ≡ head_of opening.shape (adler (image_of opening)) names ++ rest
+
+-- the text begins with no three numbers, as a shape has them, and a space
+abbrev pub BeginsWithNoNumbers : List ℕ → Type 0
+BeginsWithNoNumbers text =
+    (m k w : ℕ) (rest : List ℕ) → IsNumber m → IsNumber k → IsNumber w
+    → text ≢ number m letter_x ++ (number k letter_x ++ (number w space ++ rest))
+
+-- ---- a whole record
+
+-- the record of a book whose sessions have all ended, and of whose clients none has a name
+abbrev pub whole_text : Account → List ℕ
+whole_text book =
+    head_of book.opening.shape (adler (image_of book.opening)) []
+    ++ (flat_map entry_text book.history ++ end_line)

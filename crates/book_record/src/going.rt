@@ -1,0 +1,38 @@
+//! How a book goes on with a stream, and how it ends with one.
+
+ghost use Rattle.std.specs.Prelude.{◌≡◌, true};
+ghost use Rattle.batch_book.specs.History.{account};
+ghost use Rattle.book_record.specs.Streams.{IsWritten};
+
+use crate::naming::StreamName;
+use crate::streamed::Streamed;
+use batch_book::{BareBook, Book, Silent};
+use std::alloc::Global;
+use std::io::Write;
+
+/// The book goes on from its entries: the next ones go to this writer. What the writer holds, and
+/// the entries, are those that the stream is named by.
+pub fn stream_on<W: Write, N: StreamName>(
+    alloc: Global,
+    book: Book<Silent>,
+    writer: W,
+) -> Book<Streamed<W, N>>
+    requires held { W.contents writer ≡ N.held }
+    requires earlier { book.history ≡ N.earlier }
+    ensures { result ≡ account book.opening book.history book.machine true }
+{
+    let (bare, log) = book.part();
+    let Silent { past } = log;
+    Book::go_on(bare, Streamed::behind(alloc, past, writer))
+}
+
+/// The book without its history, and the writer, which has got the text of all entries since the
+/// stream began; where the history isn't whole, of all but the last one, and a front of that.
+pub fn stream_off<W: Write, N: StreamName>(book: Book<Streamed<W, N>>) -> (BareBook, W)
+    ensures opening { result.0.opening ≡ book.opening }
+    ensures machine { result.0.machine ≡ book.machine }
+    ensures written { IsWritten N.held (W.contents result.1) N.earlier book.history book.whole }
+{
+    let (bare, log) = book.part();
+    (bare, log.into_writer())
+}

@@ -1,0 +1,155 @@
+//! The head of a record.
+
+ghost use Rattle.std.specs.Prelude.{◌≡◌, ◌↔◌, ◌++◌, ◌∷◌, List, ℕ, length, map, IfOk, IfSome, IfNone, IsTrue, OnOk};
+ghost use Rattle.std.specs.List.{flat_map};
+ghost use Rattle.batch.specs.Extent.{IsShape};
+ghost use Rattle.batch.specs.Text.{IsNumber, number, space, line_feed};
+ghost use Rattle.client_session.specs.Bytes.{HasNoFeed};
+ghost use Rattle.line_words.specs.HexWords.{IsWord, hex8, BeginsWithNoHex8};
+ghost use Rattle.book_record.specs.Fronts.{end_line};
+ghost use Rattle.book_record.specs.Heads.{AreNames, BeginsWithNoRackLine, BeginsWithNoHead, BeginsWithNoNames, BeginsWithNoNumbers, client_line, rack_line, head_of, letter_x};
+
+use batch::{Shape, number_before, position_of};
+use line_words::{Line, behind, hex8_and_rest};
+use std::alloc::{AllocError, Global};
+
+/// The first line of a record: the shape of its rack, the sum of the image of its opening words, and
+/// how many clients have names.
+fn rack_line(shape: Shape, sum: u32, names: usize) -> Line
+    requires { IsNumber names }
+    ensures { result ≡ rack_line shape sum names }
+{
+    let mut line = Line::new();
+    line.put(b"record ");
+    line.put_number(shape.modules() as u64);
+    line.put(b"x");
+    line.put_number(shape.blocks() as u64);
+    line.put(b"x");
+    line.put_number(shape.words() as u64);
+    line.put(b" ");
+    line.put_hex8(sum);
+    line.put(b" ");
+    line.put_number(names as u64);
+    line.put(b"\n");
+    line
+}
+
+/// Puts the line of a client that has this name.
+fn push_client(text: &mut Vec<u8>, name: &[u8]) -> Result<(), AllocError>
+    ensures { OnOk result (text.new.items ≡ text.old.items ++ client_line name.now) }
+{
+    text.extend_from_slice(b"client ")?;
+    text.extend_from_slice(name)?;
+    text.push(b'\n')?;
+    Ok(())
+}
+
+/// The head of a record: the shape of its rack, the sum of the image of its opening words, and the
+/// names of the clients, in the order of their sessions. It takes memory by the names.
+pub fn head_text(
+    alloc: Global,
+    shape: Shape,
+    sum: u32,
+    names: &[&[u8]],
+) -> Result<Vec<u8>, AllocError>
+    requires { IsNumber (length names.now) }
+    ensures { IfOk result (λ text.
+        text.items ≡ head_of shape sum (map (λ n. n.now) names.now)) }
+{
+    let mut text = Vec::from_slice(alloc, rack_line(shape, sum, names.len()).as_bytes())?;
+    for name in names {
+        push_client(&mut text, name)?;
+    }
+    Ok(text)
+}
+
+/// The three numbers of a shape, behind which a space stands, and the rest.
+fn numbers_and_rest(text: &[u8]) -> Option<(usize, usize, usize, &[u8])>
+    ensures numbers { IfSome result (λ x. IsNumber x.0 × IsNumber x.1 × IsNumber x.2) }
+    ensures some { IfSome result (λ x. text.now
+        ≡ number x.0 letter_x ++ (number x.1 letter_x ++ (number x.2 space ++ x.3.now))) }
+    ensures none { IfNone result (BeginsWithNoNumbers text.now) }
+{
+    let (modules, rest) = number_before(text, b'x')?;
+    let (blocks, rest) = number_before(rest, b'x')?;
+    let (words, rest) = number_before(rest, b' ')?;
+    Some((modules, blocks, words, rest))
+}
+
+/// The shape, the sum and the number of names of the first line of a record, and what stands behind
+/// it.
+fn read_rack_line(text: &[u8]) -> Option<(Shape, u32, usize, &[u8])>
+    ensures shape { IfSome result (λ x. IsShape x.0) }
+    ensures words { IfSome result (λ x. IsWord x.1 × IsNumber x.2) }
+    ensures some { IfSome result (λ x. text.now ≡ rack_line x.0 x.1 x.2 ++ x.3.now) }
+    ensures none { IfNone result (BeginsWithNoRackLine text.now) }
+{
+    let rest = behind(text, b"record ")?;
+    let (modules, blocks, words, rest) = numbers_and_rest(rest)?;
+    let (sum, rest) = hex8_and_rest(rest)?;
+    let (names, rest) = number_before(rest, b'\n')?;
+    let Ok(shape) = Shape::new(modules, blocks, words) else {
+        return None;
+    };
+    Some((shape, sum, names, rest))
+}
+
+/// What stands behind the lines of so many clients.
+fn behind_clients(text: &[u8], names: usize) -> Option<&[u8]>
+    requires { IsNumber names }
+    ensures some { IfSome result (λ rest. (all : List (List ℕ)) × AreNames all names
+        × (text.now ≡ flat_map client_line all ++ rest.now)) }
+    ensures none { IfNone result (BeginsWithNoNames text.now names) }
+{
+    let mut rest = text;
+    for read in 0..names {
+        let name = behind(rest, b"client ")?;
+        let end = position_of(name, b'\n')?;
+        rest = &name[end + 1..];
+    }
+    Some(rest)
+}
+
+/// The shape and the sum of a head whose first line has these numbers, and what stands behind the
+/// lines of its clients.
+fn whole_head<'a>(
+    text: &[u8],
+    shape: Shape,
+    sum: u32,
+    names: usize,
+    rest: &'a [u8],
+) -> Option<(Shape, u32, &'a [u8])>
+    requires shape { IsShape shape }
+    requires sum { IsWord sum }
+    requires names { IsNumber names }
+    requires line { text.now ≡ rack_line shape sum names ++ rest.now }
+    ensures some { IfSome result (λ x. IsShape x.0 × IsWord x.1 × ((n : ℕ)
+        × (names : List (List ℕ)) × AreNames names n
+        × (text.now ≡ head_of x.0 x.1 names ++ x.2.now))) }
+    ensures none { IfNone result (BeginsWithNoHead text.now) }
+{
+    match behind_clients(rest, names) {
+        Some(body) => Some((shape, sum, body)),
+        None => None,
+    }
+}
+
+/// The shape and the sum of the head of a record, and what stands behind it.
+pub fn read_head(text: &[u8]) -> Option<(Shape, u32, &[u8])>
+    ensures some { IfSome result (λ x. IsShape x.0 × IsWord x.1 × ((n : ℕ)
+        × (names : List (List ℕ)) × AreNames names n
+        × (text.now ≡ head_of x.0 x.1 names ++ x.2.now))) }
+    ensures none { IfNone result (BeginsWithNoHead text.now) }
+{
+    match read_rack_line(text) {
+        Some((shape, sum, names, rest)) => whole_head(text, shape, sum, names, rest),
+        None => None,
+    }
+}
+
+/// Whether this rest of a record is its last line: its sessions have all ended.
+pub fn is_ended(rest: &[u8]) -> bool
+    ensures { IsTrue result ↔ (rest.now ≡ end_line) }
+{
+    rest == b"end\n".as_slice()
+}

@@ -1,4 +1,0 @@
-pub mod Fronts
-pub mod Feeding
-pub mod Parts
-pub mod Windows

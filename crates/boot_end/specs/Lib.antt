@@ -1,4 +1,0 @@
-pub mod Memory
-pub mod States
-pub mod Taking
-pub mod Laws

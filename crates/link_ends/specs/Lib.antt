@@ -1,0 +1,11 @@
+pub mod End
+pub mod Told
+pub mod Answering
+pub mod SwitchBytes
+pub mod SwitchStates
+pub mod SwitchTaking
+pub mod Asking
+pub mod Memory
+pub mod BootStates
+pub mod BootTaking
+pub mod Laws

@@ -1,0 +1,65 @@
+-- The bytes that keep a switch, and which switch they keep. Which they are is this project's
+-- choice.
+use Rattle.std.specs.Prelude.{◌≡◌, ◌≤◌, ◌<◌, ◌==◌, ℕ, List, [], ◌++◌, IsTrue, length, map, replicate, take, slice_index, ◌-◌, if◌then◌else◌, Some}
+use Rattle.std.specs.FinMap.{get}
+use Rattle.std.specs.List.{list_all, range_with_len}
+use Rattle.c004_commands.specs.Answers.{answer_byte}
+use Rattle.c004_commands.specs.Commands.{IsCommandFront}
+use Rattle.c004_commands.specs.declared.port.TheConstants.{PORTS}
+use Rattle.crossbar.specs.Latches.{sources_of}
+use Rattle.crossbar.specs.Switch.{idle}
+use Rattle.link_ends.specs.End.{EndState}
+use Rattle.link_ends.specs.declared.switch_state.SwitchState.{SwitchState}
+use Rattle.link_ends.specs.declared.switch_state.TheConstants.{MOST_BEGUN}
+use Rattle.link_ends.specs.SwitchBytes.{is_answer, input_of}
+
+-- the bytes that have come of the next command
+abbrev pub command_begun : SwitchState → List ℕ
+command_begun s = take s.begun_count s.begun
+
+-- the switch that the bytes keep, and what has come of its next command
+abbrev pub kept_end : SwitchState → EndState
+kept_end s =
+    record {
+      switch =
+          record {
+            sources = sources_of (map input_of s.outputs);
+            ready = s.connecting == 0;
+          };
+      begun = command_begun s;
+    }
+
+-- a switch as after a reset, to which nothing has come
+abbrev pub new_switch_end : EndState
+new_switch_end = record { switch = idle; begun = [] }
+
+-- so many bytes may have come of a command, and behind them stand zeros
+pub record HasZerosBehind (count : ℕ) (bytes : List ℕ) : Type 0 where
+  pub most : count ≤ MOST_BEGUN
+  pub zeros : (k : ℕ) → count ≤ k → k < MOST_BEGUN → slice_index bytes k ≡ 0
+
+-- a switch has this state
+pub record IsSwitchState (s : SwitchState) : Type 0 where
+  pub all_outputs : length s.outputs ≡ PORTS
+  pub answers : IsTrue (list_all is_answer s.outputs)
+  pub room : length s.begun ≡ MOST_BEGUN
+  pub begun : IsCommandFront (command_begun s)
+  pub behind : HasZerosBehind s.begun_count s.begun
+  pub connecting : s.connecting ≤ 1
+
+-- a switch of the chip, and less than a whole command: outputs and inputs are ports
+pub record IsEnd (end : EndState) : Type 0 where
+  pub ports : (output input : ℕ) → get end.switch.sources output ≡ Some input
+      → (output < PORTS) × (input < PORTS)
+  pub begun : IsCommandFront end.begun
+
+-- the bytes that keep a switch: what each output answers, what has come of a command, and whether
+-- it is ready
+abbrev pub state_keeping : EndState → SwitchState
+state_keeping end =
+    record {
+      outputs = map (λ output. answer_byte (get end.switch.sources output)) (range_with_len 0 PORTS);
+      begun = end.begun ++ replicate (MOST_BEGUN - length end.begun) 0;
+      begun_count = length end.begun;
+      connecting = if end.switch.ready then 0 else 1;
+    }

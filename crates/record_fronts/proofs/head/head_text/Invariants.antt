@@ -1,8 +1,0 @@
-use Rattle.std.proofs.Common.{◌≡◌, ◌++◌, length, map, take}
-use Rattle.std.specs.List.{flat_map}
-use Rattle.record_fronts.specs.Heads.{client_line, rack_line}
-use Rattle.record_fronts.proofs.head.head_text.Given as goal
-
-abbrev pub invariant-loop-name : goal.invariant-loop-name
-invariant-loop-name l =
-    l.text.items ≡ rack_line l.fn.shape l.fn.sum (length l.names) ++ flat_map client_line (map (λ n. n.now) (take l.name-index l.names))

@@ -1,0 +1,139 @@
+-- What `replay` answers.
+use Rattle.std.specs.Prelude.{◌≡◌, ◌≢◌, ◌⊎◌, ℕ, ◌+◌, ◌-◌, List, ◌++◌, length, Option, Some, None, option_map}
+use Rattle.batch.specs.Extent.{Extent, IsShape}
+use Rattle.batch.specs.ShapeText.{shape_text}
+use Rattle.line_words.specs.HexWords.{IsWord}
+use Rattle.module_memory.specs.Images.{image_of}
+use Rattle.module_memory.specs.Store.{Store}
+use Rattle.batch_book.specs.declared.entry.Entry.{Entry}
+use Rattle.batch_book.specs.Machine.{Machine}
+use Rattle.book_record.specs.Fronts.{end_line}
+use Rattle.book_record.specs.Heads.{AreNames, BeginsWithNoHead, IsHeadOf, head_of}
+use Rattle.record_replay.specs.declared.fault.RecordError.{RecordError}
+use Rattle.record_replay.specs.declared.fault.RecordFault.{RecordFault}
+use Rattle.record_replay.specs.declared.fault.RecordFault.TheVariants as record_fault
+use Rattle.record_replay.specs.Replays.{AreFewer, IsRecordError, IsRemade}
+use Rattle.rack_answers.specs.Openings.{IsRackOf, IsWrongRack}
+use Rattle.refusals.specs.declared.refusal.Refusal.{Refusal}
+use Rattle.refusals.specs.declared.refusal.Refusal.TheVariants as refusal
+use Rattle.plan_answers.specs.declared.limits.TheConstants.{DONE}
+use Rattle.plan_answers.specs.Refusals.{Printed, Refuses}
+use Rattle.record_replay.specs.declared.answering.Torn.{Torn}
+
+-- ---- the rack
+
+-- the record begins with the head of some rack, which has this shape
+pub record HasHead (recorded : List ℕ) : Type 0 where
+  pub shape : Extent
+  pub sum : ℕ
+  pub names : List (List ℕ)
+  pub body : List ℕ
+  pub allowed : IsShape shape
+  pub word : IsWord sum
+  pub are : AreNames names (length names)
+  pub head : recorded ≡ head_of shape sum names ++ body
+
+-- the text of the shape that is given, or else of that in the record's head
+abbrev pub IsShapeOf : Option (List ℕ) → List ℕ → List ℕ → Type 0
+IsShapeOf (Some shape) recorded text = text ≡ shape
+IsShapeOf None recorded text = (h : HasHead recorded) × (text ≡ shape_text h.shape)
+
+-- the record is one on a rack that begins with this store, and this stands behind its head
+pub record IsRecordOn (opening : Store) (recorded body : List ℕ) : Type 0 where
+  pub names : List (List ℕ)
+  pub are : AreNames names (length names)
+  pub head : IsHeadOf opening names recorded body
+
+-- it is none
+abbrev pub IsNoRecordOn : Store → List ℕ → Type 0
+IsNoRecordOn opening recorded = (body : List ℕ) → IsRecordOn opening recorded body → ⊥
+
+-- ---- the entries
+
+-- the refusal of what is wrong with a record
+abbrev pub of_record : RecordFault → Refusal
+of_record record_fault.Head = refusal.RecordHead
+of_record (record_fault.Call e) = refusal.RecordCall e
+of_record (record_fault.Reply e) = refusal.RecordReply e
+of_record record_fault.More = refusal.RecordMore
+of_record record_fault.NoMemory = refusal.NoMemory
+
+-- what is told of a record that was torn off: behind so many entries, and where; nothing, where it
+-- ends by its last line, or has all entries that are wanted
+abbrev pub IsTornSo : List ℕ → Option ℕ → ℕ → List ℕ → Option Torn → Type 0
+IsTornSo recorded first entries rest None = (first ≡ Some entries) ⊎ (rest ≡ end_line)
+IsTornSo recorded first entries rest (Some torn) =
+    AreFewer entries first × (rest ≢ end_line) × (torn.entries ≡ entries)
+    × (torn.offset ≡ length recorded - length rest)
+
+-- the error of what stands behind the head, as it is told of the whole record
+pub record IsBehindHead (head : ℕ) (error told : RecordError) : Type 0 where
+  pub fault : told.fault ≡ error.fault
+  pub offset : told.offset ≡ head + error.offset
+  pub due : option_map (λ line. line.items) told.due
+      ≡ option_map (λ line. line.items) error.due
+
+-- The image to which the entries lead, or the refusal of what is first wrong with them. Of that it
+-- is told where, and which line is due there.
+pub data IsRecordAnswer (opening : Store) (recorded body : List ℕ) (first : Option ℕ)
+    (printed : Printed) (told : Option RecordError) (torn : Option Torn) : Type 0 where
+  led : (es : List Entry) (end : Machine) (rest : List ℕ)
+      → IsRemade body opening first es end rest → printed.text ≡ image_of end.store
+      → printed.status ≡ DONE → told ≡ None → IsTornSo recorded first (length es) rest torn
+      → IsRecordAnswer opening recorded body first printed told torn
+  record_wrong : (error said : RecordError) → IsRecordError body opening first error
+      → IsBehindHead (length recorded - length body) error said
+      → Refuses (of_record error.fault) printed → told ≡ Some said → torn ≡ None
+      → IsRecordAnswer opening recorded body first printed told torn
+
+-- ---- the answer
+
+-- the record's head is refused, at its beginning
+pub record RefusesHead (printed : Printed) (told : Option RecordError)
+    (torn : Option Torn) : Type 0 where
+  pub error : RecordError
+  pub fault : error.fault ≡ record_fault.Head
+  pub offset : error.offset ≡ 0
+  pub due : error.due ≡ None
+  pub refuses : Refuses refusal.RecordHead printed
+  pub told_so : told ≡ Some error
+  pub untorn : torn ≡ None
+
+-- The answer on the rack of the shape and the image, where the record's head is that of this rack;
+-- or the refusal of what is first wrong: the record has no head that says the shape, the shape or
+-- the image, or the head.
+pub data IsReplayAnswer (shape : Option (List ℕ)) (recorded : List ℕ) (image : Option (List ℕ))
+    (first : Option ℕ) (printed : Printed) (told : Option RecordError)
+    (torn : Option Torn) : Type 0 where
+  replayed : (text body : List ℕ) (opening : Store) → IsShapeOf shape recorded text
+      → IsRackOf text image opening → IsRecordOn opening recorded body
+      → IsRecordAnswer opening recorded body first printed told torn
+      → IsReplayAnswer shape recorded image first printed told torn
+  no_head : shape ≡ None → BeginsWithNoHead recorded → RefusesHead printed told torn
+      → IsReplayAnswer shape recorded image first printed told torn
+  rack_wrong : (text : List ℕ) (refusal : Refusal) → IsShapeOf shape recorded text
+      → IsWrongRack text image refusal → Refuses refusal printed → told ≡ None → torn ≡ None
+      → IsReplayAnswer shape recorded image first printed told torn
+  other_head : (text : List ℕ) (opening : Store) → IsShapeOf shape recorded text
+      → IsRackOf text image opening → IsNoRecordOn opening recorded
+      → RefusesHead printed told torn
+      → IsReplayAnswer shape recorded image first printed told torn
+
+-- that answer, whatever is told beside it
+abbrev pub IsReplayPrinted : Option (List ℕ) → List ℕ → Option (List ℕ) → Option ℕ → Printed
+    → Type 0
+IsReplayPrinted shape recorded image first printed =
+    (told : Option RecordError) × (torn : Option Torn)
+    × IsReplayAnswer shape recorded image first printed told torn
+
+-- what is told of a record that is wrong: the fault, how many bytes stand before it, and the line
+-- that is due there
+abbrev pub told_of : Option RecordError → Option (RecordFault × ℕ × Option (List ℕ))
+told_of = option_map (λ e. (e.fault, e.offset, option_map (λ line. line.items) e.due))
+
+-- beside whichever answer, nothing else is told
+pub record IsOnlyTold (shape : Option (List ℕ)) (recorded : List ℕ) (image : Option (List ℕ))
+    (first : Option ℕ) (told : Option RecordError) (torn : Option Torn) : Type 0 where
+  pub only : (printed : Printed) (other : Option RecordError) (left : Option Torn)
+      → IsReplayAnswer shape recorded image first printed other left
+      → (told_of other ≡ told_of told) × (left ≡ torn)

@@ -1,0 +1,233 @@
+//! The command `replay`.
+
+ghost use Rattle.std.specs.Prelude.{◌≡◌, ◌⊎◌, ◌+◌, ◌<◌, ◌≤◌, ◌^◌, IfOk, IfErr, IfSome, IfNone, None, Some, length};
+ghost use Rattle.plan_answers.specs.Answers.{IsOnly};
+ghost use Rattle.plan_answers.specs.Lent.{bytes_of};
+ghost use Rattle.plan_answers.specs.Refusals.{Refuses};
+ghost use Rattle.book_record.specs.Heads.{BeginsWithNoHead};
+ghost use Rattle.record_replay.specs.Replays.{AreFewer};
+ghost use Rattle.record_replay.specs.ReplayAnswers.{IsBehindHead, IsNoRecordOn, IsOnlyTold, IsRecordAnswer, IsRecordOn, IsReplayAnswer, IsReplayPrinted, IsShapeOf, IsTornSo, RefusesHead, of_record};
+
+use crate::{RecordError, RecordFault, replay};
+use book_record::{is_ended, read_head, sum_of};
+use exchange_limits::WorkerCount;
+use module_memory::Rack;
+use plan_answers::Answer;
+use rack_answers::read_rack;
+use refusals::Refusal;
+use std::alloc::{AllocError, Global};
+use std::thread::Threads;
+
+/// A record that has no last line.
+#[derive(Clone, Copy, Debug, PartialEq, Eq)]
+pub struct Torn {
+    /// How many whole entries it has.
+    pub entries: usize,
+    /// How many of its bytes stand before what is left behind them.
+    pub offset: usize,
+}
+
+/// What a replay answers, and what is told beside it.
+#[derive(Drop)]
+pub struct Replayed {
+    /// The image that is left, or the refusal.
+    pub answer: Answer,
+    /// Where the record is wrong, and the line that is due there, where it is refused.
+    pub error: Option<RecordError>,
+    /// How far a record goes that was torn off, where the image is that of its whole entries.
+    pub torn: Option<Torn>,
+}
+
+/// The refusal of what is wrong with a record.
+fn refusal_of(fault: RecordFault) -> Refusal
+    ensures { result ≡ of_record fault }
+{
+    match fault {
+        RecordFault::Head => Refusal::RecordHead,
+        RecordFault::Call(e) => Refusal::RecordCall(e),
+        RecordFault::Reply(e) => Refusal::RecordReply(e),
+        RecordFault::More => Refusal::RecordMore,
+        RecordFault::NoMemory => Refusal::NoMemory,
+    }
+}
+
+/// The refusal of a rack, beside which nothing is told of the record.
+fn unbegun(alloc: Global, refusal: Refusal) -> Result<Replayed, AllocError>
+    ensures answer { IfOk result (λ replayed. Refuses refusal replayed.answer) }
+    ensures error { IfOk result (λ replayed. replayed.error ≡ None) }
+    ensures torn { IfOk result (λ replayed. replayed.torn ≡ None) }
+{
+    Ok(Replayed {
+        answer: Answer::refused(alloc, refusal)?,
+        error: None,
+        torn: None,
+    })
+}
+
+/// The refusal of a record's head.
+fn unheaded(alloc: Global) -> Result<Replayed, AllocError>
+    ensures { IfOk result (λ replayed.
+        RefusesHead replayed.answer replayed.error replayed.torn) }
+{
+    Ok(Replayed {
+        answer: Answer::refused(alloc, Refusal::RecordHead)?,
+        error: Some(RecordError {
+            fault: RecordFault::Head,
+            offset: 0,
+            due: None,
+        }),
+        torn: None,
+    })
+}
+
+/// The text of the shape that is given, or else of that in the record's head, where it has one.
+fn wanted_shape(
+    alloc: Global,
+    shape: Option<&[u8]>,
+    recorded: &[u8],
+) -> Result<Option<Vec<u8>>, AllocError>
+    ensures some { IfOk result (λ text. IfSome text (λ t.
+        IsShapeOf (bytes_of shape.entry) recorded.now t.items)) }
+    ensures none { IfOk result (λ text. IfNone text
+        ((bytes_of shape.entry ≡ None) × BeginsWithNoHead recorded.now)) }
+{
+    if let Some(shape) = shape {
+        return Ok(Some(Vec::from_slice(alloc, shape)?));
+    }
+    let Some(head) = read_head(recorded) else {
+        return Ok(None);
+    };
+    let (shape, _, _) = head;
+    let (modules, blocks, words) = (shape.modules(), shape.blocks(), shape.words());
+    let text = format!(in alloc; "{modules}x{blocks}x{words}")?;
+    Ok(Some(text.into_bytes()))
+}
+
+/// What stands behind the head of a record, where it is one on this rack.
+fn body_on<'a>(rack: &Rack, recorded: &'a [u8]) -> Result<Option<&'a [u8]>, AllocError>
+    ensures some { IfOk result (λ body. IfSome body (λ b.
+        IsRecordOn rack.now recorded.entry.now b.now)) }
+    ensures none { IfOk result (λ body. IfNone body (IsNoRecordOn rack.now recorded.entry.now)) }
+{
+    let own = rack.shape();
+    let Some(head) = read_head(recorded) else {
+        return Ok(None);
+    };
+    let (shape, sum, body) = head;
+    let image = rack.image()?;
+    if shape != own || sum != sum_of(image.as_slice()) {
+        return Ok(None);
+    }
+    Ok(Some(body))
+}
+
+/// The error of what stands behind a head of so many bytes, as it is told of the whole record.
+fn behind_head(head: usize, error: RecordError) -> RecordError
+    requires { head + error.offset < 2 ^ 64 }
+    ensures { IsBehindHead head error result }
+{
+    RecordError {
+        fault: error.fault,
+        offset: head + error.offset,
+        due: error.due,
+    }
+}
+
+/// Where a record was torn off behind these entries: nowhere, where it ends by its last line, or
+/// has all entries that are wanted.
+fn torn_at(recorded: &[u8], first: Option<usize>, entries: usize, rest: &[u8]) -> Option<Torn>
+    requires { (first ≡ Some entries) ⊎ AreFewer entries first }
+    ensures { IsTornSo recorded.now first entries rest.now result }
+{
+    if first == Some(entries) || is_ended(rest) {
+        return None;
+    }
+    Some(Torn {
+        entries,
+        offset: recorded.len().saturating_sub(rest.len()),
+    })
+}
+
+/// The image to which the entries behind a record's head lead, or the refusal of what is first
+/// wrong with them.
+fn answer_record<R: Threads + Sync>(
+    rt: &R,
+    alloc: Global,
+    rack: Rack,
+    recorded: &[u8],
+    body: &[u8],
+    first: Option<usize>,
+    workers: WorkerCount,
+) -> Result<Replayed, AllocError>
+    requires { length body.now ≤ length recorded.now }
+    ensures { IfOk result (λ replayed. IsRecordAnswer rack recorded.now body.now first
+        replayed.answer replayed.error replayed.torn) }
+{
+    match replay(rt, alloc, rack, body, first, workers) {
+        Ok(remade) => Ok(Replayed {
+            answer: Answer::done(remade.book.rack().image()?),
+            error: None,
+            torn: torn_at(recorded, first, remade.entries, remade.rest),
+        }),
+        Err(error) => Ok(Replayed {
+            answer: Answer::refused(alloc, refusal_of(error.fault))?,
+            error: Some(behind_head(recorded.len() - body.len(), error)),
+            torn: None,
+        }),
+    }
+}
+
+/// The image to which the record leads, or the refusal of what is first wrong.
+fn answer_texts<R: Threads + Sync>(
+    rt: &R,
+    alloc: Global,
+    shape: Option<&[u8]>,
+    recorded: &[u8],
+    image: Option<&[u8]>,
+    first: Option<usize>,
+    workers: WorkerCount,
+) -> Result<Replayed, AllocError>
+    ensures { IfOk result (λ replayed. IsReplayAnswer (bytes_of shape.entry) recorded.now
+        (bytes_of image.entry) first replayed.answer replayed.error replayed.torn) }
+{
+    let Some(text) = wanted_shape(alloc, shape, recorded)? else {
+        return unheaded(alloc);
+    };
+    let rack = match read_rack(alloc, text.as_slice(), image) {
+        Ok(rack) => rack,
+        Err(refusal) => return unbegun(alloc, refusal),
+    };
+    match body_on(&rack, recorded)? {
+        Some(body) => answer_record(rt, alloc, rack, recorded, body, first, workers),
+        None => unheaded(alloc),
+    }
+}
+
+/// The answer of `exchange replay`: the image to which the entries of the record lead, all of them
+/// or so many as are wanted, on the rack of its head; or the refusal of what is first wrong.
+///
+/// The shape is that which is given, or else that of the record's head. The rack's words are first
+/// those of the image or, where there is none, 0. Shape and image are looked at first. Then the
+/// record's head has to be that of this rack. Then the entries come, one by one: each call is made
+/// again, and its reply's line is compared. A record tells no run that stopped, and no plan of
+/// another batch. One that was torn off is replayed as far as its whole entries go, and
+/// beside the answer it is told how far that is. Planning and runs are given so many workers, and
+/// the answer doesn't depend on their number.
+pub fn answer_replay<R: Threads + Sync>(
+    rt: &R,
+    alloc: Global,
+    shape: Option<&[u8]>,
+    recorded: &[u8],
+    image: Option<&[u8]>,
+    first: Option<usize>,
+    workers: WorkerCount,
+) -> Result<Replayed, AllocError>
+    ensures replayed { IfOk result (λ replayed. IsReplayAnswer (bytes_of shape.entry) recorded.now
+        (bytes_of image.entry) first replayed.answer replayed.error replayed.torn) }
+    ensures one { IfOk result (λ replayed. IsOnly (IsReplayPrinted (bytes_of shape.entry)
+        recorded.now (bytes_of image.entry) first) replayed.answer) }
+    ensures told { IfOk result (λ replayed. IsOnlyTold (bytes_of shape.entry) recorded.now
+        (bytes_of image.entry) first replayed.error replayed.torn) }
+{
+    answer_texts(rt, alloc, shape, recorded, image, first, workers)
+}

@@ -1,2 +1,0 @@
-mod OneReplay
-mod Heads

@@ -1,0 +1,72 @@
+//! Who makes plans: whoever has threads, or [`NoThreads`].
+
+ghost use Rattle.std.specs.Prelude.{◌≡◌, IfOk};
+ghost use Rattle.schedule_certificate.specs.Plans.{IsPlan, IsColoured, HasFewReinsertions};
+ghost use Rattle.schedule_certificate.specs.Sharing.{SaysOneToAllThreads};
+
+use crate::degree::{Known, width_of};
+use crate::gate::OpenGate;
+use crate::halving::colour_alone;
+use crate::planned::Planned;
+use crate::planning::{all_transfers, degree_of_all, planned_by, schedule};
+use alternating_path::Coloured;
+use batch::Batch;
+use euler_split::Scratch;
+use exchange_limits::WorkerCount;
+use link_graph::LinkGraph;
+use std::alloc::{AllocError, Global};
+use std::thread::Threads;
+
+/// What plans batches for callers that needn't know whether it has threads.
+pub trait Planner: Sync {
+    /// Plans a batch as [`schedule`](crate::schedule) does with an open gate. So many workers may
+    /// take part, as far as threads can be had.
+    fn plan(&self, alloc: Global, batch: Batch, workers: WorkerCount) -> Result<Planned, AllocError>
+        // What `Sync` says, in the form in which the check lets a trait's method ask for it.
+        requires { SaysOneToAllThreads Self.row }
+        ensures batch { IfOk result (λ planned. planned.batch ≡ batch) }
+        ensures plan { IfOk result (λ planned. IsPlan planned) }
+        ensures reinserted { IfOk result (λ planned. HasFewReinsertions planned) };
+}
+
+impl<R: Threads + Sync> Planner for R {
+    fn plan(
+        &self,
+        alloc: Global,
+        batch: Batch,
+        workers: WorkerCount,
+    ) -> Result<Planned, AllocError> {
+        schedule(self, alloc, batch, workers, &OpenGate)
+    }
+}
+
+/// What never has a thread. It plans as one worker does, however many may take part.
+#[derive(Clone, Copy, Debug)]
+pub struct NoThreads;
+
+impl Planner for NoThreads {
+    fn plan(
+        &self,
+        alloc: Global,
+        batch: Batch,
+        _workers: WorkerCount,
+    ) -> Result<Planned, AllocError> {
+        let graph = LinkGraph::of(&batch)?;
+        let coloured = colour_all_alone(alloc, &graph)?;
+        planned_by(batch, &graph, coloured)
+    }
+}
+
+/// The schedule of a colouring of all transfers with as many colours as the busiest link has uses,
+/// by one worker, who starts no thread.
+fn colour_all_alone(alloc: Global, graph: &LinkGraph) -> Result<Coloured, AllocError>
+    ensures { IfOk result (λ coloured. IsColoured graph.now coloured) }
+{
+    let mut all = all_transfers(alloc, graph)?;
+    let mut scratch = Scratch::new(alloc, all.len())?;
+    let degree = Known::Is(degree_of_all(graph));
+    let width = width_of(graph);
+    let table = colour_alone(alloc, graph, &mut all, &mut scratch, degree, width, 0)?;
+    let coloured = table.into_schedule()?;
+    Ok(coloured)
+}

@@ -1,4 +1,0 @@
-pub mod End
-pub mod Told
-pub mod Answering
-pub mod Laws

@@ -1,8 +1,0 @@
-use Rattle.std.proofs.Common.{rules}
-use Rattle.switch_settings.proofs.bytes.wide_change.Goals as goal
-
-pub returns-clause-bytes : goal.returns-clause-bytes
-returns-clause-bytes c = search rules
-
-pub returns-clause-sets : goal.returns-clause-sets
-returns-clause-sets c = search rules

@@ -1,5 +1,0 @@
-pub mod Bytes
-pub mod States
-pub mod Taking
-pub mod Asking
-pub mod Laws
