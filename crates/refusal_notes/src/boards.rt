@@ -1,7 +1,7 @@
 //! What is told of a transfer that needs a module, or a link, that a board hasn't.
 
 use crate::lines::{line_at, number_at};
-use crate::pieces::Piece;
+use crate::pieces::TextLine;
 use crate::told::Note;
 use board_wiring::{WiredModule, read_wiring};
 use refusals::Refusal;
@@ -27,7 +27,7 @@ pub(crate) fn write_missing<W: Write>(
     let (list, wiring, number) = (note.texts.list, note.texts.wiring, t.saturating_add(2));
     let board = read_wiring(wiring.text).or(Err(fmt::Error))?;
     let line = line_at(list.text, number);
-    let place = Piece::Line(list, number.saturating_add(note.above));
+    let place = TextLine(list, number.saturating_add(note.above));
     for (word, link) in ENDS {
         let Some(module) = number_at(line, word) else {
             continue;
@@ -38,7 +38,7 @@ pub(crate) fn write_missing<W: Write>(
                 return write!(f, "{place}: module {module}; {wiring} doesn't have it");
             }
             (Refusal::NoLink(_), Some(k)) if leaves_out(&board.modules()[k], link) => {
-                let at = Piece::Line(wiring, k + 2);
+                let at = TextLine(wiring, k + 2);
                 return write!(
                     f,
                     "{place}: link {link} of module {module}; {at} leaves it out"

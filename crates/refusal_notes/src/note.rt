@@ -6,6 +6,9 @@ use crate::differences::Difference;
 use crate::limit::Limit;
 use crate::lines::{is_ended, line_at};
 use crate::listed::Listing;
+use crate::pieces::Count::{Above, Blocks, Modules};
+use crate::pieces::Piece;
+use crate::pieces::Piece::{Number, Numbered, Text};
 use crate::quote::Quote;
 use crate::told::Named;
 use crate::wanted::Wanted;
@@ -76,31 +79,56 @@ impl<'a> LineNote<'a> {
         Difference::of(self.named.text, self.number, self.wanted)
     }
 
-    /// The sentence that is told of the line, in which names of pieces stand between accents.
-    pub(crate) fn sentence(&self) -> &'static str {
+    /// The sentence that is told of the line.
+    #[rattlefmt::skip]
+    pub(crate) fn sentence(&self) -> &'static [Piece] {
         let is_missing = self.quote.bytes.is_empty() && !self.is_ended;
-        match (self.above, self.wanted, self.difference()) {
-            (Some((_, Limit::Modules(_))), ..) => {
-                "`place`: module `above`; a rack`of rack` has `modules`"
-            }
-            (Some((_, Limit::Blocks(_))), ..) => {
-                "`place`: block `above`; a module`in rack` has `blocks`"
-            }
-            (Some(_), Wanted::Head(Listing::Moves), _) => {
-                "`place`: `above` moves; a text of moves has at most 4096"
-            }
-            (Some(_), ..) => "`place`: `above` transfers; a batch has at most 4096",
-            _ if is_missing && self.number <= 1 => "`place`: the text is empty; wanted is `wanted`",
-            _ if is_missing => "`place`: the text ends above this line; wanted is `wanted`",
-            (_, Wanted::End | Wanted::RecordEnd, _) => {
-                "`place`: `quote` stands behind the last line; nothing may follow"
-            }
-            (_, Wanted::RecordHead, _) => {
-                "`place`: `quote` begins no record of this rack; wanted is `wanted`"
-            }
-            (_, _, Some(_)) => "`place`: `quote`: `difference`; wanted is `wanted`",
-            _ if self.is_ended => "`place`: `quote` isn't `wanted`",
-            _ => "`place`: `quote` with no line feed isn't `wanted`",
+        match (self.above, self.wanted) {
+            (Some((_, Limit::Modules(_))), _) => &[Piece::Place, Text(": module "), Number(Above),
+                Text("; a rack"), Piece::Shape(" of "), Text(" has "), Numbered(Modules, "module")],
+            (Some((_, Limit::Blocks(_))), _) => &[Piece::Place, Text(": block "), Number(Above),
+                Text("; a module"), Piece::Shape(" in a rack of "), Text(" has "),
+                Numbered(Blocks, "block")],
+            (Some(_), Wanted::Head(Listing::Moves)) => &[Piece::Place, Text(": "), Number(Above),
+                Text(" moves; a text of moves has at most 4096")],
+            (Some(_), _) => &[Piece::Place, Text(": "), Number(Above),
+                Text(" transfers; a batch has at most 4096")],
+            _ if is_missing && self.number <= 1 => &[Piece::Place,
+                Text(": the text is empty; wanted is "), Piece::Wanted],
+            _ if is_missing => &[Piece::Place, Text(": the text ends above this line; wanted is "),
+                Piece::Wanted],
+            (_, Wanted::End | Wanted::RecordEnd) => &[Piece::Place, Text(": "), Piece::Quote,
+                Text(" stands behind the last line; nothing may follow")],
+            (_, Wanted::RecordHead) => &[Piece::Place, Text(": "), Piece::Quote,
+                Text(" begins no record of this rack; wanted is "), Piece::Wanted],
+            _ => self.difference_sentence(),
+        }
+    }
+
+    /// The sentence that is told of a line that isn't what is wanted.
+    #[rattlefmt::skip]
+    fn difference_sentence(&self) -> &'static [Piece] {
+        match (self.difference(), self.is_ended) {
+            (Some(_), _) => &[Piece::Place, Text(": "), Piece::Quote, Text(": "), Piece::Difference,
+                Text("; wanted is "), Piece::Wanted],
+            (None, true) => &[Piece::Place, Text(": "), Piece::Quote, Text(" isn't "),
+                Piece::Wanted],
+            (None, false) => &[Piece::Place, Text(": "), Piece::Quote,
+                Text(" with no line feed isn't "), Piece::Wanted],
+        }
+    }
+
+    /// The sentence that is told of what a session sent, where that isn't one of its lines.
+    #[rattlefmt::skip]
+    pub(crate) fn sent(&self) -> &'static [Piece] {
+        match (self.quote.bytes, self.difference()) {
+            (b"help", _) => &[Piece::Quote,
+                Text(" isn't a line of a session; \"exchange talk --help\" tells them")],
+            (b"quit", _) => &[Piece::Quote, Text(" isn't a line of a session; \"bye\" ends it")],
+            (_, Some(Difference::Stops(1, ..)) | None) => &[Piece::Quote,
+                Text(" isn't a line of a session: "), Piece::Wanted],
+            (_, Some(_)) => &[Piece::Quote, Text(" isn't a line of a session: "), Piece::Difference,
+                Text("; the lines are "), Piece::Wanted],
         }
     }
 }

@@ -1,11 +1,93 @@
 //! The pieces of a sentence.
 
-use crate::differences::Difference;
-use crate::quote::Quote;
 use crate::told::Named;
-use crate::wanted::Wanted;
-use batch::Place;
 use std::fmt::{self, Display, Formatter, Write};
+
+/// A piece of a sentence.
+#[derive(Clone, Copy)]
+pub(crate) enum Piece {
+    /// These words.
+    Text(&'static str),
+    /// This number.
+    Number(Count),
+    /// The number of this entry's line.
+    OnLine(Count),
+    /// So many of this, with an `s` where it isn't one.
+    Many(Count, &'static str),
+    /// So many of this, by their numbers.
+    Numbered(Count, &'static str),
+    /// The name of a text.
+    Name(Source),
+    /// This entry's line in a text.
+    Line(Source, Count),
+    /// The line of the refusal's first transfer in its batch, in brackets.
+    InBatch,
+    /// The line that is told of.
+    Place,
+    /// Its beginning.
+    Quote,
+    /// What is wanted there.
+    Wanted,
+    /// The first thing by which it differs from that.
+    Difference,
+    /// How many entries its text lists.
+    Entries,
+    /// The rack's shape behind these words; nothing where none is asked for.
+    Shape(&'static str),
+    /// The word that is to be a shape.
+    ShapeWord,
+    /// The word that is to be a range of settings.
+    RangeWord,
+    /// How often a transfer stands in a schedule, and where.
+    Held,
+    /// The block that the refusal's second transfer writes.
+    Block,
+    /// What is known of a schedule besides.
+    Known,
+    /// The address of a module's last word.
+    LastWord,
+    /// All that is told of two transfers that clash.
+    Clash,
+    /// All that is told of a transfer whose module, or link, a board hasn't.
+    Missing,
+}
+
+/// A text.
+#[derive(Clone, Copy)]
+pub(crate) enum Source {
+    /// That of the line that is told of.
+    Told,
+    /// The batch, or the moves.
+    List,
+    /// The schedule, or the image.
+    Other,
+}
+
+/// A number of a sentence. An entry, of a batch or of a schedule, stands on the line of its number
+/// and two.
+#[derive(Clone, Copy)]
+pub(crate) enum Count {
+    /// The first number of the refusal.
+    First,
+    /// The second.
+    Second,
+    /// The number that isn't below its limit.
+    Above,
+    /// How many entries a text announces.
+    Announced(Source),
+    /// How many settings a plan has.
+    Planned,
+    /// How many modules the rack has.
+    Modules,
+    /// How many blocks each of them has.
+    Blocks,
+    /// The setting in which a transfer stands first.
+    FirstSetting,
+    /// The setting in which it stands a second time.
+    SecondSetting,
+    /// The place of the certificate's transfers, as that of a setting.
+    Certificate,
+}
 
 /// Where a transfer stands in the settings of a schedule.
 #[derive(Clone, Copy)]
@@ -20,82 +102,46 @@ pub(crate) struct Held {
 
 impl Display for Held {
     fn fmt<W: Write>(&self, f: &mut Formatter<W>) -> fmt::Result {
-        let Held {
-            first,
-            second,
-            times,
-        } = *self;
-        match times {
-            0..=2 if first == second => write!(f, "twice in setting {first}"),
-            0..=2 => write!(f, "in settings {first} and {second}"),
-            _ if first == second => write!(f, "{times} times, the first two in setting {first}"),
-            _ => write!(
-                f,
-                "{times} times, the first two in settings {first} and {second}"
-            ),
+        let (first, second) = (self.first, self.second);
+        match self.times {
+            0..=2 if first == second => return write!(f, "twice in setting {first}"),
+            0..=2 => {}
+            times => write!(f, "{times} times, the first two ")?,
+        }
+        match first == second {
+            true => write!(f, "in setting {first}"),
+            false => write!(f, "in settings {first} and {second}"),
         }
     }
 }
 
-/// A piece of a sentence.
+/// The line of this number in a text.
 #[derive(Clone, Copy)]
-pub(crate) enum Piece<'a> {
-    /// A text.
-    Text(&'static str),
-    /// This word behind that text; nothing where there is no word.
-    Behind(&'static str, &'a str),
-    /// A number.
-    Number(usize),
-    /// An address.
-    Hex8(u32),
-    /// What is wanted in a line.
-    Wanted(Wanted<'a>),
-    /// The first thing by which a line differs from that.
-    Difference(Difference<'a>),
-    /// The beginning of a line, or of a word.
-    Quote(Quote<'a>),
-    /// The name of a text.
-    Named(Named<'a>),
-    /// The line of this number in a text.
-    Line(Named<'a>, usize),
-    /// The line of this transfer in its batch.
-    LineOf(usize, Named<'a>),
-    /// A block of a module.
-    Block(Place),
-    /// How often a transfer stands, and where.
-    Held(Held),
-    /// So many settings that are enough.
-    Enough(usize),
-    /// So many of this, with an `s` where it isn't one.
-    Many(usize, &'static str),
-    /// So many of this, by their numbers.
-    Numbered(usize, &'static str),
+pub(crate) struct TextLine<'a>(pub Named<'a>, pub usize);
+
+impl<'a> Display for TextLine<'a> {
+    fn fmt<W: Write>(&self, f: &mut Formatter<W>) -> fmt::Result {
+        let TextLine(named, n) = *self;
+        match named.name {
+            "" => write!(f, "line {n} of the batch"),
+            _ => write!(f, "{named}:{n}"),
+        }
+    }
 }
 
-impl<'a> Display for Piece<'a> {
-    fn fmt<W: Write>(&self, f: &mut Formatter<W>) -> fmt::Result {
-        match *self {
-            Piece::Text(text) => f.write_str(text),
-            Piece::Behind(_, "") => Ok(()),
-            Piece::Behind(text, word) => write!(f, "{text}{word}"),
-            Piece::Number(n) => write!(f, "{n}"),
-            Piece::Hex8(word) => write!(f, "{word:08x}"),
-            Piece::Quote(quote) => write!(f, "{quote}"),
-            Piece::Named(named) => write!(f, "{named}"),
-            Piece::Wanted(wanted) => write!(f, "{wanted}"),
-            Piece::Difference(difference) => write!(f, "{difference}"),
-            Piece::Line(named, n) if named.name.is_empty() => write!(f, "line {n} of the batch"),
-            Piece::Line(named, n) => write!(f, "{named}:{n}"),
-            Piece::LineOf(t, list) => write!(f, "(line {} of {list})", t.saturating_add(2)),
-            Piece::Block(place) => write!(f, "block {} of module {}", place.block, place.module),
-            Piece::Held(held) => write!(f, "{held}"),
-            Piece::Enough(1) => f.write_str("; the schedule is valid, and 1 setting is enough"),
-            Piece::Enough(n) => write!(f, "; the schedule is valid, and {n} settings are enough"),
-            Piece::Many(1, what) => write!(f, "1 {what}"),
-            Piece::Many(n, what) => write!(f, "{n} {what}s"),
-            Piece::Numbered(0, _) => f.write_str("none"),
-            Piece::Numbered(1, what) => write!(f, "{what} 0 alone"),
-            Piece::Numbered(n, what) => write!(f, "{what}s 0 to {}", n.saturating_sub(1)),
-        }
+/// Writes so many of this, with an `s` where it isn't one.
+pub(crate) fn write_many<W: Write>(f: &mut Formatter<W>, n: usize, what: &str) -> fmt::Result {
+    match n {
+        1 => write!(f, "1 {what}"),
+        _ => write!(f, "{n} {what}s"),
+    }
+}
+
+/// Writes so many of this, by their numbers.
+pub(crate) fn write_numbered<W: Write>(f: &mut Formatter<W>, n: usize, what: &str) -> fmt::Result {
+    match n {
+        0 => f.write_str("none"),
+        1 => write!(f, "{what} 0 alone"),
+        _ => write!(f, "{what}s 0 to {}", n - 1),
     }
 }

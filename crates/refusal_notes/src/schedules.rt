@@ -2,13 +2,13 @@
 
 use crate::clashes::clashing;
 use crate::lines::announced;
-use crate::pieces::{Held, Piece};
+use crate::pieces::{Held, TextLine};
 use crate::told::{Named, Note};
-use batch::{Batch, BatchFault, Shape};
+use batch::{Batch, BatchFault, Place, Shape};
 use link_graph::{Link, Schedule};
-use refusals::Validity;
+use refusals::{Refusal, Validity};
 use std::alloc::Global;
-use std::fmt::{self, Formatter, Write};
+use std::fmt::{self, Display, Formatter, Write};
 
 /// How often a setting holds this transfer.
 fn times_in(setting: &[usize], t: usize) -> usize {
@@ -30,10 +30,10 @@ fn standing(schedule: &Schedule, t: usize, times: usize) -> Option<usize> {
 }
 
 /// Where a transfer stands in the settings of a schedule, which is read once more.
-pub(crate) fn held(alloc: Global, plan: Named<'_>, t: usize) -> Option<Held> {
-    let (schedule, _) = Schedule::read(alloc, plan.text).ok()?;
-    let first = standing(&schedule, t, 0)?;
-    Some(Held {
+pub(crate) fn held(alloc: Global, plan: Named<'_>, t: usize) -> Result<Held, fmt::Error> {
+    let (schedule, _) = Schedule::read(alloc, plan.text).or(Err(fmt::Error))?;
+    let first = standing(&schedule, t, 0).ok_or(fmt::Error)?;
+    Ok(Held {
         first,
         second: standing(&schedule, t, 1).unwrap_or(first),
         times: schedule.iter().fold(
@@ -43,44 +43,64 @@ pub(crate) fn held(alloc: Global, plan: Named<'_>, t: usize) -> Option<Held> {
     })
 }
 
-/// What is told of a schedule besides, of which this is known.
-pub(crate) fn known(plan: Named<'_>, validity: Validity) -> Piece<'static> {
+/// Writes what is told of a schedule besides, of which this is known.
+pub(crate) fn write_known<W: Write>(
+    f: &mut Formatter<W>,
+    plan: Named<'_>,
+    validity: Validity,
+) -> fmt::Result {
     match validity {
-        Validity::Unknown => Piece::Text(""),
-        Validity::Invalid => Piece::Text("; the schedule isn't valid either"),
+        Validity::Unknown => Ok(()),
+        Validity::Invalid => f.write_str("; the schedule isn't valid either"),
         Validity::Valid(enough) if enough >= announced(plan.text) => {
-            Piece::Text("; the schedule is valid, and none has fewer settings")
+            f.write_str("; the schedule is valid, and none has fewer settings")
         }
-        Validity::Valid(enough) => Piece::Enough(enough),
+        Validity::Valid(1) => f.write_str("; the schedule is valid, and 1 setting is enough"),
+        Validity::Valid(n) => { write!(f, "; the schedule is valid, and {n} settings are enough") }
     }
 }
 
-/// The block that a transfer of a batch writes, where there is memory for the batch.
-pub(crate) fn block_written(alloc: Global, text: &[u8], t: usize) -> Option<Piece<'static>> {
+/// The block that a transfer of a batch writes: none where the text is no batch.
+fn block_written(alloc: Global, text: &[u8], t: usize) -> Result<Option<Place>, fmt::Error> {
     match Batch::read(alloc, text, Shape::WIDEST) {
-        Ok(batch) => Some(Piece::Block(batch.transfer(t)?.destination())),
-        Err(BatchFault::NoMemory) => None,
-        Err(_) => Some(Piece::Text("one block")),
+        Ok(batch) => Ok(Some(batch.transfer(t).ok_or(fmt::Error)?.destination())),
+        Err(BatchFault::NoMemory) => Err(fmt::Error),
+        Err(_) => Ok(None),
     }
+}
+
+/// Writes the block that a transfer of a batch writes, where there is memory for the batch.
+pub(crate) fn write_block<W: Write>(
+    f: &mut Formatter<W>,
+    alloc: Global,
+    text: &[u8],
+    t: usize,
+) -> fmt::Result {
+    match block_written(alloc, text, t)? {
+        Some(place) => write!(f, "block {} of module {}", place.block, place.module),
+        None => f.write_str("one block"),
+    }
+}
+
+/// The two transfers of a setting that use one link.
+fn clash(note: Note<'_>, k: usize, link: Link) -> Option<(usize, usize)> {
+    let (schedule, _) = Schedule::read(note.alloc, note.texts.other.text).ok()?;
+    let batch = Batch::read(note.alloc, note.texts.list.text, Shape::WIDEST).ok()?;
+    clashing(&batch, schedule.setting(k)?, link)
 }
 
 /// Writes which two transfers of a setting use one link.
-pub(crate) fn write_clash<W: Write>(
-    f: &mut Formatter<W>,
-    note: Note<'_>,
-    k: usize,
-    link: Link,
-) -> fmt::Result {
-    let (list, plan) = (note.texts.list, note.texts.other);
-    let (schedule, _) = Schedule::read(note.alloc, plan.text).or(Err(fmt::Error))?;
-    let batch = Batch::read(note.alloc, list.text, Shape::WIDEST).or(Err(fmt::Error))?;
-    let setting = schedule.setting(k).ok_or(fmt::Error)?;
-    let (t, u) = clashing(&batch, setting, link).ok_or(fmt::Error)?;
+pub(crate) fn write_clash<W: Write>(f: &mut Formatter<W>, note: Note<'_>) -> fmt::Result {
+    let Refusal::CheckClash(k, link) = note.refusal else {
+        return Err(fmt::Error);
+    };
+    let (t, u) = clash(note, k, link).ok_or(fmt::Error)?;
+    TextLine(note.texts.other, k.saturating_add(2)).fmt(f)?;
     let (end, module) = (link.end.number(), link.module);
-    let place = Piece::Line(plan, k.saturating_add(2));
-    let (first, second) = (t.saturating_add(2), u.saturating_add(2));
     write!(
         f,
-        "{place}: transfers {t} and {u} both use link {end} of module {module} (lines {first} and {second} of {list})"
-    )
+        ": transfers {t} and {u} both use link {end} of module {module} "
+    )?;
+    let (first, second) = (t.saturating_add(2), u.saturating_add(2));
+    write!(f, "(lines {first} and {second} of {})", note.texts.list)
 }

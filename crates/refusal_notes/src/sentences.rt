@@ -1,15 +1,17 @@
-//! The sentences that are told of refusals, and the pieces that stand in them.
+//! The sentences that are told of refusals.
 
 use crate::boards::write_missing;
-use crate::differences::Difference;
 use crate::lines::{announced, line_at};
 use crate::listed::{Listing, is_listed, listed};
 use crate::note::LineNote;
-use crate::pieces::Piece;
+use crate::pieces::{Count, Piece, Source, TextLine, write_many, write_numbered};
 use crate::quote::Quote;
-use crate::schedules::{block_written, held, known, write_clash};
-use crate::told::Note;
+use crate::schedules::{held, write_block, write_clash, write_known};
+use crate::told::{Named, Note};
 use crate::wanted::Wanted;
+use Count::{Announced, Certificate, First, FirstSetting, Second, SecondSetting};
+use Piece::{Line, Many, Name, Number, Numbered, OnLine, Text};
+use Source::{List, Other};
 use batch::{MAX_BLOCKS, MAX_MODULES, MAX_WORDS};
 use module_memory::{MemoryFault, WINDOW_START, WORD_BYTES};
 use refusals::{Refusal, Validity};
@@ -20,84 +22,95 @@ const _: () = prove!(MAX_MODULES == 32 && MAX_BLOCKS == 64 && MAX_WORDS == 256);
 const _: () = prove!(WINDOW_START == 0x8000_0800);
 
 impl<'a> Note<'a> {
-    /// The sentence that is told of the refusal, in which names of pieces stand between accents. It
-    /// is told of this line, or of what a session sent; nothing where links are told of.
-    fn sentence(&self, line: LineNote<'a>) -> &'static str {
+    /// The sentence that is told of the refusal: of this line, or of what a session sent.
+    #[rattlefmt::skip]
+    fn sentence(&self, line: LineNote<'a>) -> &'static [Piece] {
         match self.refusal {
-            Refusal::Shape =>
-                "`word` isn't \"MxKxW\": 1 to 32 modules, 1 to 64 blocks each, 1 to 256 words each",
-            Refusal::Settings =>
-                "`range` isn't \"A..B\": two settings, counted from 0, of which the second isn't below the first",
-            Refusal::NoSetting(_) if self.planned().is_some() =>
-                "setting `t`; the plan has `planned`",
-            Refusal::NoSetting(_) => "setting `t`; `other` has `settings`",
-            Refusal::Image { .. } => "`other`: `bytes`; an image of `shape` has `u`",
-            Refusal::Overlap(..) =>
-                "`writer`: transfers `t` and `u` both write `block` (lines `line t` and `line u`)",
-            Refusal::Ports(1) =>
-                "`list`: no module above 15 is named: one switch, and PORT alone is wanted",
-            Refusal::Ports(_) =>
-                "`list`: a module above 15 is named: two switches, and PORT and PORT_B are wanted",
-            Refusal::Threads => "no thread could be had for each client; fewer clients may do",
-            Refusal::CheckUnknown(_) => "`first`: transfer `t`; `list` has `transfers`",
-            Refusal::CheckRepeated(_) => "`second`: transfer `t` stands `held` `line`",
-            Refusal::CheckMissing(_) => "`other`: transfer `t` stands in no setting `line`",
-            Refusal::NoCertificate =>
-                "`other`: no certificate: \"busiest link E module M\" and \"named T U ..\"`known`",
-            Refusal::CheckWrongLink(t) if t >= announced(self.texts.list.text) =>
-                "`named`: transfer `t` is named; `list` has `transfers``known`",
-            Refusal::CheckWrongLink(_) =>
-                "`named`: transfer `t` is named and doesn't use the link `line``known`",
-            Refusal::CheckCertificateRepeats(_) =>
-                "`named`: transfer `t` is named twice `line``known`",
-            Refusal::CheckNotTight { .. } =>
-                "`other`: `t settings`, and the certificate names `u transfers``known`",
-            Refusal::Memory(MemoryFault::NoModule) =>
-                "`quote` names a module that the rack hasn't; it has `modules`",
-            Refusal::Memory(MemoryFault::Misaligned) =>
-                "`quote` names an address that is no multiple of four; its last digit is none of 0, 4, 8 and c",
-            Refusal::Memory(MemoryFault::Outside) =>
-                "`quote` names an address of no word; words of a module are at 80000800 to `last`",
-            Refusal::Unknown =>
-                "`quote` names no batch of this session; \"accepted ID\" tells the ID of each that it hands in",
-            Refusal::Unplanned =>
-                "`quote` names a batch that has no plan yet; send \"plan ID\" first",
-            Refusal::Already =>
-                "`quote` names a batch that was planned or run already; hand it in again for another run",
-            Refusal::Stranger => "`quote` came to the plan of another batch; send it again",
-            Refusal::BookFull =>
-                "`quote` is one batch too many for the exchange; send \"drop ID\" for one that isn't needed",
-            Refusal::HistoryFull =>
-                "`quote` is one call too many for the exchange; end the session, and start another exchange",
-            Refusal::Line if line.quote.bytes == b"help".as_slice() =>
-                "`quote` isn't a line of a session; \"exchange talk --help\" tells them",
-            Refusal::Line if line.quote.bytes == b"quit".as_slice() =>
-                "`quote` isn't a line of a session; \"bye\" ends it",
-            Refusal::Line => match line.difference() {
-                Some(Difference::Stops(1, ..)) | None =>
-                    "`quote` isn't a line of a session: `wanted`",
-                Some(_) =>
-                    "`quote` isn't a line of a session: `difference`; the lines are `wanted`",
+            Refusal::Shape => &[Piece::ShapeWord,
+                Text(" isn't \"MxKxW\": 1 to 32 modules, 1 to 64 blocks each, 1 to 256 words each"),
+            ],
+            Refusal::Settings => &[Piece::RangeWord,
+                Text(" isn't \"A..B\": two settings, counted from 0, of which the second isn't below the first")],
+            Refusal::NoSetting(_) => match self.planned() {
+                Some(_) => &[Text("setting "), Number(First), Text("; the plan has "),
+                    Numbered(Count::Planned, "setting")],
+                None => &[Text("setting "), Number(First), Text("; "), Name(Other), Text(" has "),
+                    Numbered(Announced(Other), "setting")],
             },
-            Refusal::Count | Refusal::ScheduleLine(_) if self.miscounted(line).is_some() =>
-                "`text`: `entries`, and line 1 says `said`",
+            Refusal::Image { .. } => &[Name(Other), Text(": "), Many(First, "byte"),
+                Text("; an image of "), Piece::Shape(""), Text(" has "), Number(Second)],
+            Refusal::Overlap(..) => &[Line(List, Second), Text(": transfers "), Number(First),
+                Text(" and "), Number(Second), Text(" both write "), Piece::Block, Text(" (lines "),
+                OnLine(First), Text(" and "), OnLine(Second), Text(")")],
+            Refusal::Ports(1) => &[Name(List),
+                Text(": no module above 15 is named: one switch, and PORT alone is wanted")],
+            Refusal::Ports(_) => &[Name(List),
+                Text(": a module above 15 is named: two switches, and PORT and PORT_B are wanted")],
+            Refusal::Threads => &[
+                Text("no thread could be had for each client; fewer clients may do")],
+            Refusal::CheckUnknown(_) => &[Line(Other, FirstSetting), Text(": transfer "),
+                Number(First), Text("; "), Name(List), Text(" has "),
+                Numbered(Announced(List), "transfer")],
+            Refusal::CheckRepeated(_) => &[Line(Other, SecondSetting), Text(": transfer "),
+                Number(First), Text(" stands "), Piece::Held, Text(" "), Piece::InBatch],
+            Refusal::CheckClash(..) => &[Piece::Clash],
+            Refusal::CheckMissing(_) => &[Name(Other), Text(": transfer "), Number(First),
+                Text(" stands in no setting "), Piece::InBatch],
+            Refusal::NoCertificate => &[Name(Other),
+                Text(": no certificate: \"busiest link E module M\" and \"named T U ..\""),
+                Piece::Known],
+            Refusal::CheckWrongLink(t) => match t < announced(self.texts.list.text) {
+                true => &[Line(Other, Certificate), Text(": transfer "), Number(First),
+                    Text(" is named and doesn't use the link "), Piece::InBatch, Piece::Known],
+                false => &[Line(Other, Certificate), Text(": transfer "), Number(First),
+                    Text(" is named; "), Name(List), Text(" has "),
+                    Numbered(Announced(List), "transfer"), Piece::Known],
+            },
+            Refusal::CheckCertificateRepeats(_) => &[Line(Other, Certificate), Text(": transfer "),
+                Number(First), Text(" is named twice "), Piece::InBatch, Piece::Known],
+            Refusal::CheckNotTight { .. } => &[Name(Other), Text(": "), Many(First, "setting"),
+                Text(", and the certificate names "), Many(Second, "transfer"), Piece::Known],
+            Refusal::Memory(MemoryFault::NoModule) => &[Piece::Quote,
+                Text(" names a module that the rack hasn't; it has "),
+                Numbered(Count::Modules, "module")],
+            Refusal::Memory(MemoryFault::Misaligned) => &[Piece::Quote,
+                Text(" names an address that is no multiple of four; its last digit is none of 0, 4, 8 and c")],
+            Refusal::Memory(MemoryFault::Outside) => &[Piece::Quote,
+                Text(" names an address of no word; words of a module are at 80000800 to "),
+                Piece::LastWord],
+            Refusal::Unknown => &[Piece::Quote,
+                Text(" names no batch of this session; \"accepted ID\" tells the ID of each that it hands in")],
+            Refusal::Unplanned => &[Piece::Quote,
+                Text(" names a batch that has no plan yet; send \"plan ID\" first")],
+            Refusal::Already => &[Piece::Quote,
+                Text(" names a batch that was planned or run already; hand it in again for another run")],
+            Refusal::Stranger => &[Piece::Quote,
+                Text(" came to the plan of another batch; send it again")],
+            Refusal::BookFull => &[Piece::Quote,
+                Text(" is one batch too many for the exchange; send \"drop ID\" for one that isn't needed")],
+            Refusal::HistoryFull => &[Piece::Quote,
+                Text(" is one call too many for the exchange; end the session, and start another exchange")],
+            Refusal::Line => line.sent(),
+            Refusal::Count | Refusal::ScheduleLine(_) => match self.miscounted(line) {
+                Some(_) => &[Name(Source::Told), Text(": "), Piece::Entries,
+                    Text(", and line 1 says "), Number(Announced(Source::Told))],
+                None => line.sentence(),
+            },
+            Refusal::NoModule(_) => match self.texts.wiring.text.is_empty() {
+                true => line.sentence(),
+                false => &[Piece::Missing],
+            },
+            Refusal::NoLink(_) => &[Piece::Missing],
             Refusal::BatchLine(_)
             | Refusal::MovesLine(_)
-            | Refusal::ScheduleLine(_)
             | Refusal::WiringLine(_)
-            | Refusal::Count
             | Refusal::TooMany
-            | Refusal::NoModule(_)
             | Refusal::NoBlock(_)
             | Refusal::RecordHead
             | Refusal::RecordCall(_)
             | Refusal::RecordReply(_)
             | Refusal::RecordMore => line.sentence(),
-            Refusal::NoLink(_)
-            | Refusal::CheckClash(..)
-            | Refusal::File
-            | Refusal::Port(_)
-            | Refusal::NoMemory => "",
+            Refusal::File | Refusal::Port(_) | Refusal::NoMemory => &[],
         }
     }
 
@@ -105,6 +118,8 @@ impl<'a> Note<'a> {
     fn numbers(&self) -> (usize, usize) {
         match self.refusal {
             Refusal::NoSetting(t)
+            | Refusal::NoModule(t)
+            | Refusal::NoLink(t)
             | Refusal::CheckUnknown(t)
             | Refusal::CheckRepeated(t)
             | Refusal::CheckMissing(t)
@@ -143,81 +158,84 @@ impl<'a> Note<'a> {
         Some(listing)
     }
 
-    /// The piece of this name, where there is memory for it.
-    fn piece(&self, name: &str, line: LineNote<'a>) -> Option<Piece<'a>> {
-        let (texts, (t, u)) = (self.texts, self.numbers());
-        let (list, other) = (texts.list, texts.other);
-        Some(match name {
-            "text" => Piece::Named(line.named),
-            "place" => Piece::Line(line.named, line.number.saturating_add(self.above)),
-            "quote" => Piece::Quote(line.quote),
-            "wanted" => Piece::Wanted(line.wanted),
-            "difference" => Piece::Difference(line.difference()?),
-            "above" => Piece::Number(line.above?.0),
-            "said" => Piece::Number(announced(line.named.text)),
-            "entries" => {
-                let listing = self.miscounted(line)?;
-                Piece::Many(listed(listing, line.named.text), listing.line_name())
-            }
-            "of rack" => Piece::Behind(" of ", texts.shape),
-            "in rack" => Piece::Behind(" in a rack of ", texts.shape),
-            "blocks" => Piece::Numbered(texts.rack().blocks(), "block"),
-            "t" => Piece::Number(t),
-            "u" => Piece::Number(u),
-            "line t" => Piece::Number(t.saturating_add(2)),
-            "line u" => Piece::Number(u.saturating_add(2)),
-            "bytes" => Piece::Many(t, "byte"),
-            "t settings" => Piece::Many(t, "setting"),
-            "u transfers" => Piece::Many(u, "transfer"),
-            "settings" => Piece::Numbered(announced(other.text), "setting"),
-            "planned" => Piece::Numbered(self.planned()?, "setting"),
-            "transfers" => Piece::Numbered(announced(list.text), "transfer"),
-            "modules" => Piece::Numbered(texts.rack().modules(), "module"),
-            "list" => Piece::Named(list),
-            "other" => Piece::Named(other),
-            "line" => Piece::LineOf(t, list),
-            "writer" => Piece::Line(list, u.saturating_add(2)),
-            "held" => Piece::Held(held(self.alloc, other, t)?),
-            "first" => Piece::Line(other, held(self.alloc, other, t)?.first.saturating_add(2)),
-            "second" => Piece::Line(other, held(self.alloc, other, t)?.second.saturating_add(2)),
-            "named" => Piece::Line(other, announced(other.text) + 3),
-            "shape" => Piece::Behind("", texts.shape),
-            "word" => Piece::Quote(Quote::of(texts.shape.as_bytes())),
-            "range" => Piece::Quote(Quote::of(texts.range.as_bytes())),
-            "block" => block_written(self.alloc, list.text, u)?,
-            "known" => known(other, texts.validity),
-            "last" => {
-                let words = (texts.rack().blocks() * texts.rack().words()) as u32;
-                Piece::Hex8(WINDOW_START + WORD_BYTES * (words - 1))
-            }
-            _ => return None,
-        })
+    /// The text that is meant.
+    fn named(&self, source: Source, line: LineNote<'a>) -> Named<'a> {
+        match source {
+            Source::Told => line.named,
+            Source::List => self.texts.list,
+            Source::Other => self.texts.other,
+        }
     }
 
-    /// Writes the sentence of the refusal.
-    fn write_sentence<W: Write>(&self, f: &mut Formatter<W>) -> fmt::Result {
-        let sent = LineNote::wanting(self.texts.list, 1, Wanted::Sent);
-        let line = self.line().unwrap_or(sent);
-        for (k, words) in self.sentence(line).split('`').enumerate() {
-            if k % 2 == 0 {
-                f.write_str(words)?;
-            } else {
-                write!(f, "{}", self.piece(words, line).ok_or(fmt::Error)?)?;
-            }
+    /// The number that is meant, where there is memory for it.
+    fn count(&self, count: Count, line: LineNote<'a>) -> Result<usize, fmt::Error> {
+        let (t, u) = self.numbers();
+        match count {
+            Count::First => Ok(t),
+            Count::Second => Ok(u),
+            Count::Above => Ok(line.above.ok_or(fmt::Error)?.0),
+            Count::Announced(source) => Ok(announced(self.named(source, line).text)),
+            Count::Planned => self.planned().ok_or(fmt::Error),
+            Count::Modules => Ok(self.texts.rack().modules()),
+            Count::Blocks => Ok(self.texts.rack().blocks()),
+            Count::FirstSetting => Ok(held(self.alloc, self.texts.other, t)?.first),
+            Count::SecondSetting => Ok(held(self.alloc, self.texts.other, t)?.second),
+            Count::Certificate => Ok(announced(self.texts.other.text) + 1),
         }
-        Ok(())
+    }
+
+    /// Writes a piece of the sentence.
+    fn write_piece<W: Write>(
+        &self,
+        f: &mut Formatter<W>,
+        line: LineNote<'a>,
+        piece: Piece,
+    ) -> fmt::Result {
+        let (texts, (t, u)) = (self.texts, self.numbers());
+        match piece {
+            Piece::Text(words) => f.write_str(words),
+            Piece::Number(count) => self.count(count, line)?.fmt(f),
+            Piece::OnLine(count) => self.count(count, line)?.saturating_add(2).fmt(f),
+            Piece::Many(count, what) => write_many(f, self.count(count, line)?, what),
+            Piece::Numbered(count, what) => write_numbered(f, self.count(count, line)?, what),
+            Piece::Name(source) => self.named(source, line).fmt(f),
+            Piece::Line(source, count) => {
+                let n = self.count(count, line)?.saturating_add(2);
+                TextLine(self.named(source, line), n).fmt(f)
+            }
+            Piece::InBatch => write!(f, "(line {} of {})", t.saturating_add(2), texts.list),
+            Piece::Place => TextLine(line.named, line.number.saturating_add(self.above)).fmt(f),
+            Piece::Quote => line.quote.fmt(f),
+            Piece::Wanted => line.wanted.fmt(f),
+            Piece::Difference => line.difference().ok_or(fmt::Error)?.fmt(f),
+            Piece::Entries => {
+                let listing = self.miscounted(line).ok_or(fmt::Error)?;
+                write_many(f, listed(listing, line.named.text), listing.line_name())
+            }
+            Piece::Shape(_) if texts.shape.is_empty() => Ok(()),
+            Piece::Shape(words) => write!(f, "{words}{}", texts.shape),
+            Piece::ShapeWord => Quote::of(texts.shape.as_bytes()).fmt(f),
+            Piece::RangeWord => Quote::of(texts.range.as_bytes()).fmt(f),
+            Piece::Held => held(self.alloc, texts.other, t)?.fmt(f),
+            Piece::Block => write_block(f, self.alloc, texts.list.text, u),
+            Piece::Known => write_known(f, texts.other, texts.validity),
+            Piece::LastWord => {
+                let words = (texts.rack().blocks() * texts.rack().words()) as u32;
+                write!(f, "{:08x}", WINDOW_START + WORD_BYTES * (words - 1))
+            }
+            Piece::Clash => write_clash(f, *self),
+            Piece::Missing => write_missing(f, *self, t),
+        }
     }
 }
 
 impl<'a> Display for Note<'a> {
     fn fmt<W: Write>(&self, f: &mut Formatter<W>) -> fmt::Result {
-        match self.refusal {
-            Refusal::NoModule(t) if !self.texts.wiring.text.is_empty() => {
-                write_missing(f, *self, t)
-            }
-            Refusal::NoLink(t) => write_missing(f, *self, t),
-            Refusal::CheckClash(k, link) => write_clash(f, *self, k, link),
-            _ => self.write_sentence(f),
+        let sent = LineNote::wanting(self.texts.list, 1, Wanted::Sent);
+        let line = self.line().unwrap_or(sent);
+        for piece in self.sentence(line) {
+            self.write_piece(f, line, *piece)?;
         }
+        Ok(())
     }
 }
