@@ -1,9 +1,10 @@
 -- The head is read in one way only.
-use Rattle.std.proofs.Common.{◌≡◌, ◌≢◌, ℕ, ◌+◌, ◌<◌, List, [], ◌∷◌, ◌++◌, length, All, codes, Result, Ok, Err, refl, sym, ap, ◌∙◌, append_assoc, append-nil, subst, arith}
-use Rattle.std.specs.Prelude.{IsOk}
+use Rattle.std.proofs.Common.{◌≡◌, ◌≢◌, ◌↔◌, ◌==◌, ℕ, ◌+◌, ◌<◌, ◌≤◌, Bool, true, false, IsTrue, Some, get_or, take, length-take-le, AllPairs, List, [], ◌∷◌, ◌++◌, length, All, codes, Result, Ok, Err, refl, sym, ap, ◌∙◌, append_assoc, append-nil, subst, arith}
+use Rattle.std.specs.Prelude.{IsOk, position}
 use Rattle.std.specs.List.{flat_map}
 use Rattle.std.proofs.lemmas.Bool.{false≢true}
-use Rattle.std.proofs.lemmas.List.{append_cancel_left, length-append}
+use Rattle.std.proofs.lemmas.List.{append_cancel_left, get_or_append_left, get_or_at, length-append}
+use Rattle.std.proofs.lemmas.List.Quantifiers.{all_pairs_push}
 use Rattle.std.proofs.lemmas.List.Elements.{All-head, All-nil, All-push, All-tail}
 use Rattle.std.proofs.lemmas.Grind.{flat_map-append}
 use Rattle.batch.specs.Extent.{Extent, IsShape, extent}
@@ -11,12 +12,14 @@ use Rattle.batch.specs.Text.{IsNumber, number, space, line_feed}
 use Rattle.batch.proofs.Lines.{Ends, behind_number, ends_line, ends_space}
 use Rattle.batch.proofs.Shapes.{of_shape}
 use Rattle.client_session.specs.Bytes.{HasNoFeed}
+use Rattle.exchange_limits.specs.declared.limits.TheConstants.{MAX_SESSIONS}
 use Rattle.line_words.specs.HexWords.{IsWord, hex8, BeginsWithNoHex8}
 use Rattle.line_words.proofs.Numbers.{behind_word}
 use Rattle.book_record.proofs.CallTexts.{one_hex_front}
-use Rattle.book_record.specs.Heads.{AreNames, BeginsWithNoHead, BeginsWithNoNames, BeginsWithNoNumbers, BeginsWithNoRackLine, client_line, head_of, letter_x, rack_line}
+use Rattle.book_record.specs.Heads.{AreClients, AreNames, BeginsWithNoClient, BeginsWithNoHead, BeginsWithNoNames, BeginsWithNoNumbers, BeginsWithNoRackLine, IsName, client_line, head_of, letter_x, rack_line}
 use Rattle.book_record.specs.FrontLaws.{OneHead, CutHeadIsNone}
 use Rattle.book_record.proofs.Feeds.{first_line}
+use Rattle.book_record.proofs.OneReading.{line_at}
 
 pub ends_x : Ends letter_x
 ends_x = λ digit. omega arith
@@ -120,57 +123,157 @@ names_form name names x = append_assoc (client_line name) (flat_map client_line 
 one_client : (w v x y : List ℕ) → HasNoFeed w → HasNoFeed v → codes "client " ++ (w ++ line_feed ∷ x) ≡ codes "client " ++ (v ++ line_feed ∷ y) → (w ≡ v) × (x ≡ y)
 one_client w v x y p q same = first_line w v x y p q (append_cancel_left (codes "client ") _ _ same)
 
-pub one_names : (ns ms : List (List ℕ)) (x y : List ℕ) → length ns ≡ length ms → All HasNoFeed ns → All HasNoFeed ms → flat_map client_line ns ++ x ≡ flat_map client_line ms ++ y → (ns ≡ ms) × (x ≡ y)
+pub one_names : (ns ms : List (List ℕ)) (x y : List ℕ) → length ns ≡ length ms → All IsName ns → All IsName ms → flat_map client_line ns ++ x ≡ flat_map client_line ms ++ y → (ns ≡ ms) × (x ≡ y)
 one_names [] [] x y len p q same = (refl, same)
 one_names [] (b ∷ ms) x y len p q same = absurd (omega (arith, len))
 one_names (a ∷ ns) [] x y len p q same = absurd (omega (arith, len))
 one_names (a ∷ ns) (b ∷ ms) x y len p q same =
-    let one = one_client a b _ _ (All-head HasNoFeed a ns p) (All-head HasNoFeed b ms q) (sym (names_form a ns x) ∙ same ∙ names_form b ms y) in
-    let more = one_names ns ms x y (omega (arith, len)) (All-tail HasNoFeed a ns p) (All-tail HasNoFeed b ms q) one.1 in
+    let one = one_client a b _ _ (All-head IsName a ns p).1 (All-head IsName b ms q).1 (sym (names_form a ns x) ∙ same ∙ names_form b ms y) in
+    let more = one_names ns ms x y (omega (arith, len)) (All-tail IsName a ns p) (All-tail IsName b ms q) one.1 in
     (ap (λ (n : List ℕ). n ∷ ns) one.0 ∙ ap (λ (l : List (List ℕ)). b ∷ l) more.0, more.1)
+
+-- the names are counted by themselves
+pub counted : (names : List (List ℕ)) (n : ℕ) → AreNames names n → AreNames names (length names)
+counted names n are = subst (AreNames names) (sym are.count) are
+
+-- so many are a number
+few_number : (n : ℕ) → n ≤ MAX_SESSIONS → IsNumber n
+few_number n few = let least : n ≤ 16 = few in omega (arith, least)
+
+-- ---- one line
+
+-- where a name would be empty, there is none
+pub no_name : (text after : List ℕ) (end : ℕ) → text ≡ codes "client " ++ after → position (λ b. b == line_feed) after ≡ Some end → end ≡ 0 → BeginsWithNoClient text
+no_name text after end is at zero name rest so same =
+    let line = line_at after end at in
+    let nothing : take end after ≡ [] = ap (λ (k : ℕ). take k after) zero in
+    so.0 (sym (first_line (take end after) name _ rest line.1 so.1 (sym line.2 ∙ append_cancel_left (codes "client ") _ _ (sym is ∙ same))).0 ∙ nothing)
+
+pub is_name : (after : List ℕ) (end : ℕ) → position (λ b. b == line_feed) after ≡ Some end → (end ≡ 0 → ⊥) → IsName (take end after)
+is_name after end at some =
+    let line = line_at after end at in
+    ((λ none. some (omega (arith, ap length none, length-take-le end after (omega (arith, line.0))))), line.1)
+
+-- ---- the names that were read
+
+-- where fewer were read than there are, another one of these stands there
+record LeftOver (ns ms : List (List ℕ)) (rest : List ℕ) : Type 0 where
+  name : List ℕ
+  more : List (List ℕ)
+  left : List ℕ
+  are : ms ≡ ns ++ name ∷ more
+  so : IsName name
+  is : rest ≡ codes "client " ++ (name ++ line_feed ∷ left)
+
+left_over : (ns ms : List (List ℕ)) (rest end : List ℕ) → length ns < length ms → All IsName ns → All IsName ms → flat_map client_line ns ++ rest ≡ flat_map client_line ms ++ end → LeftOver ns ms rest
+left_over [] [] rest end less p q same = absurd (omega (arith, less))
+left_over [] (b ∷ ms) rest end less p q same =
+    record { name = b; more = ms; left = flat_map client_line ms ++ end; are = refl; so = All-head IsName b ms q; is = same ∙ names_form b ms end }
+left_over (a ∷ ns) [] rest end less p q same = absurd (omega (arith, less))
+left_over (a ∷ ns) (b ∷ ms) rest end less p q same =
+    let one = one_client a b _ _ (All-head IsName a ns p).1 (All-head IsName b ms q).1 (sym (names_form a ns rest) ∙ same ∙ names_form b ms end) in
+    let l = left_over ns ms rest end (omega (arith, less)) (All-tail IsName a ns p) (All-tail IsName b ms q) one.1 in
+    record { name = l.name; more = l.more; left = l.left; are = ap (λ (n : List ℕ). n ∷ ms) (sym one.0) ∙ ap (λ (l : List (List ℕ)). a ∷ l) l.are; so = l.so; is = l.is }
+
+-- the name that follows is one of them
+there : (ns : List (List ℕ)) (name : List ℕ) (more : List (List ℕ)) (d : List ℕ) → get_or (ns ++ name ∷ more) (length ns) d ≡ name
+there ns name more d = get_or_at ns name more d (length ns) refl
+
+inside : (ns : List (List ℕ)) (name : List ℕ) (more : List (List ℕ)) → length ns < length (ns ++ name ∷ more)
+inside ns name more = omega (arith, length-append ns (name ∷ more))
+
+-- one line more
+front_more : (text rest left name : List ℕ) (names : List (List ℕ)) → text ≡ flat_map client_line names ++ rest → rest ≡ codes "client " ++ (name ++ line_feed ∷ left) → text ≡ flat_map client_line (names ++ name ∷ []) ++ left
+front_more text rest left name names front is =
+    front ∙ ap (λ (l : List ℕ). flat_map client_line names ++ l) (is ∙ sym (names_form name [] left)) ∙ sym (append_assoc (flat_map client_line names) (flat_map client_line (name ∷ [])) left)
+    ∙ ap (λ (l : List ℕ). l ++ left) (sym (flat_map-append client_line names (name ∷ [])))
+
+pub clients_more : (text rest left name : List ℕ) (names : List (List ℕ)) → AreClients text names rest → IsName name → rest ≡ codes "client " ++ (name ++ line_feed ∷ left) → AreClients text (names ++ name ∷ []) left
+clients_more text rest left name names are so is = record { each = All-push IsName names name are.each so; front = front_more text rest left name names are.front is }
+
+pub no_clients : (text : List ℕ) → AreClients text [] text
+no_clients text = record { each = All-nil IsName; front = refl }
+
+-- ---- whether a name is new
+
+-- so many names were looked at, of which none is this
+pub record NoneSo (text name : List ℕ) (k : ℕ) (rest : List ℕ) : Type 0 where
+  pub names : List (List ℕ)
+  pub count : length names ≡ k
+  pub are : AreClients text names rest
+  pub others : All (λ other. other ≢ name) names
+
+abbrev TellsNew : List ℕ → List ℕ → ℕ → Bool → Type 0
+TellsNew text name k b = (names : List (List ℕ)) → (rest : List ℕ) → length names ≡ k → AreClients text names rest → IsTrue b ↔ All (λ other. other ≢ name) names
+
+pub none_so : (text name : List ℕ) → NoneSo text name 0 text
+none_so text name = record { names = []; count = refl; are = no_clients text; others = All-nil (λ other. other ≢ name) }
+
+pub none_so_more : (text name other rest left : List ℕ) (k : ℕ) → NoneSo text name k rest → IsName other → rest ≡ codes "client " ++ (other ++ line_feed ∷ left) → other ≢ name → NoneSo text name (k + 1) left
+none_so_more text name other rest left k n so is differs = record {
+  names = n.names ++ other ∷ [];
+  count = omega (arith, n.count, length-append n.names (other ∷ []));
+  are = clients_more text rest left other n.names n.are so is;
+  others = All-push (λ o. o ≢ name) n.names other n.others differs;
+}
+
+over : (text name rest end : List ℕ) (k : ℕ) (names : List (List ℕ)) → (n : NoneSo text name k rest) → k < length names → AreClients text names end → LeftOver n.names names rest
+over text name rest end k names n less are = left_over n.names names rest end (omega (arith, less, n.count)) n.are.each are.each (sym n.are.front ∙ are.front)
+
+-- no line stands there though there are more
+pub new_over : (text name rest : List ℕ) (k clients : ℕ) → NoneSo text name k rest → k < clients → BeginsWithNoClient rest → TellsNew text name clients true
+new_over text name rest k clients n less none names end count are = absurd (let l = over text name rest end k names n (omega (arith, less, count)) are in none l.name l.left l.so l.is)
+
+-- it stands there
+pub new_not : (text name other rest left : List ℕ) (k clients : ℕ) → NoneSo text name k rest → k < clients → IsName other → rest ≡ codes "client " ++ (other ++ line_feed ∷ left) → other ≡ name → TellsNew text name clients false
+new_not text name other rest left k clients n less so is same names end count are =
+    let l = over text name rest end k names n (omega (arith, less, count)) are in
+    let one = one_client other l.name left l.left so.1 l.so.1 (sym is ∙ l.is) in
+    let never : All (λ o. o ≢ name) names → ⊥ =
+    λ others. subst (All (λ o. o ≢ name)) l.are others (length n.names) [] (inside n.names l.name l.more) (there n.names l.name l.more [] ∙ sym one.0 ∙ same) in
+    ((λ bad. absurd cc), (λ others. absurd (never others)))
+
+-- it stands nowhere
+pub new_all : (text name rest : List ℕ) (k clients : ℕ) → NoneSo text name k rest → k ≡ clients → TellsNew text name clients true
+new_all text name rest k clients n same names end count are =
+    let one = one_names n.names names rest end (omega (arith, n.count, same, count)) n.are.each are.each (sym n.are.front ∙ are.front) in
+    ((λ yes. subst (All (λ o. o ≢ name)) one.0 n.others), (λ others. refl))
+
+-- ---- all of them
 
 -- so many names were read
 pub record NamesRead (text : List ℕ) (k : ℕ) (rest : List ℕ) : Type 0 where
   pub names : List (List ℕ)
   pub count : length names ≡ k
-  pub each : All HasNoFeed names
-  pub front : text ≡ flat_map client_line names ++ rest
+  pub are : AreClients text names rest
+  pub apart : AllPairs (λ one other. one ≢ other) names
 
 pub none_read : (text : List ℕ) → NamesRead text 0 text
-none_read text = record { names = []; count = refl; each = All-nil HasNoFeed; front = refl }
+none_read text = record { names = []; count = refl; are = no_clients text; apart = λ i j d less within. absurd (omega (arith, within)) }
 
-pub one_read : (text rest after left name : List ℕ) (k : ℕ) → NamesRead text k rest → rest ≡ codes "client " ++ after → after ≡ name ++ line_feed ∷ left → HasNoFeed name → NamesRead text (k + 1) left
-one_read text rest after left name k read is line none = record {
+pub one_read : (text rest left name : List ℕ) (k : ℕ) → (read : NamesRead text k rest) → IsName name → rest ≡ codes "client " ++ (name ++ line_feed ∷ left) → All (λ other. other ≢ name) read.names → NamesRead text (k + 1) left
+one_read text rest left name k read so is new = record {
   names = read.names ++ name ∷ [];
   count = omega (arith, read.count, length-append read.names (name ∷ []));
-  each = All-push HasNoFeed read.names name read.each none;
-  front =
-      read.front ∙ ap (λ (l : List ℕ). flat_map client_line read.names ++ l) (is ∙ (ap (λ (l : List ℕ). codes "client " ++ l) line ∙ sym (names_form name [] left)))
-      ∙ sym (append_assoc (flat_map client_line read.names) (flat_map client_line (name ∷ [])) left) ∙ ap (λ (l : List ℕ). l ++ left) (sym (flat_map-append client_line read.names (name ∷ [])));
+  are = clients_more text rest left name read.names read.are so is;
+  apart = all_pairs_push (λ one other. one ≢ other) read.names name read.apart (λ i d less. new i d less);
 }
 
-record LeftOver (rest : List ℕ) : Type 0 where
-  name : List ℕ
-  left : List ℕ
-  none : HasNoFeed name
-  is : rest ≡ codes "client " ++ (name ++ line_feed ∷ left)
-
--- where fewer names were read than there are, another stands there
-left_over : (ns ms : List (List ℕ)) (rest end : List ℕ) → length ns < length ms → All HasNoFeed ns → All HasNoFeed ms → flat_map client_line ns ++ rest ≡ flat_map client_line ms ++ end → LeftOver rest
-left_over [] [] rest end less p q same = absurd (omega (arith, less))
-left_over [] (b ∷ ms) rest end less p q same = record { name = b; left = flat_map client_line ms ++ end; none = All-head HasNoFeed b ms q; is = same ∙ names_form b ms end }
-left_over (a ∷ ns) [] rest end less p q same = absurd (omega (arith, less))
-left_over (a ∷ ns) (b ∷ ms) rest end less p q same =
-    let one = one_client a b _ _ (All-head HasNoFeed a ns p) (All-head HasNoFeed b ms q) (sym (names_form a ns rest) ∙ same ∙ names_form b ms end) in
-    left_over ns ms rest end (omega (arith, less)) (All-tail HasNoFeed a ns p) (All-tail HasNoFeed b ms q) one.1
-
-pub no_other_name : (text rest : List ℕ) (k n : ℕ) → NamesRead text k rest → k < n → ((name left : List ℕ) → HasNoFeed name → rest ≢ codes "client " ++ (name ++ line_feed ∷ left)) → BeginsWithNoNames text n
+pub no_other_name : (text rest : List ℕ) (k n : ℕ) → NamesRead text k rest → k < n → BeginsWithNoClient rest → BeginsWithNoNames text n
 no_other_name text rest k n read less none names end are is =
-    let other = left_over read.names names rest end (omega (arith, less, read.count, are.count)) read.each are.each (sym read.front ∙ is) in
-    none other.name other.left other.none other.is
+    let l = left_over read.names names rest end (omega (arith, less, read.count, are.count)) read.are.each are.each (sym read.are.front ∙ is) in
+    none l.name l.left l.so l.is
 
-pub names_all : (text rest : List ℕ) (k n : ℕ) → NamesRead text k rest → k ≡ n → IsNumber n → (all : List (List ℕ)) × AreNames all n × (text ≡ flat_map client_line all ++ rest)
-names_all text rest k n read same fits = (read.names, (record { count = read.count ∙ same; number = fits; each = read.each }), read.front)
+-- no two are the same, so none is that which follows
+pub named_twice : (text rest left name : List ℕ) (k n : ℕ) → (read : NamesRead text k rest) → k < n → IsName name → rest ≡ codes "client " ++ (name ++ line_feed ∷ left) → (All (λ other. other ≢ name) read.names → ⊥) → BeginsWithNoNames text n
+named_twice text rest left name k n read less so is known names end are same =
+    let l = left_over read.names names rest end (omega (arith, less, read.count, are.count)) read.are.each are.each (sym read.are.front ∙ same) in
+    let one = one_client name l.name left l.left so.1 l.so.1 (sym is ∙ l.is) in
+    let apart = subst (AllPairs (λ a b. a ≢ b)) l.are are.apart in
+    known (λ i d below twice. apart i (length read.names) d below (inside read.names l.name l.more) (get_or_append_left read.names (l.name ∷ l.more) d i below ∙ twice ∙ one.0 ∙ sym (there read.names l.name l.more d)))
+
+pub names_all : (text rest : List ℕ) (k n : ℕ) → NamesRead text k rest → k ≡ n → n ≤ MAX_SESSIONS → (all : List (List ℕ)) × AreNames all n × (text ≡ flat_map client_line all ++ rest)
+names_all text rest k n read same few = (read.names, (record { count = read.count ∙ same; few = few; each = read.are.each; apart = read.apart }), read.are.front)
 
 -- ---- one head
 
@@ -178,7 +281,7 @@ pub one_head : OneHead
 one_head e f s t ns ms x y p q ws wt names others same =
     let n = names.count in
     let m = others.count in
-    let line = one_rack_line e f s t (length ns) (length ms) (flat_map client_line ns ++ x) (flat_map client_line ms ++ y) p q ws wt names.number others.number
+    let line = one_rack_line e f s t (length ns) (length ms) (flat_map client_line ns ++ x) (flat_map client_line ms ++ y) p q ws wt (few_number (length ns) names.few) (few_number (length ms) others.few)
     (sym (append_assoc (rack_line e s (length ns)) (flat_map client_line ns) x) ∙ same ∙ append_assoc (rack_line f t (length ms)) (flat_map client_line ms) y) in
     let more = one_names ns ms x y line.count names.each others.each line.rest in
     record { shape = line.shape; sum = line.sum; names = more.0; rest = more.1 }
@@ -196,9 +299,9 @@ cut_head e s names front missing p ws are same some f t n others rest q wt fit i
 -- no head where the first line is there, and not the names
 pub no_names : (text after : List ℕ) (e : Extent) (sum n : ℕ) → IsShape e → IsWord sum → IsNumber n → text ≡ rack_line e sum n ++ after → BeginsWithNoNames after n → BeginsWithNoHead text
 no_names text after e sum n p ws fits is none f other m names rest q wt are same =
-    let line = one_rack_line e f sum other n (length names) after (flat_map client_line names ++ rest) p q ws wt fits (subst IsNumber (sym are.count) are.number)
+    let line = one_rack_line e f sum other n (length names) after (flat_map client_line names ++ rest) p q ws wt fits (few_number (length names) (subst (λ (k : ℕ). k ≤ MAX_SESSIONS) (sym are.count) are.few))
     (sym is ∙ same ∙ append_assoc (rack_line f other (length names)) (flat_map client_line names) rest) in
-    none names rest (record { count = sym line.count; number = fits; each = are.each }) line.rest
+    none names rest (subst (AreNames names) (sym (line.count ∙ are.count)) are) line.rest
 
 -- the whole head
 pub head_read : (text after rest : List ℕ) (e : Extent) (sum n : ℕ) (names : List (List ℕ)) → text ≡ rack_line e sum n ++ after → AreNames names n → after ≡ flat_map client_line names ++ rest → text ≡ head_of e sum names ++ rest

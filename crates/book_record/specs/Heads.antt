@@ -1,12 +1,13 @@
 -- The head of a record: its first line, and the names of the clients. Its form is this project's
 -- choice.
-use Rattle.std.specs.Prelude.{◌≡◌, ◌≢◌, ℕ, ◌+◌, ◌*◌, ◌%◌, List, [], ◌∷◌, ◌++◌, length, All, codes}
+use Rattle.std.specs.Prelude.{◌≡◌, ◌≢◌, ℕ, ◌+◌, ◌*◌, ◌%◌, ◌≤◌, List, [], ◌∷◌, ◌++◌, length, All, AllPairs, codes}
 use Rattle.std.specs.List.{flat_map}
 use Rattle.batch.specs.Extent.{Extent, IsShape}
 use Rattle.batch.specs.Text.{IsNumber, number, space, line_feed}
 use Rattle.batch_book.specs.History.{Account}
 use Rattle.book_record.specs.RecordText.{entry_text}
 use Rattle.client_session.specs.Bytes.{HasNoFeed}
+use Rattle.exchange_limits.specs.declared.limits.TheConstants.{MAX_SESSIONS}
 use Rattle.line_words.specs.HexWords.{IsWord, hex8}
 use Rattle.module_memory.specs.Images.{image_of}
 use Rattle.module_memory.specs.Store.{Store}
@@ -44,11 +45,26 @@ client_line name = codes "client " ++ (name ++ line_feed ∷ [])
 abbrev pub head_of : Extent → ℕ → List (List ℕ) → List ℕ
 head_of shape sum names = rack_line shape sum (length names) ++ flat_map client_line names
 
--- so many clients have such names
+-- a client's name: it isn't empty, and is in one line
+abbrev pub IsName : List ℕ → Type 0
+IsName name = (name ≢ []) × HasNoFeed name
+
+-- so many clients have such names, of which no two are the same; they are 16 at most
 pub record AreNames (names : List (List ℕ)) (n : ℕ) : Type 0 where
   pub count : length names ≡ n
-  pub number : IsNumber n
-  pub each : All HasNoFeed names
+  pub few : n ≤ MAX_SESSIONS
+  pub each : All IsName names
+  pub apart : AllPairs (λ one other. one ≢ other) names
+
+-- the text begins with the lines of clients of these names
+pub record AreClients (text : List ℕ) (names : List (List ℕ)) (rest : List ℕ) : Type 0 where
+  pub each : All IsName names
+  pub front : text ≡ flat_map client_line names ++ rest
+
+-- the text begins with the line of no client
+abbrev pub BeginsWithNoClient : List ℕ → Type 0
+BeginsWithNoClient text =
+    (name rest : List ℕ) → IsName name → text ≢ codes "client " ++ (name ++ line_feed ∷ rest)
 
 -- the text begins with no head
 abbrev pub BeginsWithNoHead : List ℕ → Type 0

@@ -1,15 +1,15 @@
 //! The head of a record.
 
-ghost use Rattle.std.specs.Prelude.{◌≡◌, ◌↔◌, ◌++◌, ◌∷◌, List, ℕ, length, map, IfOk, IfSome, IfNone, IsTrue, OnOk};
+ghost use Rattle.std.specs.Prelude.{◌≡◌, ◌≢◌, ◌↔◌, ◌++◌, ◌∷◌, All, List, ℕ, codes, length, map, IfOk, IfSome, IfNone, IsTrue, OnOk};
 ghost use Rattle.std.specs.List.{flat_map};
 ghost use Rattle.batch.specs.Extent.{IsShape};
 ghost use Rattle.batch.specs.Text.{IsNumber, number, space, line_feed};
-ghost use Rattle.client_session.specs.Bytes.{HasNoFeed};
 ghost use Rattle.line_words.specs.HexWords.{IsWord, hex8, BeginsWithNoHex8};
 ghost use Rattle.book_record.specs.Fronts.{end_line};
-ghost use Rattle.book_record.specs.Heads.{AreNames, BeginsWithNoRackLine, BeginsWithNoHead, BeginsWithNoNames, BeginsWithNoNumbers, client_line, rack_line, head_of, letter_x};
+ghost use Rattle.book_record.specs.Heads.{AreClients, AreNames, BeginsWithNoClient, BeginsWithNoRackLine, BeginsWithNoHead, BeginsWithNoNames, BeginsWithNoNumbers, IsName, client_line, rack_line, head_of, letter_x};
 
 use batch::{Shape, number_before, position_of};
+use exchange_limits::MAX_SESSIONS;
 use line_words::{Line, behind, hex8_and_rest};
 use std::alloc::{AllocError, Global};
 
@@ -94,18 +94,55 @@ fn read_rack_line(text: &[u8]) -> Option<(Shape, u32, usize, &[u8])>
     Some((shape, sum, names, rest))
 }
 
+/// The name of the client with whose line the text begins, and the rest.
+fn client_and_rest(text: &[u8]) -> Option<(&[u8], &[u8])>
+    ensures some { IfSome result (λ x. IsName x.0.now
+        × (text.now ≡ codes "client " ++ (x.0.now ++ line_feed ∷ x.1.now))) }
+    ensures none { IfNone result (BeginsWithNoClient text.now) }
+{
+    let rest = behind(text, b"client ")?;
+    let end = position_of(rest, b'\n')?;
+    if end == 0 {
+        return None;
+    }
+    Some((&rest[..end], &rest[end + 1..]))
+}
+
+/// Whether none of the first so many clients, with whose lines the text begins, has this name.
+fn is_new(text: &[u8], clients: usize, name: &[u8]) -> bool
+    ensures { (names : List (List ℕ)) → (rest : List ℕ) → length names ≡ clients
+        → AreClients text.now names rest
+        → IsTrue result ↔ All (λ other. other ≢ name.now) names }
+{
+    let mut rest = text;
+    for seen in 0..clients {
+        let Some((other, left)) = client_and_rest(rest) else {
+            return true;
+        };
+        if other == name {
+            return false;
+        }
+        rest = left;
+    }
+    true
+}
+
 /// What stands behind the lines of so many clients.
 fn behind_clients(text: &[u8], names: usize) -> Option<&[u8]>
-    requires { IsNumber names }
     ensures some { IfSome result (λ rest. (all : List (List ℕ)) × AreNames all names
         × (text.now ≡ flat_map client_line all ++ rest.now)) }
     ensures none { IfNone result (BeginsWithNoNames text.now names) }
 {
+    if names > MAX_SESSIONS {
+        return None;
+    }
     let mut rest = text;
     for read in 0..names {
-        let name = behind(rest, b"client ")?;
-        let end = position_of(name, b'\n')?;
-        rest = &name[end + 1..];
+        let (name, left) = client_and_rest(rest)?;
+        if !is_new(text, read, name) {
+            return None;
+        }
+        rest = left;
     }
     Some(rest)
 }
