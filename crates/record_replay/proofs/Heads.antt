@@ -4,21 +4,17 @@ use lib.Dec.{eqb}
 use Rattle.std.specs.Fmt.{decimal}
 use Rattle.batch.specs.Extent.{Extent, IsShape}
 use Rattle.batch.specs.ShapeText.{shape_text}
-use Rattle.batch.specs.Text.{IsNumber}
 use Rattle.line_words.specs.HexWords.{IsWord}
 use Rattle.module_memory.specs.Images.{image_of}
 use Rattle.module_memory.specs.Store.{Store}
 use Rattle.book_record.specs.Heads.{AreNames, BeginsWithNoHead, adler, head_of}
-use Rattle.book_record.proofs.Heads.{one_head}
+use Rattle.book_record.proofs.Heads.{counted, one_head}
 use Rattle.book_record.proofs.Sums.{sum_is_word}
 use Rattle.record_replay.specs.ReplayAnswers.{IsNoRecordOn, IsRecordOn, IsShapeOf}
 
 -- what is read of a head
 abbrev IsRead : List ℕ → Extent → ℕ → List ℕ → Type 0
 IsRead recorded e sum body = IsShape e × IsWord sum × ((n : ℕ) × (names : List (List ℕ)) × AreNames names n × (recorded ≡ head_of e sum names ++ body))
-
-all_named : (names : List (List ℕ)) (n : ℕ) → AreNames names n → AreNames names (length names)
-all_named names n are = record { count = refl; number = subst IsNumber (sym are.count) are.number; each = are.each }
 
 -- a record that begins with no head is none on any rack
 pub no_record : (opening : Store) (recorded : List ℕ) → IsShape opening.shape → BeginsWithNoHead recorded → IsNoRecordOn opening recorded
@@ -27,7 +23,7 @@ no_record opening recorded shape none body on = none opening.shape (adler (image
 -- nor is one whose head says another shape or sum
 pub other_record : (opening : Store) (recorded body : List ℕ) (e : Extent) (sum : ℕ) → IsShape opening.shape → IsRead recorded e sum body → (e ≡ opening.shape → sum ≡ adler (image_of opening) → ⊥) → IsNoRecordOn opening recorded
 other_record opening recorded body e sum shape read other after on =
-    let one = one_head e opening.shape sum (adler (image_of opening)) read.2.1 on.names body after read.0 shape read.1 (sum_is_word (image_of opening)) (all_named read.2.1 read.2.0 read.2.2) on.are (sym read.2.3 ∙ on.head) in
+    let one = one_head e opening.shape sum (adler (image_of opening)) read.2.1 on.names body after read.0 shape read.1 (sum_is_word (image_of opening)) (counted read.2.1 read.2.0 read.2.2) on.are (sym read.2.3 ∙ on.head) in
     other one.shape one.sum
 
 -- a shape is none but itself
@@ -63,7 +59,7 @@ shape_of_head shape recorded body text e sum none read is =
         body = body;
         allowed = read.0;
         word = read.1;
-        are = all_named read.2.1 read.2.0 read.2.2;
+        are = counted read.2.1 read.2.0 read.2.2;
         head = read.2.3;
       },
       is,

@@ -1,9 +1,8 @@
 -- What is recorded of a book is made again as it was.
-use Rattle.std.proofs.Common.{◌≡◌, ◌≢◌, ℕ, List, [], ◌++◌, length, map, All, None, refl, sym, ◌∙◌, append-nil, subst, arith, inl, inr}
+use Rattle.std.proofs.Common.{◌≡◌, ◌≢◌, ℕ, List, [], ◌++◌, map, All, None, refl, sym, ◌∙◌, append-nil, subst, arith, inl, inr}
 use Rattle.std.specs.List.{flat_map}
 use Rattle.std.proofs.lemmas.List.Elements.{All-nil}
 use Rattle.batch.specs.Extent.{Extent, IsShape}
-use Rattle.batch.specs.Text.{IsNumber}
 use Rattle.module_memory.specs.Images.{image_of}
 use Rattle.module_memory.specs.Store.{Store, HasAllBlocks}
 use Rattle.batch_book.specs.declared.entry.Entry.{Entry}
@@ -11,11 +10,10 @@ use Rattle.batch_book.specs.History.{Account, IsReplay}
 use Rattle.batch_book.specs.Machine.{Machine, opened}
 use Rattle.book_record.specs.RecordText.{entry_text, CanTell}
 use Rattle.book_record.specs.Untold.{told_entry}
-use Rattle.client_session.specs.Bytes.{HasNoFeed}
 use Rattle.line_words.specs.HexWords.{IsWord}
 use Rattle.book_record.specs.Fronts.{end_line}
-use Rattle.book_record.specs.Heads.{AreNames, BeginsWithNoHead, adler, head_of, whole_text}
-use Rattle.book_record.proofs.Heads.{one_head}
+use Rattle.book_record.specs.Heads.{AreNames, BeginsWithNoHead, IsName, adler, head_of, whole_text}
+use Rattle.book_record.proofs.Heads.{counted, one_head}
 use Rattle.book_record.proofs.OneReading.{end_is_no_entry}
 use Rattle.book_record.proofs.Sums.{sum_is_word}
 use Rattle.record_replay.specs.declared.fault.RecordError.{RecordError}
@@ -25,7 +23,7 @@ use Rattle.record_replay.specs.Replays.{IsRecordError, IsRemade}
 use Rattle.record_replay.proofs.Faults.{never_both, one_remade}
 
 pub no_names : AreNames [] 0
-no_names = record { count = refl; number = omega arith; each = All-nil HasNoFeed }
+no_names = record { count = refl; few = omega arith; each = All-nil IsName; apart = λ i j d less within. absurd (omega (arith, within)) }
 
 -- the whole text begins with a head
 pub has_head : (book : Account) (text : List ℕ) → IsShape book.opening.shape → text ≡ whole_text book → BeginsWithNoHead text → ⊥
@@ -37,8 +35,7 @@ pub its_body : (book : Account) (text body : List ℕ) (e : Extent) (sum : ℕ) 
 its_body book text body e sum shape is read =
     let names = read.2.1 in
     let are = read.2.2 in
-    let named : AreNames names (length names) = record { count = refl; number = subst IsNumber (sym are.count) are.number; each = are.each } in
-    (one_head e book.opening.shape sum (adler (image_of book.opening)) names [] body _ read.0 shape read.1 (sum_is_word (image_of book.opening)) named no_names (sym read.2.3 ∙ is)).rest
+    (one_head e book.opening.shape sum (adler (image_of book.opening)) names [] body _ read.0 shape read.1 (sum_is_word (image_of book.opening)) (counted names read.2.0 are) no_names (sym read.2.3 ∙ is)).rest
 
 -- its entries lead to the book's machine, and the record ends behind them
 its_record : (book : Account) (body : List ℕ) → All CanTell book.history → IsReplay (opened book.opening) book.history book.machine → body ≡ flat_map entry_text book.history ++ end_line → IsRemade body book.opening None book.history book.machine end_line
