@@ -1,15 +1,16 @@
 -- How the record of live sessions begins.
-use Rattle.std.proofs.Common.{◌≡◌, ◌≢◌, ◌∙◌, ◌++◌, ◌-◌, ℕ, List, [], None, true, ap, append-nil, append_assoc, arith, inr, length, length-append, refl, sym, take}
-use Rattle.std.proofs.lemmas.List.{take_at}
+use Rattle.std.proofs.Common.{◌≡◌, ◌≢◌, ◌∙◌, ◌++◌, ◌-◌, ℕ, List, [], Option, None, drop, subst, true, ap, append-nil, append_assoc, arith, inr, length, length-append, refl, sym, take}
+use Rattle.std.proofs.lemmas.List.{take-append-drop, take_at}
 use Rattle.std.specs.List.{flat_map}
-use Rattle.batch_book.specs.History.{Account}
+use Rattle.batch_book.specs.History.{Account, new_account}
 use Rattle.book_record.specs.RecordText.{entry_text}
-use Rattle.kept_sessions.specs.Records.{IsResumed, head_for, record_front}
+use Rattle.kept_sessions.specs.Records.{IsCutFrom, IsCutOff, IsResumed, begun_anew, gone_on, head_for, record_front}
 use Rattle.module_memory.specs.Store.{Store}
 use Rattle.record_replay.specs.Replays.{IsRecordError}
 use Rattle.record_replay.specs.declared.fault.RecordError.{RecordError}
 use Rattle.record_replay.specs.declared.fault.RecordFault.TheVariants as fault
 use Rattle.kept_sessions.specs.Outcomes.{IsUnbegun, IsUnremade}
+use Rattle.kept_sessions.specs.declared.found.Cut.{Cut}
 use Rattle.kept_sessions.specs.declared.recording.Unbegun.{Unbegun}
 use Rattle.kept_sessions.specs.declared.recording.Unbegun.TheVariants.{Missed, Wrong}
 
@@ -18,6 +19,14 @@ pub unremade : (held head text : List ℕ) (opening : Store) (error : RecordErro
     → held ≡ head ++ text → (error.fault ≢ fault.NoMemory → IsRecordError text opening None error) → IsUnremade error what → IsUnbegun true held head opening what
 unremade held head text opening error (Missed missed) is wrong told = told
 unremade held head text opening error (Wrong so) is wrong told = (refl, inr (text, error, is, wrong told.0, told.1))
+
+-- what is told of what was cut off
+pub cut_none : (held head missing : List ℕ) (opening : Store) (names : List (List ℕ)) (was : Account) → head ≡ head_for opening names → head ≡ held ++ missing → was ≡ new_account opening → IsCutFrom held (record_front names was) None
+cut_none held head missing opening names was head_is parts new = begun_anew missing (ap (record_front names) new ∙ append-nil (head_for opening names) ∙ sym head_is ∙ parts) refl
+
+pub cut_from : (held front : List ℕ) (kept : ℕ) (cut : Option Cut) → take kept held ≡ front → IsCutOff (take kept held) (drop kept held) cut → IsCutFrom held front cut
+cut_from held front kept cut is off =
+    gone_on (drop kept held) (sym (take-append-drop kept held) ∙ ap (λ (l : List ℕ). l ++ drop kept held) is) (subst (λ (l : List ℕ). IsCutOff l (drop kept held) cut) is off)
 
 -- what stays of it is what the record tells of the book
 pub resumed_front : (held head : List ℕ) (opening : Store) (names : List (List ℕ)) (was : Account) (kept : ℕ) (made : List ℕ)

@@ -14,7 +14,7 @@ use Rattle.named_files.specs.Clients.{ends_of}
 use Rattle.kept_sessions.specs.Live.{IsHostOver, IsLived, IsTalkOver, IsUnserved, left_by}
 use Rattle.kept_sessions.specs.Outcomes.{IsToldBy}
 use Rattle.kept_sessions.specs.Keeping.{AreLiveKept}
-use Rattle.kept_sessions.specs.Records.{BeginsFor}
+use Rattle.kept_sessions.specs.Records.{BeginsFor, IsCutFor}
 use Rattle.named_files.specs.Streams.{Closed}
 use Rattle.kept_sessions.specs.Answers.{Sessions, hosting, loses, talking}
 use Rattle.kept_sessions.specs.declared.found.Cut.{Cut}
@@ -28,7 +28,7 @@ use Rattle.named_files.specs.declared.outputs.Receipts.{Receipts}
 unserved_of : {C : Type 0} (holds : List ℕ → List ℕ → Type 0) (received : C → Closed) (shared : SharedRack) (names : List Text) (image : Option (List ℕ)) (sessions : Printed → Sessions) (none : Type 0) (r : Result Found NoAnswer) (receipts : Receipts C) (lost : Lost) (cut : Option Cut)
     → IsUnserved holds received shared names image (record { end = r; receipts = receipts; lost = lost; cut = cut }) → ((p : Printed) → (sessions p).unserved) → none → IsLived holds received shared names image sessions none (record { end = r; receipts = receipts; lost = lost; cut = cut })
 unserved_of holds received shared names image sessions none (Ok found) receipts lost cut is unserved so =
-    record { answer = (None, (unserved found.answer, (is.answer.0, is.answer.1, inl is.answer.2)), is.left); missed = tt }
+    record { answer = (None, (unserved found.answer, (is.answer.0, is.answer.1, inl is.answer.2)), is.left, tt); missed = tt }
 unserved_of holds received shared names image sessions none (Err e) receipts lost cut is unserved so =
     record { answer = tt; missed = (is.missed, so, (is.left.0, is.left.1, refl)) }
 
@@ -44,17 +44,17 @@ pub record IsEnding (sessions : Printed → Sessions) (none : Type 0) (was left 
   pub refused : (why : Refusal) → end ≡ Err why → why ≢ NoMemory → (p : Printed) → (sessions p).may_refuse why
 
 lived_of : {C : Type 0} (holds : List ℕ → List ℕ → Type 0) (received : C → Closed) (shared : SharedRack) (names : List Text) (image : Option (List ℕ)) (sessions : Printed → Sessions) (none : Type 0) (end : Result Printed Refusal) (was left : Account) (opening : Store) (r : Result Found NoAnswer) (receipts : Receipts C) (lost : Lost) (cut : Option Cut)
-    → IsRackOf shared.shape image opening → BeginsFor holds shared.record_out opening names was → IsToldBy end r → AreLiveKept holds received shared names (left_by end left) receipts lost → IsEnding sessions none was left end → IsLived holds received shared names image sessions none (record { end = r; receipts = receipts; lost = lost; cut = cut })
-lived_of holds received shared names image sessions none (Ok p) was left opening (Ok found) receipts lost cut rack begins told keeps ending =
-    record { answer = (Some left, (opening, rack, was, begins, subst (λ (q : Printed). (sessions q).served was left) (sym told) (ending.done p refl)), keeps); missed = tt }
-lived_of holds received shared names image sessions none (Ok p) was left opening (Err e) receipts lost cut rack begins told keeps ending = absurd told
-lived_of holds received shared names image sessions none (Err why) was left opening (Ok found) receipts lost cut rack begins told keeps ending =
-    record { answer = (None, (ending.unserved why refl found.answer, (why, told, inr (opening, rack, ending.refused why refl told.0 found.answer))), keeps); missed = tt }
-lived_of holds received shared names image sessions none (Err why) was left opening (Err e) receipts lost cut rack begins told keeps ending =
+    → IsRackOf shared.shape image opening → BeginsFor holds shared.record_out opening names was → IsToldBy end r → AreLiveKept holds received shared names (left_by end left) receipts lost → IsEnding sessions none was left end → IsCutFor holds shared.record_out names was cut → IsLived holds received shared names image sessions none (record { end = r; receipts = receipts; lost = lost; cut = cut })
+lived_of holds received shared names image sessions none (Ok p) was left opening (Ok found) receipts lost cut rack begins told keeps ending cut_is =
+    record { answer = (Some left, (opening, rack, was, begins, subst (λ (q : Printed). (sessions q).served was left) (sym told) (ending.done p refl)), keeps, (opening, was, begins, cut_is)); missed = tt }
+lived_of holds received shared names image sessions none (Ok p) was left opening (Err e) receipts lost cut rack begins told keeps ending cut_is = absurd told
+lived_of holds received shared names image sessions none (Err why) was left opening (Ok found) receipts lost cut rack begins told keeps ending cut_is =
+    record { answer = (None, (ending.unserved why refl found.answer, (why, told, inr (opening, rack, ending.refused why refl told.0 found.answer))), keeps, tt); missed = tt }
+lived_of holds received shared names image sessions none (Err why) was left opening (Err e) receipts lost cut rack begins told keeps ending cut_is =
     record { answer = tt; missed = (told, ending.so why refl, (keeps.0, keeps.1, refl)) }
 
 pub lived : {C : Type 0} (holds : List ℕ → List ℕ → Type 0) (received : C → Closed) (shared : SharedRack) (names : List Text) (image : Option (List ℕ)) (sessions : Printed → Sessions) (none : Type 0) (end : Result Printed Refusal) (was left : Account) (opening : Store) (kept : Kept C)
-    → IsRackOf shared.shape image opening → BeginsFor holds shared.record_out opening names was → IsToldBy end kept.end → AreLiveKept holds received shared names (left_by end left) kept.receipts kept.lost → IsEnding sessions none was left end → IsLived holds received shared names image sessions none kept
+    → IsRackOf shared.shape image opening → BeginsFor holds shared.record_out opening names was → IsToldBy end kept.end → AreLiveKept holds received shared names (left_by end left) kept.receipts kept.lost → IsEnding sessions none was left end → IsCutFor holds shared.record_out names was kept.cut → IsLived holds received shared names image sessions none kept
 lived holds received shared names image sessions none end was left opening kept = lived_of holds received shared names image sessions none end was left opening kept.end kept.receipts kept.lost kept.cut
 
 pub none_ended : (before after : List (Ending (List ℕ))) → before ≡ [] → after ≡ before → ends_of after ≡ []

@@ -16,7 +16,7 @@ use Rattle.kept_sessions.specs.Live.{HasFront, IsStarted, IsUnstarted}
 use Rattle.named_files.specs.Notes.{IsRefused}
 use Rattle.kept_sessions.specs.Outcomes.{IsToldOf, IsUnbegun, IsUnbegunFor}
 use Rattle.named_files.specs.Outputs.{IsOpened}
-use Rattle.kept_sessions.specs.Records.{BeginsAs, BeginsFor, IsAsBegun, IsBegun, head_for, record_front}
+use Rattle.kept_sessions.specs.Records.{BeginsAs, BeginsFor, IsAsBegun, IsBegun, IsCutFrom, head_for, record_front}
 use Rattle.named_files.specs.Streams.{Closed, closed}
 use Rattle.kept_sessions.specs.Answers.{IsWrongStart}
 use Rattle.kept_sessions.specs.declared.found.Found.{Found}
@@ -79,10 +79,10 @@ unstarted_file received resumes rack names was held lent head said kept after (S
 pub started_in : {F U : Type 0} (r : Result (Start F) U) (holds : List ℕ → List ℕ → Type 0) (contents : F → Option (List ℕ)) (record_out : Option RecordFile) (rack : Store) (names : List Text) (resumes : Bool) (out : OutFile F)
     → IsOpened contents holds (option_map (λ (o : RecordFile). o.name) record_out) (Some out) → IfSome record_out (λ o. resumes ≡ o.resumes)
     → IfOk r (λ start. BeginsAs resumes out.held.items rack names start.book × (start.book.whole ≡ true) × AreUnstopped start.book.history × (is_some start.stream ≡ true) × HasFront contents names start.book start.stream)
-    → IfOk r (IsStarted holds contents record_out rack names)
-started_in (Err e) holds contents record_out rack names resumes out opened resume is = tt
-started_in (Ok start) holds contents None rack names resumes out opened resume is = absurd (let bad : None ≡ Some out.name.now = opened.0 in cc)
-started_in (Ok start) holds contents (Some file) rack names resumes out opened resume is =
+    → IfOk r (λ start. IsCutFrom out.held.items (record_front names start.book) start.cut) → IfOk r (IsStarted holds contents record_out rack names)
+started_in (Err e) holds contents record_out rack names resumes out opened resume is cut = tt
+started_in (Ok start) holds contents None rack names resumes out opened resume is cut = absurd (let bad : None ≡ Some out.name.now = opened.0 in cc)
+started_in (Ok start) holds contents (Some file) rack names resumes out opened resume is cut =
     let name : out.name.now ≡ file.name = (let e : Some file.name ≡ Some out.name.now = opened.0 in cc) in
     record {
       begins = (out.held.items, subst (λ (n : Text). holds n out.held.items) name opened.1, subst (λ (b : Bool). BeginsAs b out.held.items rack names start.book) resume is.0);
@@ -90,6 +90,7 @@ started_in (Ok start) holds contents (Some file) rack names resumes out opened r
       unstopped = is.2;
       stream = is.3;
       front = is.4;
+      cut = (out.held.items, subst (λ (n : Text). holds n out.held.items) name opened.1, cut);
     }
 
 -- why they don't begin
@@ -118,7 +119,7 @@ unstarted_in (Err end) holds contents received (Some file) rack names resumes ou
 pub started_none : {F : Type 0} (holds : List ℕ → List ℕ → Type 0) (contents : F → Option (List ℕ)) (record_out : Option RecordFile) (rack : Store) (names : List Text) (book : Account) → None ≡ option_map (λ (o : RecordFile). o.name) record_out → book ≡ new_account rack → IsStarted holds contents record_out rack names (record { book = book; stream = None; cut = None })
 started_none holds contents (Some file) rack names book none is = absurd (let bad : None ≡ Some file.name = none in cc)
 started_none holds contents None rack names book none is =
-    record { begins = is; whole = ap (λ (a : Account). a.whole) is; unstopped = subst (λ (a : Account). AreUnstopped a.history) (sym is) (search rules); stream = refl; front = tt }
+    record { begins = is; whole = ap (λ (a : Account). a.whole) is; unstopped = subst (λ (a : Account). AreUnstopped a.history) (sym is) (search rules); stream = refl; front = tt; cut = refl }
 
 -- the refusal of a rack
 pub wrong_rack : (r : Result Found NoAnswer) (holds : List ℕ → List ℕ → Type 0) (shared : SharedRack) (names : List Text) (image : Option (List ℕ)) (why : Refusal) → IfOk r (λ found. Refuses why found.answer) → (why ≢ NoMemory → IsWrongRack shared.shape image why)

@@ -20,8 +20,9 @@ use Rattle.kept_sessions.specs.Answers.{IsLiveAnswer, IsWrongStart, Sessions}
 use Rattle.kept_sessions.specs.Outcomes.{IsUnbegunFor}
 use Rattle.kept_sessions.specs.Keeping.{AreLiveKept}
 use Rattle.named_files.specs.Outputs.{lost_none}
-use Rattle.kept_sessions.specs.Records.{BeginsFor, IsAsBegun, record_front}
+use Rattle.kept_sessions.specs.Records.{BeginsFor, IsAsBegun, IsCutFor, record_front}
 use Rattle.named_files.specs.Streams.{Closed}
+use Rattle.kept_sessions.specs.declared.found.Cut.{Cut}
 use Rattle.kept_sessions.specs.declared.live.Kept.{Kept}
 use Rattle.kept_sessions.specs.declared.live.Over.{Over}
 use Rattle.kept_sessions.specs.declared.live.Start.{Start}
@@ -41,6 +42,7 @@ pub record IsStarted {F : Type 0} (holds : Holding) (contents : F → Option (Li
   pub unstopped : AreUnstopped start.book.history
   pub stream : is_some start.stream ≡ is_some record_out
   pub front : HasFront contents names start.book start.stream
+  pub cut : IsCutFor holds record_out names start.book start.cut
 
 -- they don't begin, and the file of their record is left so
 pub record IsUnstarted {C : Type 0} (holds : Holding) (received : C → Closed)
@@ -102,6 +104,14 @@ abbrev pub left_by : {X E : Type 0} → Result X E → Account → Option Accoun
 left_by (Ok x) left = Some left
 left_by (Err e) left = None
 
+-- what was cut off from their record is told where sessions left a book
+abbrev pub IsCutTold : Holding → Option RecordFile → List Text → Option Account → Option Cut
+    → Type 0
+IsCutTold holds record_out names None cut = Unit {0}
+IsCutTold holds record_out names (Some left) cut =
+    (opening : Store) × (was : Account) × BeginsFor holds record_out opening names was
+    × IsCutFor holds record_out names was cut
+
 -- What is left of sessions, from their beginning to what is told of them: they have ended and were
 -- kept, or none began.
 pub record IsLived {C : Type 0} (holds : Holding) (received : C → Closed) (rack : SharedRack)
@@ -109,6 +119,7 @@ pub record IsLived {C : Type 0} (holds : Holding) (received : C → Closed) (rac
     (kept : Kept C) : Type 0 where
   pub answer : IfOk kept.end (λ found. (left : Option Account)
       × IsLiveAnswer holds rack names image (sessions found.answer) found.answer left
-      × AreLiveKept holds received rack names left kept.receipts kept.lost)
+      × AreLiveKept holds received rack names left kept.receipts kept.lost
+      × IsCutTold holds rack.record_out names left kept.cut)
   pub missed : IfErr kept.end (λ missed. IsRefused missed × none
       × AreLiveKept holds received rack names None kept.receipts lost_none)

@@ -1,6 +1,7 @@
 -- How the record of live sessions begins, and what its file holds.
-use Rattle.std.specs.Prelude.{◌≡◌, ◌≢◌, ◌⊎◌, ◌++◌, ◌+◌, ◌≤◌, ℕ, Bool, true, false, List, Option, Some, None, IfSome, MatchOption, flat_map, length}
+use Rattle.std.specs.Prelude.{◌≡◌, ◌≢◌, ◌⊎◌, ◌++◌, ◌+◌, ◌≤◌, ◌==◌, ℕ, Bool, true, false, List, Option, Some, None, IfSome, MatchOption, [], count_by, flat_map, length}
 use Rattle.clap.specs.Words.{Text}
+use Rattle.batch.specs.Text.{line_feed}
 use Rattle.module_memory.specs.Images.{image_of}
 use Rattle.module_memory.specs.Store.{Store}
 use Rattle.batch_book.specs.declared.entry.Entry.{Entry}
@@ -13,6 +14,7 @@ use Rattle.record_replay.specs.declared.fault.RecordError.{RecordError}
 use Rattle.record_replay.specs.declared.fault.RecordFault.{RecordFault}
 use Rattle.record_replay.specs.declared.fault.RecordFault.TheVariants.{Head}
 use Rattle.command_words.specs.declared.jobs.RecordFile.{RecordFile}
+use Rattle.kept_sessions.specs.declared.found.Cut.{Cut}
 use Rattle.named_files.specs.Contents.{Holding}
 use Rattle.named_files.specs.Streams.{Closed, IsFrontOf, closed}
 
@@ -43,6 +45,28 @@ abbrev pub BeginsAs : Bool → List ℕ → Store → List Text → Account → 
 BeginsAs resumes held opening names was =
     ((missing : List ℕ) × (head_for opening names ≡ held ++ missing) × (was ≡ new_account opening))
     ⊎ ((resumes ≡ true) × IsResumed held (head_for opening names) opening was)
+
+-- What is told of a rest that was cut off behind this front of a record: how many bytes it had, and
+-- the line with which it began, counted from 1. Of the last line nothing is told.
+abbrev pub IsCutOff : List ℕ → List ℕ → Option Cut → Type 0
+IsCutOff front rest None = (rest ≡ []) ⊎ (rest ≡ end_line)
+IsCutOff front rest (Some cut) =
+    (rest ≢ []) × (rest ≢ end_line) × (cut.bytes ≡ length rest)
+    × (cut.line ≡ count_by (λ byte. byte == line_feed) front + 1)
+
+-- The same of a file that held this, whose record goes on behind this front: that stood there, and a
+-- rest; or only a front of it, and then nothing was cut off.
+pub data IsCutFrom (held front : List ℕ) (cut : Option Cut) : Type 0 where
+  begun_anew : (missing : List ℕ) → front ≡ held ++ missing → cut ≡ None
+      → IsCutFrom held front cut
+  gone_on : (rest : List ℕ) → held ≡ front ++ rest → IsCutOff front rest cut
+      → IsCutFrom held front cut
+
+-- the same where sessions began with this book, whose record goes to this file, or to none
+abbrev pub IsCutFor : Holding → Option RecordFile → List Text → Account → Option Cut → Type 0
+IsCutFor holds None names was cut = cut ≡ None
+IsCutFor holds (Some out) names was cut =
+    (held : List ℕ) × holds out.name held × IsCutFrom held (record_front names was) cut
 
 -- the book with which sessions begin, where their record goes to this file, or to none
 abbrev pub BeginsFor : Holding → Option RecordFile → Store → List Text → Account → Type 0

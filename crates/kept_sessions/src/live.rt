@@ -17,7 +17,7 @@ ghost use Rattle.named_files.specs.Notes.{IsRefused};
 ghost use Rattle.kept_sessions.specs.Outcomes.{IsToldBy, IsToldOf, IsUnbegun};
 ghost use Rattle.kept_sessions.specs.Keeping.{AreLiveKept, AreWritten, HasGrown};
 ghost use Rattle.named_files.specs.Outputs.{AreNamed, AreOpened, IsFileWritten, IsOpened, IsUnput, is_new, name_of};
-ghost use Rattle.kept_sessions.specs.Records.{BeginsAs, BeginsFor, IsBegun, IsSoFar, IsUnasked, head_for, record_front};
+ghost use Rattle.kept_sessions.specs.Records.{BeginsAs, BeginsFor, IsBegun, IsCutFrom, IsSoFar, IsUnasked, head_for, record_front};
 ghost use Rattle.named_files.specs.Streams.{IsWrittenBy, closed};
 
 use crate::found::{Cut, Found};
@@ -132,6 +132,8 @@ fn start_in<R: Threads + Sync, S: System>(
         × (start.book.whole ≡ true) × AreUnstopped start.book.history
         × (is_some start.stream ≡ true)
         × HasFront S.Stream.contents names.now start.book start.stream) }
+    ensures cut { IfOk result (λ start. IsCutFrom out.entry.held.items
+        (record_front names.now start.book) start.cut) }
     ensures unstarted { IfErr result (λ end.
         IsUnbegun resumes out.entry.held.items (head_for rack names.now) rack end.why
         × IfSome end.receipt (λ receipt. (text : List ℕ)
@@ -461,6 +463,7 @@ pub(crate) fn end_live<S: System>(
     requires opened { IsOpened S.Stream.contents is_new (name_of image) image }
     requires named { name_of image ≡ shared.now.image_out }
     ensures told { IsToldBy over.end result.end }
+    ensures cut { result.cut ≡ cut }
     ensures kept { (opening : Store) → (names : List Text) → (was : Account) → (left : Account)
         → BeginsFor (S.holds system.now) shared.now.record_out opening names was
         → IsOver S.Stream.contents names was left over → OnErr over.end (IsUnasked was left)

@@ -1,12 +1,12 @@
 //! How the record of live sessions begins.
 
-ghost use Rattle.std.specs.Prelude.{◌≡◌, ◌⊎◌, [], ◌≤◌, ◌++◌, ◌-◌, IfErr, IfOk, true, length, map, take};
-ghost use Rattle.batch.specs.Text.{IsNumber};
+ghost use Rattle.std.specs.Prelude.{◌≡◌, ◌==◌, ◌⊎◌, [], ◌≤◌, ◌+◌, ◌++◌, ◌-◌, IfErr, IfOk, true, count_by, drop, length, map, take};
+ghost use Rattle.batch.specs.Text.{IsNumber, line_feed};
 ghost use Rattle.batch_book.specs.History.{AreUnstopped, new_account};
 ghost use Rattle.record_replay.specs.ReplayAnswers.{of_record};
 ghost use Rattle.named_files.specs.Notes.{IsRefused};
 ghost use Rattle.kept_sessions.specs.Outcomes.{IsUnbegun, IsUnremade};
-ghost use Rattle.kept_sessions.specs.Records.{BeginsAs, IsResumed, head_for, record_front};
+ghost use Rattle.kept_sessions.specs.Records.{BeginsAs, IsCutFrom, IsCutOff, IsResumed, head_for, record_front};
 
 use crate::found::Cut;
 use batch_book::{Book, Silent};
@@ -158,20 +158,27 @@ fn resume<R: Threads + Sync>(
     }
 }
 
-/// What stands in a record behind so many bytes: nothing is told of its last line.
-fn cut_of(held: &[u8], kept: usize) -> Option<Cut> {
-    let (front, rest) = held.split_at(kept.min(held.len()));
-    if rest.is_empty() || is_ended(rest) {
+/// The line that begins behind this front of a text, counted from 1.
+fn line_behind(front: &[u8]) -> usize
+    ensures { result ≡ count_by (λ byte. byte == line_feed) front.now + 1 }
+{
+    front.iter().filter(|byte| **byte == b'\n').count() + 1
+}
+
+/// What is told of what stands in a record behind so many bytes: of its last line nothing.
+fn cut_of(held: &[u8], kept: usize) -> Option<Cut>
+    requires { kept ≤ length held.now }
+    ensures { IsCutOff (take kept held.now) (drop kept held.now) result }
+{
+    let (front, rest) = held.split_at(kept);
+    if rest.is_empty() {
         return None;
     }
-    let mut line: usize = 1;
-    for byte in front {
-        if *byte == b'\n' {
-            line = line.saturating_add(1);
-        }
+    if is_ended(rest) {
+        return None;
     }
     Some(Cut {
-        line,
+        line: line_behind(front),
         bytes: rest.len(),
     })
 }
@@ -196,6 +203,8 @@ pub(crate) fn begin<R: Threads + Sync>(
         take begun.kept held.now ++ begun.head.items ≡ record_front names.now begun.book) }
     ensures new { IfOk result (λ begun. ((begun.kept ≡ 0) × (begun.book ≡ new_account rack))
         ⊎ (begun.head.items ≡ [])) }
+    ensures cut { IfOk result (λ begun.
+        IsCutFrom held.now (record_front names.now begun.book) begun.cut) }
     ensures ready { IfOk result (λ begun.
         (begun.book.whole ≡ true) × AreUnstopped begun.book.history) }
     ensures unbegun { IfErr result

@@ -13,3 +13,6 @@ returns-in-Err-write_front-clause-unstarted g c =
       unstarted_file g.S.System.received c.args.resumes c.args.rack c.args.names.now c.in-Ok.begun.book held c.as_slice-2.result.now c.in-Ok.begun.head.items c.as_slice-3.result.now c.in-Ok.begun.kept _ end.result.receipt c.as_slice-2.ensures.value c.as_slice-3.ensures.value
           (rw c.as_slice.ensures.value at c.in-Ok.ensures.begins) (rw c.as_slice.ensures.value at c.in-Ok.ensures.front) c.in-Ok.ensures.new c.in-Err-write_front.ensures.cut end.ensures.receipt,
     )
+
+pub returns-in-Ok-write_front-clause-cut : goal.returns-in-Ok-write_front-clause-cut
+returns-in-Ok-write_front-clause-cut g c = rw c.as_slice.ensures.value at c.in-Ok.ensures.cut

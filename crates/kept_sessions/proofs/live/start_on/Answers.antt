@@ -3,7 +3,7 @@ use Rattle.kept_sessions.proofs.live.start_on.Goals as goal
 
 pub returns-in-Some-clause-started : goal.returns-in-Some-clause-started
 returns-in-Some-clause-started g c =
-    started_in c.start_in.result (g.S.System.holds c.args.system.now) g.S.Stream.Write.contents c.args.shared.now.record_out c.args.rack c.args.names.now c.resumes.result c.in-Some.out (rw c.in-Some.is at c.requires.opened) c.resumes.ensures c.start_in.ensures.started
+    started_in c.start_in.result (g.S.System.holds c.args.system.now) g.S.Stream.Write.contents c.args.shared.now.record_out c.args.rack c.args.names.now c.resumes.result c.in-Some.out (rw c.in-Some.is at c.requires.opened) c.resumes.ensures c.start_in.ensures.started c.start_in.ensures.cut
 
 pub returns-in-Some-clause-unstarted : goal.returns-in-Some-clause-unstarted
 returns-in-Some-clause-unstarted g c =
