@@ -11,7 +11,8 @@ from plain import NUMBER, Refused
 from sessions import HEX8, Exchange
 
 HEAD = re.compile(rb"record " + rb"x".join([NUMBER] * 3) + rb" " + HEX8 + rb" " + NUMBER)
-CLIENT = re.compile(rb"client ([^\n]*)")
+CLIENT = re.compile(rb"client ([^\n]+)")
+CLIENTS = 16
 END = b"end\n"
 SESSION = re.compile(NUMBER + rb" ")
 BATCH = re.compile(rb"batch " + NUMBER)
@@ -211,13 +212,13 @@ def head_in(text):
         shape = found and plain.read_shape(b"%bx%bx%b" % found.groups()[:3])
     except Refused:
         shape = None
-    if not shape:
+    if not shape or int(found[5]) > CLIENTS:
         raise Misrecorded("head", text, 0, HEAD_WANTED)
     names = []
     for _ in range(int(found[5])):
         line, at = plain.line_at(text, at)
         client = line is not None and CLIENT.fullmatch(line)
-        if not client:
+        if not client or client[1] in names:
             raise Misrecorded("head", text, 0, HEAD_WANTED)
         names.append(client[1])
     return shape, int(found[4], 16), names, at
