@@ -1,10 +1,13 @@
 //! Sessions whose record and image are kept: those of `serve`, of `host` and of `talk`.
 //!
 //! [`serve`] answers scripts, and then writes what they leave (`AreScriptsKept` of
-//! `specs/Keeping.antt`). [`host`] and [`talk`] begin with a new book, or with that of a record that
-//! they go on with (`BeginsFor` of `specs/Records.antt`). Their record grows entry by entry, each
-//! before its reply is told. What is left of their files stands in `AreLiveKept`, and what they
-//! answer in `IsLiveAnswer` (`specs/Answers.antt`).
+//! `specs/Keeping.antt`). [`host`] and [`talk`] begin with a new book, or with that of a record
+//! that they go on with (`BeginsFor` of `specs/Records.antt`). What they cut off behind its entries
+//! is a front of the text of entries that could come, or of the last line (`IsResumed`); how much
+//! that was, they tell (`IsCutTold` of `specs/Live.antt`). Their record grows entry by entry, each
+//! before its reply is told. What is left of their files stands in `AreLiveKept`: the record has
+//! each entry that was told, also where something of it is lost. What they answer stands in
+//! `IsLiveAnswer` (`specs/Answers.antt`).
 #![tactic(auto)]
 
 mod found;
