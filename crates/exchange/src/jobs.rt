@@ -70,7 +70,7 @@ pub(crate) fn answer_to<R: Runtime, S: System, P: Ports, I: Read, O: Write, E: W
     ensures response { HasTold (O.contents out.old) (O.contents out.new)
         (λ told done. (left : Option Account) × IsJobAnswer (S.holds system.now)
         (given_by (I.remaining input.old) (P.ways peers.old.ports)
-        (clients_by (S.had system.now))) request.now.job
+        (clients_by (S.says system.now) (S.had system.now))) request.now.job
         (record {
           told = told;
           end = done.answer;
@@ -83,12 +83,13 @@ pub(crate) fn answer_to<R: Runtime, S: System, P: Ports, I: Read, O: Write, E: W
         (IsUnanswered (P.ways peers.old.ports) (P.ways peers.new.ports)
         (ends_of peers.new.endings.items))
         (IsJobCut (S.holds system.now) (given_by (I.remaining input.old) (P.ways peers.old.ports)
-        (clients_by (S.had system.now))) request.now.job (P.ways peers.new.ports)
+        (clients_by (S.says system.now) (S.had system.now))) request.now.job
+        (P.ways peers.new.ports)
         (ends_of peers.new.endings.items)) result.end }
     ensures note { HasNote result.end }
     ensures beside { IsBeside (HasJobOverlap (S.holds system.now)
         (given_by (I.remaining input.old) (P.ways peers.old.ports)
-        (clients_by (S.had system.now))) request.now.job) request.now
+        (clients_by (S.says system.now) (S.had system.now))) request.now.job) request.now
         (E.contents err.old) (E.contents err.new) }
     ensures apart { OnOk result.end
         (AreSeenApart (S.leads system.now) (file_uses request.now.job)) }
@@ -165,7 +166,7 @@ fn answer_job<R: Runtime, S: System, P: Ports, I: Read, O: Write, E: Write>(
         (λ told found. (left : Option Account) × IsAnswerTo (S.holds system.now) request.now.job
         (contents_in contents.now)
         (given_by (I.remaining input.old) (P.ways peers.old.ports)
-        (clients_by (S.had system.now)))
+        (clients_by (S.says system.now) (S.had system.now)))
         (response_of told found left (P.ways peers.new.ports)
         (ends_of peers.new.endings.items))
         × AreKeptBut (S.holds system.now) S.received request.now.job left result.receipts

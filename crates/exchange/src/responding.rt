@@ -53,7 +53,8 @@ pub fn respond<R: Runtime, S: System, P: Ports, I: Read, O: Write, E: Write>(
         × IsCutFor (named_by (S.holds system.now) (S.leads system.now))
         (leaving (S.holds system.now) S.received result.receipts (P.ways peers.old.ports)
         (P.ways peers.new.ports) (ends_of peers.new.endings.items)) (texts_of w.items)
-        (given_by (I.remaining input.old) (P.ways peers.old.ports) (clients_by (S.had system.now)))
+        (given_by (I.remaining input.old) (P.ways peers.old.ports)
+        (clients_by (S.says system.now) (S.had system.now)))
         (O.contents out.old) (O.contents out.new))
         ⊎ IsEndForArguments (named_by (S.holds system.now) (S.leads system.now))
         (IsLeft (S.holds system.now) S.received result.receipts (P.ways peers.new.ports)
@@ -61,7 +62,7 @@ pub fn respond<R: Runtime, S: System, P: Ports, I: Read, O: Write, E: Write>(
         (IsNoneLeft result.receipts (P.ways peers.old.ports) (P.ways peers.new.ports)
         (ends_of peers.new.endings.items))
         (texts_of w.items) (given_by (I.remaining input.old) (P.ways peers.old.ports)
-        (clients_by (S.had system.now)))
+        (clients_by (S.says system.now) (S.had system.now)))
         (streams_of (O.contents out.old) (O.contents out.new) (E.contents err.old)
         (E.contents err.new)) (exit_status result.code)) }
     ensures none { OnErr arguments (IsNoneLeft result.receipts (P.ways peers.old.ports)
@@ -143,14 +144,15 @@ fn print_response<R: Runtime, S: System, P: Ports, I: Read, O: Write, E: Write>(
         (IsNoneLeft result.1 (P.ways peers.old.ports) (P.ways peers.new.ports)
         (ends_of peers.new.endings.items))
         (texts_of arguments.now) (given_by (I.remaining input.old) (P.ways peers.old.ports)
-        (clients_by (S.had system.now)))
+        (clients_by (S.says system.now) (S.had system.now)))
         (streams_of (O.contents out.old) (O.contents out.new) (E.contents err.old)
         (E.contents err.new))) }
     ensures cut { OnErr result.0 (IsCutFor
         (named_by (S.holds system.now) (S.leads system.now))
         (leaving (S.holds system.now) S.received result.1 (P.ways peers.old.ports)
         (P.ways peers.new.ports) (ends_of peers.new.endings.items)) (texts_of arguments.now)
-        (given_by (I.remaining input.old) (P.ways peers.old.ports) (clients_by (S.had system.now)))
+        (given_by (I.remaining input.old) (P.ways peers.old.ports)
+        (clients_by (S.says system.now) (S.had system.now)))
         (O.contents out.old) (O.contents out.new)) }
 {
     match read_arguments(rt.alloc(), arguments) {

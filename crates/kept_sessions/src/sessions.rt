@@ -152,8 +152,8 @@ fn host_over<K: History + Send, R: Threads + Wait + Sync, S: ClientFiles>(
     requires whole { book.whole ≡ true }
     requires unstopped { AreUnstopped book.history }
     ensures { IsHostOver K.loses book
-        (clients_by (S.had streams.now.system.now) streams.now.clients.now)
-        endings.old.items endings.new.items result.0 result.1 }
+        (clients_by (S.says streams.now.system.now) (S.had streams.now.system.now)
+        streams.now.clients.now) endings.old.items endings.new.items result.0 result.1 }
 {
     match host_on(rt, alloc, book, workers, streams) {
         Ok(hosted) => {
@@ -183,8 +183,8 @@ fn host_recorded<N: StreamName + Send, R: Threads + Wait + Sync, S: System>(
     ensures stream { is_some result.stream ≡ true }
     ensures over { (left : Account) × IsOverAt S.Stream.contents N.held book left result
         × IsHostOver true book
-        (clients_by (S.had streams.now.system.now) streams.now.clients.now) endings.old.items
-        endings.new.items result.end left }
+        (clients_by (S.says streams.now.system.now) (S.had streams.now.system.now)
+        streams.now.clients.now) endings.old.items endings.new.items result.end left }
 {
     let book = stream_on::<S::Stream, N>(alloc, book, stream);
     let (end, book) = host_over(rt, alloc, book, workers, streams, endings);
@@ -244,7 +244,7 @@ pub fn host<R: Runtime, S: System>(
     requires named { AreNamed (recorded_in shared.now) shared.now.image_out outputs }
     ensures { IsLived (S.holds system.now) S.received shared.now clients.now
         (contents_in contents.now).image (hosting shared.now
-        (clients_by (S.had system.now) clients.now) (ends_of endings.new.items))
+        (clients_by (S.says system.now) (S.had system.now) clients.now) (ends_of endings.new.items))
         (ends_of endings.new.items ≡ []) result }
 {
     let begun = begin_live(rt, system, shared, clients, contents, workers, outputs);

@@ -4,7 +4,7 @@ use Rattle.std.specs.Prelude.{option_map}
 use Rattle.std.specs.Io.KnownBytes.{Appends}
 use Rattle.byte_streams.specs.Writing.{IsCutShort}
 use Rattle.clap.specs.Words.{Text}
-use Rattle.named_files.specs.Outputs.{HasNothingGone, IsFileWritten, IsOpened, is_new}
+use Rattle.named_files.specs.Outputs.{HasNothingGone, IsFileWritten, IsOpened, is_new, name_of}
 use Rattle.named_files.specs.Streams.{Closed, IsFrontOf, IsWrittenBy, closed}
 use Rattle.named_files.specs.declared.lost.Reason.{Reason}
 use Rattle.named_files.specs.declared.outputs.OutFile.{OutFile}
@@ -64,3 +64,11 @@ nothing_gone contents received name (Some o) (Some r) opened same =
 pub unwritten : {E : Type 0} (r : Result Unit E) (P : E → Type 0) (bytes : List ℕ) (after : Option (List ℕ)) → IsErrAnd r P → after ≡ Some [] → IsWrittenBy r bytes after
 unwritten (Ok u) P bytes after err is = absurd err
 unwritten (Err e) P bytes after err is = ([], bytes, refl, is)
+
+-- a new file that was closed as it was opened, since something is lost
+pub left_new : {F C : Type 0} (contents : F → Option (List ℕ)) (received : C → Closed) (out : Option (OutFile F)) (o : OutFile F) (wanted : List ℕ) (receipt : C) (lost : Reason)
+    → out ≡ Some o → IsOpened contents is_new (name_of out) out → received receipt ≡ closed (contents o.file) false → IsFileWritten received (name_of out) wanted (Some receipt) (Some lost)
+left_new contents received None o wanted receipt lost is opened left = absurd cc
+left_new contents received (Some x) o wanted receipt lost is opened left =
+    let same : x ≡ o = cc in
+    (([], wanted, refl, ap (λ (c : Closed). c.bytes) left ∙ ap (λ (y : OutFile F). contents y.file) (sym same) ∙ opened.2 ∙ ap Some opened.1), ap (λ (c : Closed). c.stands) left)

@@ -1,15 +1,16 @@
 -- The clients of a host, by the names of their files.
-use Rattle.std.specs.Prelude.{ℕ, List, [], ◌++◌, codes, Some, None, true, length, map, slice_index_or}
+use Rattle.std.specs.Prelude.{ℕ, List, [], ◌++◌, codes, Option, Some, true, length, map, slice_index_or}
 use Rattle.session_answers.specs.HostAnswers.{KnownClients, SessionEnd, seen_end}
 use Rattle.session_answers.specs.declared.ended_session.Ending.{Ending}
 
--- The clients of these names: each says what comes from `NAME.in`, of which nothing is known, and is
+-- The clients of these names: each says what comes from `NAME.in`, as far as that is known, and is
 -- told behind what had gone to `NAME.out` before. Any file may be such that it can't be opened.
-abbrev pub clients_by : (List ℕ → List ℕ) → List (List ℕ) → KnownClients
-clients_by begins names =
+abbrev pub clients_by : (List ℕ → Option (List ℕ)) → (List ℕ → List ℕ) → List (List ℕ)
+    → KnownClients
+clients_by comes begins names =
     record {
       clients = length names;
-      says = λ k. None;
+      says = λ k. comes (slice_index_or names k [] ++ codes ".in");
       contains = λ k. Some (begins (slice_index_or names k [] ++ codes ".out"));
       named = λ k. slice_index_or names k [];
       may_fail = λ _. true;

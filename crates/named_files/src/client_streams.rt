@@ -1,6 +1,6 @@
 //! The files of the clients of a host.
 
-ghost use Rattle.std.specs.Prelude.{◌≡◌, ℕ, List, IfOk};
+ghost use Rattle.std.specs.Prelude.{◌≡◌, ℕ, List, Option, IfOk};
 
 use crate::lack::Lack;
 use crate::sent_file::SentFile;
@@ -8,18 +8,24 @@ use byte_streams::PassedBytes;
 use command_words::Text;
 use session_answers::{AllThere, ClientStreams};
 use std::alloc::Global;
-use std::fs::File;
 use std::io;
-use std::io::ErrorKind;
+use std::io::{ErrorKind, Read};
 use std::sync::OnceLock;
 
 /// What opens the files of clients, in the thread of each, once all threads are there.
 pub trait ClientFiles: Sync {
+    /// What a client says is read from this.
+    type Heard: Read + Send + Drop;
+
+    /// What comes from the file of this name, as far as that is known.
+    ghost says: { Self → List ℕ → Option (List ℕ) };
+
     /// What has gone to the file of this name before it is opened.
     ghost had: { Self → List ℕ → List ℕ };
 
     /// Opens the file from which a client is heard.
-    fn open_heard(&self, there: &AllThere, name: &str) -> io::Result<File>;
+    fn open_heard(&self, there: &AllThere, name: &str) -> io::Result<Self::Heard>
+        ensures { IfOk result (λ heard. Self.Heard.remaining heard ≡ says self.now name.now) };
 
     /// Opens the file by which a client is told: it is made where it isn't there, and emptied.
     fn open_told(&self, there: &AllThere, name: &str) -> io::Result<SentFile>
@@ -55,13 +61,13 @@ impl<'a, S: ClientFiles> ClientStreams for FileStreams<'a, S> {
     ghost use Rattle.std.specs.Prelude.{Some};
     ghost use Rattle.named_files.specs.Clients.{clients_by};
 
-    type Reader = File;
+    type Reader = S::Heard;
 
     type Writer = SentFile;
 
     type Receipt = PassedBytes;
 
-    ghost known = { λ d. clients_by (S.had d.system.now) d.clients.now };
+    ghost known = { λ d. clients_by (S.says d.system.now) (S.had d.system.now) d.clients.now };
 
     ghost received = { λ sent. Some sent };
 
@@ -77,7 +83,7 @@ impl<'a, S: ClientFiles> ClientStreams for FileStreams<'a, S> {
     }
 
     // What the client says is opened first.
-    fn open(&self, there: AllThere, client: usize) -> io::Result<(File, SentFile)> {
+    fn open(&self, there: AllThere, client: usize) -> io::Result<(S::Heard, SentFile)> {
         let name = self.name(client);
         let said = format!(in self.alloc; "{name}.in")?;
         let told = format!(in self.alloc; "{name}.out")?;

@@ -56,7 +56,11 @@ impl System for HostRuntime {
 }
 
 impl ClientFiles for HostRuntime {
-    ghost use Rattle.std.specs.Prelude.{[]};
+    ghost use Rattle.std.specs.Prelude.{[], None};
+
+    type Heard = File;
+
+    ghost says = { λ _ _. None };
 
     ghost had = { λ _ _. [] };
 

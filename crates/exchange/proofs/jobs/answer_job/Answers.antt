@@ -73,7 +73,7 @@ returns-in-Ok-clause-beside g c = host_beside _ c.args.request.now _ _ (rw c.in-
 
 pub returns-in_default-clause-response : goal.returns-in_default-clause-response
 returns-in_default-clause-response g c =
-    let given = given_by (g.I.Read.remaining c.args.input.now) (g.P.Ports.ways c.args.peers.now.ports) (clients_by (g.S.ClientFiles.had c.args.system.now)) in
+    let given = given_by (g.I.Read.remaining c.args.input.now) (g.P.Ports.ways c.args.peers.now.ports) (clients_by (g.S.ClientFiles.says c.args.system.now) (g.S.ClientFiles.had c.args.system.now)) in
     let w = c.without_sessions-in_default in
     rw w.ensures.end (told_plain c.answer_other-end.result _ _ (g.S.System.holds c.args.system.now) g.S.System.received c.args.request.now.job (contents_in c.args.contents.now) given _ _ w.result.receipts w.result.lost _ c.answer_other-end.ensures.response (none_served _ c.requires.unserved) w.ensures.unkept w.ensures.lost)
 

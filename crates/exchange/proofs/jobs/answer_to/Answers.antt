@@ -14,7 +14,7 @@ answer_job-end-requires-clause-named g c = λ lifetimes bounds.
 
 pub returns-in-Err-clause-response : goal.returns-in-Err-clause-response
 returns-in-Err-clause-response g c =
-    let given = given_by (g.I.Read.remaining c.args.input.now) (g.P.Ports.ways c.args.peers.now.ports) (clients_by (g.S.ClientFiles.had c.args.system.now)) in
+    let given = given_by (g.I.Read.remaining c.args.input.now) (g.P.Ports.ways c.args.peers.now.ports) (clients_by (g.S.ClientFiles.says c.args.system.now) (g.S.ClientFiles.had c.args.system.now)) in
     let was = g.P.Ports.ways c.args.peers.now.ports in
     let ends = ends_of c.args.peers.now.endings.items in
     ([], Appends-nil _, tt, refused_so c.in-Err.missed (IsUnanswered was was ends) (IsJobCut (g.S.System.holds c.args.system.now) given c.args.request.now.job was ends) [] c.in-Err.ensures.note (refl, refl, none_served _ c.requires.unserved))
@@ -24,7 +24,7 @@ returns-in-Err-clause-note g c = none_of c.in-Err.missed c.in-Err.ensures.note
 
 pub returns-clause-response : goal.returns-clause-response
 returns-clause-response g c =
-    let given = given_by (g.I.Read.remaining c.args.input.now) (g.P.Ports.ways c.args.peers.now.ports) (clients_by (g.S.ClientFiles.had c.args.system.now)) in
+    let given = given_by (g.I.Read.remaining c.args.input.now) (g.P.Ports.ways c.args.peers.now.ports) (clients_by (g.S.ClientFiles.says c.args.system.now) (g.S.ClientFiles.had c.args.system.now)) in
     let job = c.answer_job-end in
     finish job.result.end c.finished.result _ _ (g.S.System.holds c.args.system.now) g.S.System.received c.args.request.now.job (contents_in c.in-Ok.contents) (g.I.Read.remaining c.read_opened.new.input) given (g.P.Ports.ways job.new.peers.ports) (ends_of job.new.peers.endings.items) job.result.receipts job.result.lost
     c.finished.ensures.answer c.in-Ok.ensures.contents job.ensures.rest job.ensures.response

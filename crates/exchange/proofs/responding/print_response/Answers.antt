@@ -21,7 +21,7 @@ returns-in-Ok-end-clause-done g c =
     let response : Response = record { told = t.0; end = done.answer; left = t.2.0; ports = opens; ends = ended } in
     let kept : done.lost ≡ lost_none → IsLeft (g.S.System.holds c.args.system.now) g.S.System.received c.answer_to-end.result.receipts opens ended c.in-Ok.request.job response = λ none. (subst (AreKeptBut (g.S.System.holds c.args.system.now) g.S.System.received c.in-Ok.request.job t.2.0 c.answer_to-end.result.receipts) none t.2.2, refl, refl) in
     let named = named_by (g.S.System.holds c.args.system.now) (g.S.Places.leads c.args.system.now) in
-    let given = given_by (g.I.Read.remaining c.args.input.now) (g.P.Ports.ways c.args.peers.now.ports) (clients_by (g.S.ClientFiles.had c.args.system.now)) in
+    let given = given_by (g.I.Read.remaining c.args.input.now) (g.P.Ports.ways c.args.peers.now.ports) (clients_by (g.S.ClientFiles.says c.args.system.now) (g.S.ClientFiles.had c.args.system.now)) in
     let ends = ends_of c.answer_to-end.new.peers.endings.items in
     let keeps = IsLeft (g.S.System.holds c.args.system.now) g.S.System.received c.answer_to-end.result.receipts (g.P.Ports.ways c.answer_to-end.new.peers.ports) ends in
     let none_left = IsNoneLeft c.answer_to-end.result.receipts (g.P.Ports.ways c.args.peers.now.ports) (g.P.Ports.ways c.answer_to-end.new.peers.ports) ends in
@@ -38,7 +38,7 @@ returns-in-Err-Refused-clause-done g c =
     let unkept = rw c.in-Err-Refused.is at c.answer_to-end.ensures.unkept in
     let left : IsLeft (g.S.System.holds c.args.system.now) g.S.System.received c.answer_to-end.result.receipts (g.P.Ports.ways c.answer_to-end.new.peers.ports) ended c.in-Ok.request.job (record { told = t.0; end = unanswered c.in-Err-Refused.why; left = None; ports = g.P.Ports.ways c.args.peers.now.ports; ends = [] }) = (unkept, sym none.1, sym none.2) in
     let named = named_by (g.S.System.holds c.args.system.now) (g.S.Places.leads c.args.system.now) in
-    let given = given_by (g.I.Read.remaining c.args.input.now) (g.P.Ports.ways c.args.peers.now.ports) (clients_by (g.S.ClientFiles.had c.args.system.now)) in
+    let given = given_by (g.I.Read.remaining c.args.input.now) (g.P.Ports.ways c.args.peers.now.ports) (clients_by (g.S.ClientFiles.says c.args.system.now) (g.S.ClientFiles.had c.args.system.now)) in
     let ends = ends_of c.answer_to-end.new.peers.endings.items in
     let keeps = IsLeft (g.S.System.holds c.args.system.now) g.S.System.received c.answer_to-end.result.receipts (g.P.Ports.ways c.answer_to-end.new.peers.ports) ends in
     let none_left = IsNoneLeft c.answer_to-end.result.receipts (g.P.Ports.ways c.args.peers.now.ports) (g.P.Ports.ways c.answer_to-end.new.peers.ports) ends in
@@ -52,7 +52,7 @@ returns-in-Ok-end-clause-cut g c =
     let apart = rw c.in-Ok-end.is at c.answer_to-end.ensures.apart in
     let named = named_by (g.S.System.holds c.args.system.now) (g.S.Places.leads c.args.system.now) in
     let was = g.P.Ports.ways c.args.peers.now.ports in
-    let given = given_by (g.I.Read.remaining c.args.input.now) was (clients_by (g.S.ClientFiles.had c.args.system.now)) in
+    let given = given_by (g.I.Read.remaining c.args.input.now) was (clients_by (g.S.ClientFiles.says c.args.system.now) (g.S.ClientFiles.had c.args.system.now)) in
     let leaves = leaving (g.S.System.holds c.args.system.now) g.S.System.received c.answer_to-end.result.receipts was (g.P.Ports.ways c.answer_to-end.new.peers.ports) (ends_of c.answer_to-end.new.peers.endings.items) in
     answered_in_part c.print_noted.result named leaves _ given c.in-Ok.request t.0 t.2.0 c.in-Ok-end.done _ _ _ c.in-Ok.ensures.request t.1 apart t.2.1 ((c.in-Ok-end.done.lost, t.2.2), refl, refl) c.print_noted.ensures.unwritten
 
@@ -62,7 +62,7 @@ returns-in-Err-Refused-clause-cut g c =
     let ended = ends_of c.answer_to-end.new.peers.endings.items in
     let was = g.P.Ports.ways c.args.peers.now.ports in
     let opens = g.P.Ports.ways c.answer_to-end.new.peers.ports in
-    let given = given_by (g.I.Read.remaining c.args.input.now) was (clients_by (g.S.ClientFiles.had c.args.system.now)) in
+    let given = given_by (g.I.Read.remaining c.args.input.now) was (clients_by (g.S.ClientFiles.says c.args.system.now) (g.S.ClientFiles.had c.args.system.now)) in
     let none : IsUnanswered was opens ended t.0 = t.3 in
     let unkept = rw c.in-Err-Refused.is at c.answer_to-end.ensures.unkept in
     let named = named_by (g.S.System.holds c.args.system.now) (g.S.Places.leads c.args.system.now) in

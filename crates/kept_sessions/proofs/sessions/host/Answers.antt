@@ -11,7 +11,7 @@ use Rattle.kept_sessions.proofs.sessions.host.Goals as goal
 
 pub returns-in-Err : goal.returns-in-Err
 returns-in-Err g c =
-    let clients = clients_by (g.S.ClientFiles.had c.args.system.now) c.args.clients.now in
+    let clients = clients_by (g.S.ClientFiles.says c.args.system.now) (g.S.ClientFiles.had c.args.system.now) c.args.clients.now in
     let before = c.args.endings.now.items in
     let none = none_ended before before c.requires.unserved (λ i. before) in
     unserved_lived (g.S.System.holds c.args.system.now) g.S.System.received c.args.shared.now c.args.clients.now (contents_in c.args.contents.now).image (hosting c.args.shared.now clients (ends_of before)) (ends_of before ≡ []) c.in-Err.kept c.in-Err.ensures.unserved (λ p. none) none
@@ -20,7 +20,7 @@ pub returns : goal.returns
 returns g c =
     let shared = c.args.shared.now in
     let names = c.args.clients.now in
-    let clients = clients_by (g.S.ClientFiles.had c.args.system.now) names in
+    let clients = clients_by (g.S.ClientFiles.says c.args.system.now) (g.S.ClientFiles.had c.args.system.now) names in
     let after = c.host_from-over.new.endings.items in
     let begun = c.in-Ok.begun.0 in
     let s = c.in-Ok.ensures.started in

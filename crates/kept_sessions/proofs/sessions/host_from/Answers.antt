@@ -11,7 +11,7 @@ returns-in-Some g c =
 
 pub returns-in-None : goal.returns-in-None
 returns-in-None g c =
-    let clients = clients_by (g.S.ClientFiles.had c.args.streams.now.system.now) c.args.streams.now.clients.now in
+    let clients = clients_by (g.S.ClientFiles.says c.args.streams.now.system.now) (g.S.ClientFiles.had c.args.streams.now.system.now) c.args.streams.now.clients.now in
     let left = c.host_over-end.result.1 in
     let opening = host_opening _ c.args.start.book clients _ _ c.host_over-end.result.0 left c.host_over-end.ensures in
     record { over = (left, over_silent_from g.S.Stream.Write.contents c.args.start left c.over_silent.result c.in-None.is opening c.over_silent.ensures.machine c.over_silent.ensures.whole c.over_silent.ensures.stream, rw (ap is_some c.in-None.is, c.over_silent.ensures.end) c.host_over-end.ensures) }

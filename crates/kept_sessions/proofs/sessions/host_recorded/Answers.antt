@@ -16,7 +16,7 @@ pub returns-clause-over : goal.returns-clause-over
 returns-clause-over g c =
     let book = c.args.book in
     let same = c.stream_on-book.ensures ∙ same_account book c.requires.whole in
-    let clients = clients_by (g.S.ClientFiles.had c.args.streams.now.system.now) c.args.streams.now.clients.now in
+    let clients = clients_by (g.S.ClientFiles.says c.args.streams.now.system.now) (g.S.ClientFiles.had c.args.streams.now.system.now) c.args.streams.now.clients.now in
     let left = c.host_over-end.result.1 in
     let over = subst (λ (a : Account). IsHostOver true a clients c.args.endings.now.items c.host_over-end.new.endings.items c.host_over-end.result.0 left) same c.host_over-end.ensures in
     let whole = c.over_recorded.result.is_whole in

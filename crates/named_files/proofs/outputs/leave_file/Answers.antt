@@ -1,0 +1,6 @@
+use Rattle.named_files.proofs.Written.{left_new}
+use Rattle.named_files.proofs.outputs.leave_file.Goals as goal
+
+pub returns-clause-written : goal.returns-clause-written
+returns-clause-written g c = λ wanted.
+    left_new g.S.Stream.Write.contents g.S.System.received c.args.out c.in-Some.field-0 wanted c.close.result c.of.result c.in-Some.is c.requires c.close.ensures
