@@ -1,3 +1,4 @@
 pub mod Over
 pub mod Told
+pub mod ToldBeside
 pub mod Wirings

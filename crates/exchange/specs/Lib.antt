@@ -4,3 +4,4 @@ pub mod Notes
 pub mod Outcomes
 pub mod Keeping
 pub mod Responses
+pub mod Warnings

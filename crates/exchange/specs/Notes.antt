@@ -1,5 +1,5 @@
 -- What is told on standard error beside what is printed.
-use Rattle.std.specs.Prelude.{◌≡◌, ◌≢◌, ◌⊎◌, ◌++◌, ⊤, ℕ, false, List, [], Option, None}
+use Rattle.std.specs.Prelude.{◌≡◌, ◌≢◌, ◌⊎◌, ◌++◌, ⊤, ℕ, false, List, [], Option, None, String, string_bytes}
 use Rattle.std.specs.Io.KnownBytes.{Appends}
 use Rattle.client_session.specs.Listening.{Told, TellsOfRefusals}
 use Rattle.plan_answers.specs.Refusals.{Printed}
@@ -52,6 +52,11 @@ abbrev pub HasJobOverlap : Holding → Given → Job → Type 0
 HasJobOverlap holds given job =
     (files : Files (List ℕ)) × (rest : Option (List ℕ))
     × AreContents holds given.input (files_of job) files rest × HasOverlap (text_in files.list)
+
+-- a line that tells so is wanted, and it is whole
+abbrev pub IsWarning : {Z : Type 0} → Type 0 → Request → String Z → Type 0
+IsWarning {Z} overlap request line =
+    (request.is_quiet ≡ false) × overlap × IsWholeLine (string_bytes line)
 
 -- the job is `host` or `replay`
 abbrev pub TellsLines : Job → Type 0

@@ -9,7 +9,9 @@ ghost use Rattle.exchange.specs.Drives.{IsDriveBy, IsDriveCut};
 ghost use Rattle.exchange.specs.Outcomes.{HasTold, IsMissedFor};
 ghost use Rattle.named_files.specs.Notes.{IsNoAnswer};
 ghost use Rattle.exchange.specs.Responses.{source_in, text_in};
+ghost use Rattle.exchange.specs.Warnings.{MayHaveWarned};
 
+use crate::warned::Warned;
 use command_words::Text;
 use crossbar::Chip;
 use drive_answers::{
@@ -35,8 +37,9 @@ struct LinesEnd {
 }
 
 /// What is answered to these texts behind lines that are told on `out`. Behind each a line of
-/// `input` is waited for, unless it goes on.
-fn answer_lines<R: AllocGlobal + Threads + Sync, P: Ports, I: Read, O: Write>(
+/// `input` is waited for, unless it goes on. Before the first a warning is told on `err`, where
+/// there is one.
+fn answer_lines<R: AllocGlobal + Threads + Sync, P: Ports, I: Read, O: Write, E: Write>(
     rt: &R,
     workers: WorkerCount,
     source: &Source<Text>,
@@ -47,8 +50,10 @@ fn answer_lines<R: AllocGlobal + Threads + Sync, P: Ports, I: Read, O: Write>(
     ports: &mut P,
     input: &mut I,
     out: &mut O,
+    warning: Option<String>,
+    err: &mut E,
 ) -> LinesEnd
-    ensures { (told : List ℕ) × Appends (O.contents out.old) (O.contents out.new) told
+    ensures told { (told : List ℕ) × Appends (O.contents out.old) (O.contents out.new) told
         × IfOk result.end (λ end. let files = contents_in contents.now in
         IsDriveBy (source_in source.now (text_in files.other)) (text_in files.list) files.wiring
         first goes_on (names_of names.entry) (I.remaining input.old) (P.ways ports.old)
@@ -59,14 +64,16 @@ fn answer_lines<R: AllocGlobal + Threads + Sync, P: Ports, I: Read, O: Write>(
         IsDriveCut (source_in source.now (text_in files.other)) (text_in files.list) files.wiring
         first goes_on (names_of names.entry) (I.remaining input.old) (P.ways ports.old)
         (P.ways ports.new) told)) }
+    ensures beside { MayHaveWarned warning (E.contents err.old) (E.contents err.new) }
 {
     let (list, wiring) = (text_of(&contents.list), slice_of(&contents.wiring));
     let source = source_with(source, text_of(&contents.other));
     let alloc = rt.alloc();
-    let mut lines = Lines::new(input, out, !goes_on);
+    let mut stage = Warned::new(Lines::new(input, out, !goes_on), warning, err);
     let end = answer_drive(
-        rt, alloc, wiring, list, source, workers, first, names, ports, &mut lines,
+        rt, alloc, wiring, list, source, workers, first, names, ports, &mut stage,
     );
+    let (mut lines, _err) = stage.into_parts();
     let reason = lines.take_reason();
     // It does nothing when the program runs: the proof reads from it what `out` holds.
     lines.into_out();
@@ -75,8 +82,8 @@ fn answer_lines<R: AllocGlobal + Threads + Sync, P: Ports, I: Read, O: Write>(
 
 /// The answer of `exchange drive BATCH PORT [PORT_B]`, from this setting on, behind the lines that
 /// are told on `out`, each once its setting stands. Behind each a line of `input` is waited for,
-/// unless it goes on.
-pub(crate) fn drive<R: AllocGlobal + Threads + Sync, P: Ports, I: Read, O: Write>(
+/// unless it goes on. Before the first a warning is told on `err`, where there is one.
+pub(crate) fn drive<R: AllocGlobal + Threads + Sync, P: Ports, I: Read, O: Write, E: Write>(
     rt: &R,
     workers: WorkerCount,
     source: &Source<Text>,
@@ -87,6 +94,8 @@ pub(crate) fn drive<R: AllocGlobal + Threads + Sync, P: Ports, I: Read, O: Write
     ports: &mut P,
     input: &mut I,
     out: &mut O,
+    warning: Option<String>,
+    err: &mut E,
 ) -> Result<Found, NoAnswer>
     ensures answer { HasTold (O.contents out.old) (O.contents out.new)
         (λ told found. let files = contents_in contents.now in
@@ -99,9 +108,10 @@ pub(crate) fn drive<R: AllocGlobal + Threads + Sync, P: Ports, I: Read, O: Write
         first goes_on (names_of names.entry) (I.remaining input.old) (P.ways ports.old)
         (P.ways ports.new) told) result }
     ensures note { IfErr result (λ missed. IsNoAnswer missed) }
+    ensures beside { MayHaveWarned warning (E.contents err.old) (E.contents err.new) }
 {
     let LinesEnd { end, reason } = answer_lines(
-        rt, workers, source, contents, first, names, goes_on, ports, input, out,
+        rt, workers, source, contents, first, names, goes_on, ports, input, out, warning, err,
     );
     match end {
         Ok(end) => {

@@ -280,9 +280,10 @@ fn answer_other<R: AllocGlobal + Threads + Sync, P: Ports, I: Read, O: Write, E:
                 port: port.as_str(),
                 port_b: text_in(port_b),
             };
-            tell_overlap(alloc, request, contents, err);
+            let warning = warning_of(alloc, request, contents);
             drive(
                 rt, *workers, source, contents, *first, names, *goes_on, ports, input, out,
+                warning, err,
             )
         }
         Job::C004 if request.is_quiet => c004(alloc, input, out, &mut io::sink()),

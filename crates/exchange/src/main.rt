@@ -33,6 +33,7 @@ mod texts;
 mod torn;
 mod unopened;
 mod unserved;
+mod warned;
 
 use crate::limits::UNWRITTEN;
 use crate::peers::Peers;

@@ -1,9 +1,9 @@
 //! What is told on standard error beside `switch` and `drive`: that two transfers write one block.
-//! It is no refusal, since the switch doesn't mind.
+//! It is no refusal, since the switch doesn't mind, and it is told behind all that refuses.
 
 ghost use Rattle.std.specs.Prelude.{◌≡◌, IfSome, string_bytes};
 ghost use Rattle.named_files.specs.Contents.{contents_in};
-ghost use Rattle.exchange.specs.Notes.{HasOverlap, IsBeside, SetsSwitches};
+ghost use Rattle.exchange.specs.Notes.{HasOverlap, IsBeside, IsWarning, SetsSwitches};
 ghost use Rattle.named_files.specs.Notes.{IsWholeLine};
 ghost use Rattle.exchange.specs.Responses.{text_in};
 
@@ -45,28 +45,19 @@ fn batch_of<'a>(job: &'a Job, contents: &'a Contents) -> Named<'a>
     }
 }
 
-/// Tells where two transfers of a job's batch write one block, unless the arguments ask for
-/// silence.
-pub(crate) fn tell_overlap<E: Write>(
-    alloc: Global,
-    request: &Request,
-    contents: &Contents,
-    err: &mut E,
-)
-    requires { SetsSwitches request.now.job }
-    ensures { IsBeside (HasOverlap (text_in (contents_in contents.now).list)) request.now
-        (E.contents err.old) (E.contents err.new) }
+/// The line that tells where two transfers of a job's batch write one block, where two do and there
+/// is memory for it, unless the arguments ask for silence.
+pub(crate) fn warning_of(alloc: Global, request: &Request, contents: &Contents) -> Option<String>
+    ensures { IfSome result (IsWarning
+        (HasOverlap (text_in (contents_in contents.now).list)) request.now) }
 {
     if request.is_quiet {
-        return;
+        return None;
     }
-    let batch = batch_of(&request.job, contents);
-    if let Some(line) = overlap_line(alloc, batch) {
-        tell_line(line.as_str().as_bytes(), err);
-    }
+    overlap_line(alloc, batch_of(&request.job, contents))
 }
 
-/// The same beside an answer. Beside a refusal another line is told.
+/// Tells that line beside an answer. Beside a refusal another line is told.
 pub(crate) fn tell_overlap_beside<E: Write>(
     alloc: Global,
     request: &Request,
@@ -78,7 +69,10 @@ pub(crate) fn tell_overlap_beside<E: Write>(
     ensures { IsBeside (HasOverlap (text_in (contents_in contents.now).list)) request.now
         (E.contents err.old) (E.contents err.new) }
 {
-    if answer.refusal().is_none() {
-        tell_overlap(alloc, request, contents, err);
+    if answer.refusal().is_some() {
+        return;
+    }
+    if let Some(line) = warning_of(alloc, request, contents) {
+        tell_line(line.as_str().as_bytes(), err);
     }
 }

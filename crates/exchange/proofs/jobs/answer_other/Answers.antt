@@ -2,11 +2,15 @@ use Rattle.std.proofs.Common.{[], refl, rules}
 use Rattle.std.proofs.KnownBytes.{Appends-nil}
 use Rattle.exchange.specs.Responses.{IsC004By, IsC004Cut}
 use Rattle.exchange.proofs.Comes.{keeps_ports, no_ports, plain_text}
+use Rattle.exchange.proofs.Forewarned.{beside_by}
 use Rattle.exchange.proofs.Told.{told_nothing}
 use Rattle.exchange.proofs.jobs.answer_other.Goals as goal
 
 pub returns-in-Drive-clause-response : goal.returns-in-Drive-clause-response
 returns-in-Drive-clause-response g c = rw c.in-Drive.is (rw (c.as_str.ensures, c.text_in.ensures) at c.drive.ensures.answer)
+
+pub returns-in-Drive-clause-beside : goal.returns-in-Drive-clause-beside
+returns-in-Drive-clause-beside g c = beside_by _ c.args.request.now c.warning_of-warning.result _ _ (rw c.in-Drive.is tt) c.warning_of-warning.ensures c.drive.ensures.beside
 
 pub returns-in-Drive-clause-ports : goal.returns-in-Drive-clause-ports
 returns-in-Drive-clause-ports g c = rw c.in-Drive.is tt

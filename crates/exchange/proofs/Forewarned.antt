@@ -1,0 +1,49 @@
+-- A line on standard error before those of settings is told once.
+use Rattle.std.proofs.Common.{◌≡◌, ◌∙◌, ℕ, List, Option, None, Some, String, Global, IfSome, false, inl, inr, refl, sym}
+use Rattle.std.specs.Prelude.{string_bytes}
+use Rattle.command_words.specs.declared.jobs.Request.{Request}
+use Rattle.drive_answers.proofs.ToldBeside.{TellsBeside}
+use Rattle.named_files.specs.Notes.{IsWholeLine}
+use Rattle.exchange.specs.Notes.{IsBeside, IsWarning, SetsSwitches}
+use Rattle.exchange.specs.Warnings.{HasToldWarned, IsWarnedOnce, MayHaveWarned}
+use Rattle.exchange.specs.declared.warned.Warned.{Warned}
+
+once_more : {I O E : Type 0} (contents : E → Option (List ℕ)) (a b c : Warned I O E) → IsWarnedOnce contents a b → IsWarnedOnce contents b c → IsWarnedOnce contents a c
+once_more {I} {O} {E} contents a b c first second =
+    let loan = second.0 ∙ first.0 in
+    elim second.1 [
+      | inl same ↦ elim first.1 [
+        | inl before ↦ (loan, inl (same.0 ∙ before.0, same.1 ∙ before.1))
+        | inr told ↦ (loan, inr (same.0 ∙ told.0, (told.1.0, told.1.1, rw same.1 told.1.2)))
+      ]
+      | inr told ↦ elim first.1 [
+        | inl before ↦ (loan, inr (told.0, (told.1.0, sym before.0 ∙ told.1.1, rw before.1 at told.1.2)))
+        | inr earlier ↦ let bad : None ≡ Some told.1.0 = sym earlier.0 ∙ told.1.1 in absurd cc
+      ]
+    ]
+
+pub tells_beside : {I O E : Type 0} (remaining : I → Option (List ℕ)) (contents : O → Option (List ℕ)) (beside : E → Option (List ℕ))
+    → TellsBeside remaining contents (λ (a : Warned I O E) n ns c b. HasToldWarned remaining contents beside n ns c a b) (λ (w : Warned I O E). w.lines) (IsWarnedOnce beside)
+tells_beside {I} {O} {E} remaining contents beside =
+    record { none = λ s. (refl, inl (refl, refl)); more = once_more beside; tells = λ a n ns cue b told. told }
+
+-- so it may have been told behind what stood there
+pub may_have : {I O E : Type 0} (contents : E → Option (List ℕ)) (told tells : Warned I O E) (warning : Option (String Global)) (before after : Option (List ℕ))
+    → told.warning ≡ warning → contents told.err.now ≡ before → after ≡ contents tells.err.now → IsWarnedOnce contents told tells → MayHaveWarned warning before after
+may_have {I} {O} {E} contents told tells warning before after is was now once =
+    elim once.1 [
+      | inl same ↦ inl (now ∙ same.1 ∙ was)
+      | inr warned ↦ inr (warned.1.0, sym is ∙ warned.1.1, rw (now, sym was) warned.1.2)
+    ]
+
+-- such a line may stand beside an answer
+pub beside_by : (overlap : Type 0) (request : Request) (warning : Option (String Global)) (before after : Option (List ℕ)) → SetsSwitches request.job → IfSome warning (IsWarning overlap request) → MayHaveWarned warning before after → IsBeside overlap request before after
+beside_by overlap request warning before after sets is (inl same) = inl same
+beside_by overlap request None before after sets is (inr warned) = let bad = warned.1 in absurd cc
+beside_by overlap request (Some line) before after sets is (inr warned) =
+    let one : warned.0 ≡ line = let so = warned.1 in cc in
+    inr (inr (inr (inl (is.0, sets, is.1, (string_bytes line, is.2, rw one at warned.2)))))
+
+pub warning_by : (overlap : Type 0) (request : Request) (line : Option (String Global)) → request.is_quiet ≡ false → IfSome line (λ l. IsWholeLine (string_bytes l)) → IfSome line (λ l. overlap) → IfSome line (IsWarning overlap request)
+warning_by overlap request None heard whole is = tt
+warning_by overlap request (Some line) heard whole is = (heard, is, whole)
