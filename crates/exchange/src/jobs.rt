@@ -19,7 +19,7 @@ use crate::answered::{Answered, finished};
 use crate::beside::Beside;
 use crate::cut::tell_cut;
 use crate::driving::drive;
-use crate::overlaps::{tell_overlap, tell_overlap_beside};
+use crate::overlaps::{tell_overlap_beside, warning_of};
 use crate::peers::Peers;
 use crate::torn::tell_torn;
 use crate::unopened::{no_lacks, tell_lacks};

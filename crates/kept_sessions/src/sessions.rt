@@ -205,8 +205,8 @@ fn host_from<R: Threads + Wait + Sync, S: System>(
     requires unstopped { AreUnstopped start.book.history }
     ensures over { (left : Account) × IsOverFrom S.Stream.contents start left result
         × IsHostOver (is_some start.stream) start.book
-        (clients_by (S.had streams.now.system.now) streams.now.clients.now) endings.old.items
-        endings.new.items result.end left }
+        (clients_by (S.says streams.now.system.now) (S.had streams.now.system.now)
+        streams.now.clients.now) endings.old.items endings.new.items result.end left }
 {
     let Start {
         book,
