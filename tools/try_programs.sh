@@ -10,19 +10,28 @@ if grep -nE '^[^#:]*:.* (io|os|libc)( |$)' crates.txt; then
     echo "crates.txt: a crate lists io, os or libc" >&2
     exit 1
 fi
-tools/start/run.sh
-tools/rows/run.py
-tools/c/run.sh
-tools/python/run.py
-tools/texts/names.py
-tools/texts/run.py
-tools/hosts/run.sh
-tools/ends/run.sh
-tools/rack/run.py
-examples/patterns/make.sh --check
-bench/planning/run.sh --check
-bench/run/growth.sh --check
-bench/run/apply.sh --check
-bench/run/overlap.sh --check
-bench/session/lines.sh --check
-tools/hostile/run.sh
+
+# Tries one of them, for an hour at most, and prints how many seconds it took.
+try() {
+    began=$SECONDS
+    timeout -k 60 3600 "$@" || { echo "$*: WRONG: status $?, after $((SECONDS - began)) s"; exit 1; }
+    echo "$*: $((SECONDS - began)) s"
+}
+
+./exchange prove
+try tools/start/run.sh
+try tools/rows/run.py
+try tools/c/run.sh
+try tools/python/run.py
+try tools/texts/names.py
+try tools/texts/run.py
+try tools/hosts/run.sh
+try tools/ends/run.sh
+try tools/rack/run.py
+try examples/patterns/make.sh --check
+try bench/planning/run.sh --check
+try bench/run/growth.sh --check
+try bench/run/apply.sh --check
+try bench/run/overlap.sh --check
+try bench/session/lines.sh --check
+try tools/hostile/run.sh

@@ -9,7 +9,6 @@ record is cut at each byte, and resumed; a host is killed while it resumes; a di
 """
 
 import errno
-import multiprocessing
 import os
 import random
 import resource
@@ -19,6 +18,7 @@ import subprocess
 import sys
 import tempfile
 import time
+from concurrent.futures import ProcessPoolExecutor
 
 from kept import END, Record, Wrong, head_of, judge_client
 from records import made
@@ -558,9 +558,9 @@ def kill(count):
     """Kills hosts until so many are killed: how many rounds are wrong."""
     killed = entries = 0
     wrong = []
-    with multiprocessing.Pool(len(os.sched_getaffinity(0)), obey) as pool:
-        # Each round comes to its end: a pool that is stopped before leaves hosts and folders.
-        for kills, more, why in pool.imap_unordered(try_kills, numbers_of(count)):
+    # Where this tool is stopped, the rounds at work come to their ends, and no other begins.
+    with ProcessPoolExecutor(len(os.sched_getaffinity(0)), initializer=obey) as pool:
+        for kills, more, why in pool.map(try_kills, numbers_of(count)):
             killed, entries = killed + kills, entries + more
             if why:
                 wrong.append(why)
