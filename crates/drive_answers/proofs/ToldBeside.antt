@@ -7,10 +7,11 @@ use Rattle.plan_answers.specs.declared.source.Source.{Source}
 use Rattle.switch_driver.specs.Driving.{EndsWith, HaveStood, IsDriven}
 use Rattle.switch_driver.specs.Lines.{HasToldLine}
 use Rattle.switch_driver.specs.declared.driving.Driven.{Driven}
-use Rattle.switch_driver.specs.declared.driving.Driven.TheVariants.{Completed, Stopped, Left, Unheard as UnheardAt, Untold as UntoldAt}
+use Rattle.switch_driver.specs.declared.driving.Driven.TheVariants.{Completed, Halted, Stopped}
 use Rattle.switch_driver.specs.declared.lines.Lines.{Lines}
-use Rattle.switch_driver.specs.declared.stage.Cue.{Cue}
-use Rattle.switch_driver.specs.declared.stage.Cue.TheVariants.{Leave, Unheard, Untold}
+use Rattle.switch_driver.specs.Hearings.{Hearing}
+use Rattle.switch_driver.specs.declared.stage.Halt.{Halt}
+use Rattle.switch_driver.specs.declared.stage.Halt.TheVariants.{Untold}
 use Rattle.switch_settings.specs.declared.rack_wiring.RackWiring.{RackWiring}
 use Rattle.drive_answers.specs.Answers.{rack_for, IsDrivenOver, IsTried, driven, unopened, IsDriveAnswer, tried, wrong, HasFailed}
 use Rattle.drive_answers.specs.Ways.{Names, Ways}
@@ -19,12 +20,12 @@ use Rattle.drive_answers.specs.declared.fault.DriveFault.{DriveFault}
 use Rattle.drive_answers.specs.declared.fault.DriveFault.TheVariants.{Untold as UntoldLine, NoMemory}
 
 -- where it is told that a setting stands, its line is told, and what is beside the lines becomes so
-pub record TellsBeside {S I O : Type 0} (remaining : I → Option (List ℕ)) (contents : O → Option (List ℕ)) (hears : S → ℕ → List ℕ → Cue → S → Type 0) (lines : S → Lines I O) (becomes : S → S → Type 0) : Type 0 where
+pub record TellsBeside {S I O : Type 0} (remaining : I → Option (List ℕ)) (contents : O → Option (List ℕ)) (hears : Hearing S) (lines : S → Lines I O) (becomes : S → S → Type 0) : Type 0 where
   pub none : (s : S) → becomes s s
   pub more : (a b c : S) → becomes a b → becomes b c → becomes a c
-  pub tells : (a : S) (n : ℕ) (ns : List ℕ) (cue : Cue) (b : S) → hears a n ns cue b → HasToldLine remaining contents n ns cue (lines a) (lines b) × becomes a b
+  pub tells : (a : S) (n : ℕ) (ns : List ℕ) (said : Result (Unit {0}) Halt) (b : S) → hears a n ns said b → HasToldLine remaining contents n ns said (lines a) (lines b) × becomes a b
 
-module _ (S I O : Type 0) (remaining : I → Option (List ℕ)) (contents : O → Option (List ℕ)) (hears : S → ℕ → List ℕ → Cue → S → Type 0) (lines : S → Lines I O) (becomes : S → S → Type 0) (t : TellsBeside remaining contents hears lines becomes) where
+module _ (S I O : Type 0) (remaining : I → Option (List ℕ)) (contents : O → Option (List ℕ)) (hears : Hearing S) (lines : S → Lines I O) (becomes : S → S → Type 0) (t : TellsBeside remaining contents hears lines becomes) where
   stood_so : (rack : RackWiring) (batch : List Transfer) (settings : List (List ℕ)) (first k : ℕ) (old : Option (List Passing)) (told : S) (new : Option (List Passing)) (tells : S)
       → HaveStood hears rack batch settings first k old told new tells → HaveStood (λ a n ns c b. HasToldLine remaining contents n ns c a b) rack batch settings first k old (lines told) new (lines tells) × becomes told tells
   stood_so rack batch settings first zero old told new tells h = rw h.1 ((h.0, refl), t.none told)
@@ -33,9 +34,9 @@ module _ (S I O : Type 0) (remaining : I → Option (List ℕ)) (contents : O �
       let here = t.tells _ _ _ _ _ said in
       ((mid, lines telling, so.0, stood, here.0), t.more _ _ _ so.1 here.1)
 
-  ends_so : (cue : Cue) (rack : RackWiring) (batch : List Transfer) (settings : List (List ℕ)) (first k : ℕ) (old : Option (List Passing)) (told : S) (new : Option (List Passing)) (tells : S)
-      → EndsWith hears cue rack batch settings first k old told new tells → EndsWith (λ a n ns c b. HasToldLine remaining contents n ns c a b) cue rack batch settings first k old (lines told) new (lines tells) × becomes told tells
-  ends_so cue rack batch settings first k old told new tells h =
+  ends_so : (halt : Halt) (rack : RackWiring) (batch : List Transfer) (settings : List (List ℕ)) (first k : ℕ) (old : Option (List Passing)) (told : S) (new : Option (List Passing)) (tells : S)
+      → EndsWith hears halt rack batch settings first k old told new tells → EndsWith (λ a n ns c b. HasToldLine remaining contents n ns c a b) halt rack batch settings first k old (lines told) new (lines tells) × becomes told tells
+  ends_so halt rack batch settings first k old told new tells h =
       let so = stood_so rack batch settings first h.count old told h.mid h.telling h.before in
       let here = t.tells _ _ _ _ _ h.said in
       (record { count = h.count; at = h.at; within = h.within; mid = h.mid; telling = lines h.telling; before = so.0; stood = h.stood; said = here.0 }, t.more _ _ _ so.1 here.1)
@@ -48,9 +49,7 @@ module _ (S I O : Type 0) (remaining : I → Option (List ℕ)) (contents : O �
   driven_so rack batch settings first (Stopped k fault) old told new tells h =
       let so = stood_so rack batch settings first h.count old told h.mid tells h.before in
       (record { count = h.count; at = h.at; within = h.within; mid = h.mid; before = so.0; vain = h.vain }, so.1)
-  driven_so rack batch settings first (Left k) old told new tells h = ends_so Leave rack batch settings first k old told new tells h
-  driven_so rack batch settings first (UnheardAt k) old told new tells h = ends_so Unheard rack batch settings first k old told new tells h
-  driven_so rack batch settings first (UntoldAt k) old told new tells h = ends_so Untold rack batch settings first k old told new tells h
+  driven_so rack batch settings first (Halted k halt) old told new tells h = ends_so halt rack batch settings first k old told new tells h
 
   over_so : (rack : RackWiring) (batch : List Transfer) (settings : List (List ℕ)) (first : ℕ) (how : Driven) (names : Names) (was opens : Ways) (told tells : S)
       → IsDrivenOver hears rack batch settings first how names was opens told tells → IsDrivenOver (λ a n ns c b. HasToldLine remaining contents n ns c a b) rack batch settings first how names was opens (lines told) (lines tells) × becomes told tells
@@ -77,7 +76,7 @@ module _ (S I O : Type 0) (remaining : I → Option (List ℕ)) (contents : O �
   failure_so : (source : Source (List ℕ)) (text : List ℕ) (wiring : Option (List ℕ)) (first : ℕ) (names : Names) (was opens : Ways) (told tells : S) (fault : DriveFault)
       → HasFailed hears source text wiring first names was opens told tells fault → HasFailed (λ a n ns c b. HasToldLine remaining contents n ns c a b) source text wiring first names was opens (lines told) (lines tells) fault × becomes told tells
   failure_so source text wiring first names was opens told tells UntoldLine (board, filled, batch, settings, is_board, from, has, fills, (k, over)) =
-      let so = over_so (rack_for filled batch) batch settings first (UntoldAt k) names was opens told tells over in
+      let so = over_so (rack_for filled batch) batch settings first (Halted k Untold) names was opens told tells over in
       ((board, filled, batch, settings, is_board, from, has, fills, (k, so.0)), so.1)
   failure_so source text wiring first names was opens told tells NoMemory (same, none) =
       rw same ((refl, none), t.none told)

@@ -1,9 +1,9 @@
 -- A line on standard error before the settings of a drive.
-use Rattle.std.specs.Prelude.{◌≡◌, ◌⊎◌, ℕ, List, Option, Some, None, String, string_bytes}
+use Rattle.std.specs.Prelude.{◌≡◌, ◌⊎◌, ℕ, List, Option, Some, None, Result, String, string_bytes}
 use Rattle.exchange.specs.declared.warned.Warned.{Warned}
 use Rattle.named_files.specs.Notes.{IsToldInPart}
 use Rattle.switch_driver.specs.Lines.{HasToldLine}
-use Rattle.switch_driver.specs.declared.stage.Cue.{Cue}
+use Rattle.switch_driver.specs.declared.stage.Halt.{Halt}
 
 -- there is such a line, and as much of it as could be written was told
 abbrev pub IsWarned : {Z : Type 0} → Option (String Z) → Option (List ℕ) → Option (List ℕ) → Type 0
@@ -26,7 +26,7 @@ IsWarnedOnce {I} {O} {E} contents old new =
 
 -- the line of a setting was told behind that
 abbrev pub HasToldWarned : {I O E : Type 0} → (I → Option (List ℕ)) → (O → Option (List ℕ))
-    → (E → Option (List ℕ)) → ℕ → List ℕ → Cue → Warned I O E → Warned I O E → Type 0
-HasToldWarned {I} {O} {E} remaining contents beside setting numbers cue old new =
-    HasToldLine remaining contents setting numbers cue old.lines new.lines
+    → (E → Option (List ℕ)) → ℕ → List ℕ → Result (Unit {0}) Halt → Warned I O E → Warned I O E → Type 0
+HasToldWarned {I} {O} {E} remaining contents beside setting numbers result old new =
+    HasToldLine remaining contents setting numbers result old.lines new.lines
     × IsWarnedOnce beside old new

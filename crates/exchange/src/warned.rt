@@ -5,7 +5,7 @@ ghost use Rattle.exchange.specs.Warnings.{IsWarnedOnce};
 
 use named_files::tell_line;
 use std::io::{Read, Write};
-use switch_driver::{Cue, Lines, Stage};
+use switch_driver::{Halt, Lines, Stage};
 
 /// A stage that tells lines of settings, and before the first of them another line on standard
 /// error, where there is one. So that is told once, and nowhere where no setting stands.
@@ -59,10 +59,10 @@ impl<I, O, E: Write> Warned<'_, '_, I, O, E> {
 impl<I: Read, O: Write, E: Write> Stage for Warned<'_, '_, I, O, E> {
     ghost use Rattle.exchange.specs.Warnings.{HasToldWarned};
 
-    ghost hears = { λ old setting numbers cue new.
-        HasToldWarned I.remaining O.contents E.contents setting numbers cue old new };
+    ghost hears = { λ old setting numbers result new.
+        HasToldWarned I.remaining O.contents E.contents setting numbers result old new };
 
-    fn stands(&mut self, setting: usize, numbers: &[usize]) -> Cue {
+    fn stands(&mut self, setting: usize, numbers: &[usize]) -> Result<(), Halt> {
         self.warn();
         self.lines.stands(setting, numbers)
     }
