@@ -35,7 +35,7 @@ class Refused(ValueError):
     ... except Refused as refused:
     ...     print(refused)
     refused batch line 1
-    exchange: batch:1: "batch one": at byte 7 "o" stands where a number has to; wanted is "batch N", where N counts the transfers
+    exchange: batch:1: "batch one": at byte 7 there is "o" instead of a number; expected "batch N", where N counts the transfers
     """
 
     def __init__(self, line: str, why: str = ""):
