@@ -9,7 +9,7 @@
               last is denied
     C         modules are examples/board/module.c, compiled by the tables of orders_to_c.py over channels of inmos/
     tables    those of each module of each pattern, in occam and in C, are made into its orders again
-    ends      a switch alone and a module alone are handed words in parts, and the switch words that come before it has settled; the two
+    ends      a cable may be a terminal; a switch alone and a module alone are handed words in parts, and the switch words that come before it has settled; the two
               loops of the relay carry the bytes of `drive` and `c004`; and a cable that ends ends the host
 
 What isn't built yet is proved and built first, and all is installed in a folder for the while. Another one is tried where RACK names it.
@@ -26,6 +26,8 @@ import socket
 import subprocess
 import sys
 import tempfile
+import threading
+import tty
 from pathlib import Path
 
 TOP = os.path.dirname(os.path.dirname(os.path.dirname(os.path.abspath(__file__))))
@@ -34,6 +36,7 @@ sys.path[:0] = f"{TOP}/tools/hostile", f"{EXAMPLES}/board"
 
 import host  # noqa: E402
 import plain  # noqa: E402
+import relay  # noqa: E402
 import spoil  # noqa: E402
 import tables  # noqa: E402
 
@@ -263,6 +266,24 @@ class Racks:
         told = subprocess.run(words, stdout=subprocess.PIPE, timeout=LIMIT, check=False).stdout
         expect(what, told == b"setting 0 0 2\nsetting 1 1\ndriven settings 2\n" and relay.wait() == switch.wait() == 0, told)
 
+    def is_moved_over_a_pty(self, what, *case):
+        """Notes whether a rack whose cable is a terminal leaves what the program says."""
+        words = self.write(what, *case)
+        for name in "cable.in", "cable.out":
+            os.mkfifo(name)
+        run = self.start([*words, "--cable", "cable"])
+        far, near = os.openpty()
+        tty.setraw(near)
+        there, back = os.open("cable.in", os.O_WRONLY), os.open("cable.out", os.O_RDONLY)
+        for ends in (far, there), (back, far):
+            threading.Thread(target=relay.carry, args=ends, daemon=True).start()
+        words = [sys.executable, f"{EXAMPLES}/board/host.py", os.ttyname(near), "batch", *words[4:]]
+        driven = subprocess.run(words, stdout=subprocess.PIPE, env=self.env, timeout=LIMIT, check=False)
+        told = run.communicate(timeout=LIMIT)[0].decode()
+        expect(what, driven.returncode == run.returncode == 0 and told == "as exchange apply\n", told)
+        for name in "cable.in", "cable.out":
+            os.unlink(name)
+
     def ends(self, what):
         """Notes whether the host ends where its cable does before the switch has answered."""
         self.write(what, "2x1x1", "batch 1\npush 0 0 1 0\n", [])
@@ -368,8 +389,9 @@ def try_all(racks, count):
     racks.receives("a block in parts", PARTS, [], b"\0", b"\0\0\xff\xff", whole, 0)
     racks.receives("a part of a block", PARTS[:1], [], b"", b"", b"EOFError: module.py: the link has ended", 1)
     racks.is_relayed("the relay alone")
+    racks.is_moved_over_a_pty("a terminal", *CASES[1][1:])
     racks.ends("a cable that ends")
-    tried = len(CASES) + len(RINGS) + 8 + count + try_board(racks)
+    tried = len(CASES) + len(RINGS) + 9 + count + try_board(racks)
     print(f"rack of processes: {tried} tried, {len(wrong)} wrong")
 
 
