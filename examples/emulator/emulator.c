@@ -205,7 +205,8 @@ static void be_driven(const char *program, const char *plan, const char *orders)
     fputs(line, stdout);
     free(path);
     must(fclose(told) == 0 && close(go_on) == 0 && close(in) == 0 && close(out) == 0);
-    must(unlink("board.in") == 0 && unlink("board.out") == 0 && unlink("batch") == 0 && unlink("schedule") == 0 && rmdir(folder) == 0);
+    must(unlink("board.in") == 0 && unlink("board.out") == 0 && unlink("batch") == 0 && unlink("schedule") == 0);
+    must(chdir("/") == 0 && rmdir(folder) == 0);
 }
 
 int main(int words, char **word)
