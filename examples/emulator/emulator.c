@@ -1,10 +1,18 @@
 /* An emulator of three modules, whose memories are an array. The switch that joins their links is a C004, which the library has. It plans a
  * batch, hands the switch the bytes for each setting, has the modules obey their orders, and compares the memories with those that
- * `exchange apply` leaves. docs/EMULATORS.md says how to build it. */
+ * `exchange apply` leaves. Where a word names the program `exchange`, its `drive` sets the switch, through two named pipes in a folder of
+ * their own. docs/EMULATORS.md says how to build it. */
+#define _XOPEN_SOURCE 700
+
 #include "exchange.h"
+#include <fcntl.h>
+#include <poll.h>
 #include <stdio.h>
 #include <stdlib.h>
 #include <string.h>
+#include <sys/stat.h>
+#include <sys/wait.h>
+#include <unistd.h>
 
 /* Blocks of two words, as the shape says. */
 enum { MODULES = 3, BLOCKS = 2, BYTES = 8, LINKS = 32 };
@@ -109,9 +117,100 @@ static void obey(const char *orders, int setting)
     }
 }
 
-int main(void)
+/* Hands the switch the bytes of each setting, in a line `setting S ..`, and has the modules obey. */
+static void go(const char *bytes, const char *orders)
 {
     int settings = 0, changes = 0;
+
+    for (const char *sent = bytes; *sent != 0; sent = next_line(sent)) {
+        char *at;
+        strtol(sent + 7, &at, 10);
+        changes += set_switch(at);
+        obey(orders, settings++);
+    }
+    printf("settings %d, changes of the switch %d\n", settings, changes);
+}
+
+static void must(int well)
+{
+    if (!well)
+        end("WRONG: the system refuses a call");
+}
+
+static void keep(const char *name, const char *text)
+{
+    FILE *file = fopen(name, "w");
+    must(file != NULL && fputs(text, file) >= 0 && fclose(file) == 0);
+}
+
+/* Starts `drive`, whose lines come from lines, and which waits for a line from go_on after each setting. */
+static pid_t start_drive(const char *program, int *go_on, int *lines)
+{
+    int given[2], told[2];
+    pid_t drive;
+
+    must(mkfifo("board.in", 0600) == 0 && mkfifo("board.out", 0600) == 0 && pipe(given) == 0 && pipe(told) == 0);
+    must((drive = fork()) >= 0);
+    if (drive == 0) {
+        must(dup2(given[0], 0) == 0 && dup2(told[1], 1) == 1);
+        must(close(given[0]) == 0 && close(given[1]) == 0 && close(told[0]) == 0 && close(told[1]) == 0);
+        execl(program, program, "drive", "batch", "board", "--schedule", "schedule", NULL);
+        _exit(127);
+    }
+    must(close(given[0]) == 0 && close(told[1]) == 0);
+    *go_on = given[1];
+    *lines = told[0];
+    return drive;
+}
+
+/* Takes what `drive` sends to the switch, and answers each enquiry at once: whether there was anything. */
+static int take(int in, int out)
+{
+    uint8_t sent[256], reply;
+    ssize_t count = read(in, sent, sizeof sent);
+
+    for (ssize_t i = 0; i < count; i++)
+        if (exchange_c004_take(&chip, sent[i], &reply) == EXCHANGE_REPLY)
+            must(write(out, &reply, 1) == 1);
+    return count > 0;
+}
+
+/* At the other end of `drive`: looks at both of its pipes, since neither may wait for the other. */
+static void be_driven(const char *program, const char *plan, const char *orders)
+{
+    char folder[] = "/tmp/emulator-XXXXXX", line[4096];
+    int go_on, lines, status, setting;
+
+    char *path = realpath(program, NULL);
+    must(path != NULL && mkdtemp(folder) != NULL && chdir(folder) == 0);
+    keep("batch", batch);
+    keep("schedule", plan);
+    pid_t drive = start_drive(path, &go_on, &lines);
+    FILE *told = fdopen(lines, "r");
+    /* In the order in which `drive` opens them. */
+    int in = open("board.in", O_RDONLY), out = open("board.out", O_WRONLY);
+    must(told != NULL && in >= 0 && out >= 0);
+    struct pollfd ways[] = {{in, POLLIN, 0}, {lines, POLLIN, 0}};
+    do {
+        must(poll(ways, 2, -1) > 0);
+        if (ways[0].revents != 0 && !take(in, out))
+            ways[0].fd = -1;
+        /* `drive` prints a line, and then waits for one: there is never a second line in the buffer. */
+        if (ways[1].revents != 0 && fgets(line, sizeof line, told) != NULL && sscanf(line, "setting %d", &setting) == 1) {
+            obey(orders, setting);
+            must(write(go_on, "\n", 1) == 1);
+        }
+    } while (!(ways[1].revents & POLLHUP));
+    must(waitpid(drive, &status, 0) == drive);
+    fputs(line, stdout);
+    free(path);
+    must(fclose(told) == 0 && close(go_on) == 0 && close(in) == 0 && close(out) == 0);
+    must(unlink("board.in") == 0 && unlink("board.out") == 0 && unlink("batch") == 0 && unlink("schedule") == 0);
+    must(chdir("/") == 0 && rmdir(folder) == 0);
+}
+
+int main(int words, char **word)
+{
     size_t count;
 
     for (int m = 0; m < MODULES; m++)
@@ -120,20 +219,16 @@ int main(void)
     memcpy(before, memory, sizeof memory);
     exchange_c004_reset(&chip);
 
-    /* The bytes of each setting stand in a line `setting S ..`. */
     char *plan = ask(steady_plan, ""), *bytes = ask(exchange_switch, plan), *orders = ask(exchange_orders, plan);
     copy(orders);
-    for (const char *sent = bytes; *sent != 0; sent = next_line(sent)) {
-        char *at;
-        strtol(sent + 7, &at, 10);
-        changes += set_switch(at);
-        obey(orders, settings++);
-    }
+    if (words > 1)
+        be_driven(word[1], plan, orders);
+    else
+        go(bytes, orders);
     free(plan);
     free(bytes);
     free(orders);
 
-    printf("settings %d, changes of the switch %d\n", settings, changes);
     for (int m = 0; m < MODULES; m++)
         printf("module %d: %.8s %.8s\n", m, (char *)memory[m][0], (char *)memory[m][1]);
     uint8_t status = exchange_apply((const uint8_t *)shape, strlen(shape), (const uint8_t *)batch, strlen(batch), before[0][0],

@@ -1,11 +1,11 @@
 #!/usr/bin/env python3
 """A module of a rack: it obeys its orders for a schedule of a batch.
 
-    module.py MODULE SHAPE BATCH SCHEDULE IMAGE [--in-turn] LINK LINK
+    module.py [--in-turn] MODULE SHAPE BATCH SCHEDULE LINK0 LINK3 LINK1 [LINK2]
 
-Its words are those that the image has for it. Its links 0 and 3 are sockets, by their numbers. A line `setting K` on standard input says
-that setting K stands; it does its orders of that setting, and says `done K`. At the end of standard input it writes its words, and ends.
-rack.py starts this program.
+Its words come over standard input, and go to standard output in the end. Its links are sockets, by their numbers. Over link 1 comes the
+number of each setting that stands, in two bytes, the lower one first. The module hands it on over link 2 and does its orders. Once all
+modules after it are done too, it gives the number back. After -1 it ends. rack.py starts this program.
 """
 
 import socket
@@ -15,6 +15,7 @@ from concurrent.futures import ThreadPoolExecutor
 import exchange
 
 ACKNOWLEDGE = b"\0"
+END = b"\xff\xff"
 
 
 def read(path):
@@ -25,11 +26,9 @@ def read(path):
 class Module:
     """A module with its blocks, and with copies of those that it is told to copy."""
 
-    def __init__(self, number, shape, image, orders, links):
-        _, blocks, words = map(int, shape.split("x"))
-        self.size, self.links = 4 * words, links
-        starts = range(number * blocks * self.size, (number + 1) * blocks * self.size, self.size)
-        self.memory = [image[start : start + self.size] for start in starts]
+    def __init__(self, shape, image, orders, links):
+        self.size, self.links = 4 * int(shape.split("x")[2]), links
+        self.memory = [image[start : start + self.size] for start in range(0, len(image), self.size)]
         # A module without orders isn't told.
         self.settings = orders[0].settings if orders else None
         self.aside = {block: self.memory[block] for told in orders for block in told.copies}
@@ -58,15 +57,22 @@ def take(link, count):
 
 def main():
     words = [word for word in sys.argv[1:] if word != "--in-turn"]
-    number, shape, batch, schedule, image = int(words[0]), words[1], *map(read, words[2:5])
-    links = {end: socket.socket(fileno=int(word)) for end, word in zip((0, 3), words[5:])}
-    module = Module(number, shape, image, exchange.orders(batch, schedule, number), links)
+    number, shape, batch, schedule = int(words[0]), words[1], *map(read, words[2:4])
+    zero, three, head, *tail = [socket.socket(fileno=int(word)) for word in words[4:]]
+    orders = exchange.orders(batch, schedule, number)
+    module = Module(shape, sys.stdin.buffer.read(), orders, {0: zero, 3: three})
     with ThreadPoolExecutor(1 if "--in-turn" in sys.argv else 2) as at_once:
-        for line in sys.stdin:
-            setting = int(line.split()[1])
-            # Both links side by side.
-            list(at_once.map(module.obey, module.orders(setting)))
-            print("done", setting, flush=True)
+        told = b""
+        while told != END:
+            told = take(head, len(END))
+            for link in tail:
+                link.sendall(told)
+            if told != END:
+                # Both links side by side.
+                list(at_once.map(module.obey, module.orders(int.from_bytes(told, "little"))))
+            for link in tail:
+                take(link, len(END))
+            head.sendall(told)
     sys.stdout.buffer.write(b"".join(module.memory))
 
 

@@ -1,17 +1,17 @@
 #!/usr/bin/env python3
-"""A rack of processes: a switch, a process for each module, and `exchange drive`, which sets the switch. This program starts them, and
-carries the two words that a setting needs: to all modules that it stands, and to `drive` that all are done.
+"""A rack of processes, which is a board without a board: a switch, a relay, and a process for each module. Over a cable examples/board/host.py
+has its switch set, and tells the modules which setting stands.
 
-    rack.py SHAPE BATCH IMAGE [--steady | --schedule FILE] [--image-out FILE] [--in-turn]
+    rack.py SHAPE BATCH IMAGE [--steady | --schedule FILE] [--image-out FILE] [--cable CABLE] [--modules FOLDER] [--in-turn]
 
-Without an option all go by the plan, which is made once. In the end the words of all modules are compared with those that `apply` leaves.
-With --in-turn each module does what it is told for link 0, and then what it is told for link 3: that hangs in a ring. docs/ORDERS.md says
-how to run it. The program is `exchange` on the PATH, or the one that EXCHANGE names.
+Without an option all go by the plan, and this program starts host.py too. With --cable you start it: CABLE.in and CABLE.out are named pipes.
+In the end the words of all modules are compared with those that `apply` leaves. With --modules the program of module M is FOLDER/M, which
+has the words and the links of module.py. With --in-turn each module does what it is told for link 0, and then what it is told for link 3:
+that hangs in a ring. docs/BOARD.md says how to run it. The program is `exchange` on the PATH, or the one that EXCHANGE names.
 """
 
 import argparse
 import os
-import shutil
 import socket
 import subprocess
 import sys
@@ -20,7 +20,7 @@ import tempfile
 import exchange
 
 HERE = os.path.dirname(os.path.realpath(__file__))
-PROGRAM = os.path.abspath(os.environ.get("EXCHANGE") or shutil.which("exchange") or "exchange")
+BOARD = os.path.join(os.path.dirname(HERE), "board")
 
 
 def read(path):
@@ -36,51 +36,38 @@ def keep(name, text):
 
 
 class Rack:
-    """The processes, which have their files in this folder."""
+    """The processes of a board, which have their files in this folder."""
 
-    def __init__(self):
-        self.started, self.modules, self.drive = [], [], None
+    def __init__(self, shape, image):
+        self.count = int(shape.split("x")[0])
+        size = len(image) // self.count
+        self.parts = [image[m * size : (m + 1) * size] for m in range(self.count)]
+        self.started, self.modules = [], []
 
-    def start(self, *words, links=()):
-        """Starts a program, whose last words are the numbers of its links, if it has any."""
+    def start(self, *words, links):
+        """Starts a program, whose last words are the numbers of its links."""
         numbers = [link.fileno() for link in links]
         words = [*words, *map(str, numbers)]
         self.started.append(subprocess.Popen(words, stdin=subprocess.PIPE, stdout=subprocess.PIPE, pass_fds=numbers))
         return self.started[-1]
 
-    def start_all(self, shape, ports, files, options):
-        """Starts the switch, the modules, and `drive`. Each link is a pair of sockets: one end is a module's, and the other the switch's."""
-        links = [[socket.socketpair() for _ in (0, 3)] for _ in range(int(shape.split("x")[0]))]
+    def start_all(self, cable, ports, module):
+        """Starts the switch, the relay and the modules. Each link is a pair of sockets. Links 1 and 2 make a chain, from the relay on."""
+        links = [[socket.socketpair() for _ in (0, 3)] for _ in range(self.count)]
+        chain = [socket.socketpair() for _ in range(self.count)]
         self.start(sys.executable, f"{HERE}/switch.py", *ports, links=[far for pairs in links for _, far in pairs])
+        self.start(sys.executable, f"{BOARD}/relay.py", cable, *ports, links=[chain[0][0]])
         for m, pairs in enumerate(links):
-            words = [f"{HERE}/module.py", str(m), shape, *files, *options]
-            self.modules.append(self.start(sys.executable, *words, links=[near for near, _ in pairs]))
-        for end in (end for pairs in links for pair in pairs for end in pair):
+            own = [near for near, _ in pairs] + [chain[m][1]] + [near for near, _ in chain[m + 1 : m + 2]]
+            self.modules.append(self.start(*module(m), links=own))
+            self.modules[m].stdin.write(self.parts[m])
+            self.modules[m].stdin.close()
+        for end in (end for pair in [*chain, *(pair for pairs in links for pair in pairs)] for end in pair):
             end.close()
-        self.drive = self.start(PROGRAM, "drive", "batch", *ports, "--schedule", "schedule")
-
-    def run(self):
-        """Has each setting set and moved, and prints the lines of `drive`: whether that came to its end."""
-        while True:
-            line = self.drive.stdout.readline().decode().strip()
-            print(line, flush=True)
-            if not line.startswith("setting "):
-                return line.startswith("driven ")
-            self.move(line.split()[1])
-            # All are done, and not before that the next setting may be set.
-            say(self.drive, "\n")
-
-    def move(self, setting):
-        """Tells all modules that a setting stands, and waits until each says that it is done."""
-        for module in self.modules:
-            say(module, f"setting {setting}\n")
-        for m, module in enumerate(self.modules):
-            if module.stdout.readline().decode() != f"done {setting}\n":
-                sys.exit(f"rack.py: module {m} isn't done with setting {setting}")
 
     def image(self):
-        """The words of all modules, which end."""
-        return b"".join(module.communicate()[0] for module in self.modules)
+        """The words of all modules, once they have ended."""
+        return b"".join(module.stdout.read() for module in self.modules)
 
     def stop(self):
         """Ends all that isn't at its end."""
@@ -89,28 +76,40 @@ class Rack:
             process.wait()
 
 
-def say(process, line):
-    process.stdin.write(line.encode())
-    process.stdin.flush()
-
-
 def schedule_of(given, batch):
     """The text of the schedule that was asked for."""
     return read(given.schedule) if given.schedule else exchange.plan(batch, steady=given.steady).encode()
 
 
+def module_words(given):
+    """The words that start a module, by its number."""
+    if given.modules:
+        folder = os.path.abspath(given.modules)
+        return lambda m: [f"{folder}/{m}"]
+    options = ["--in-turn"] if given.in_turn else []
+    return lambda m: [sys.executable, f"{HERE}/module.py", *options, str(m), given.shape, "batch", "schedule"]
+
+
+def is_driven(cable):
+    """Runs host.py to its end: whether all settings stood."""
+    return subprocess.run([sys.executable, f"{BOARD}/host.py", cable, "batch", "--schedule", "schedule"], check=False).returncode == 0
+
+
+def words_of(arguments):
+    words = argparse.ArgumentParser(usage=f"rack.py {__doc__.split('rack.py ')[1].splitlines()[0]}")
+    for name in "shape", "batch", "image":
+        words.add_argument(name)
+    for name in "--schedule", "--image-out", "--cable", "--modules":
+        words.add_argument(name)
+    for name in "--steady", "--in-turn":
+        words.add_argument(name, action="store_true")
+    return words.parse_args(arguments)
+
+
 def main():
-    words = argparse.ArgumentParser(usage="rack.py SHAPE BATCH IMAGE [--steady | --schedule FILE] [--image-out FILE] [--in-turn]")
-    words.add_argument("shape")
-    words.add_argument("batch")
-    words.add_argument("image")
-    words.add_argument("--steady", action="store_true")
-    words.add_argument("--schedule")
-    words.add_argument("--image-out")
-    words.add_argument("--in-turn", action="store_true")
-    given = words.parse_args()
+    given = words_of(sys.argv[1:])
     batch, image = read(given.batch), read(given.image)
-    out = given.image_out and os.path.abspath(given.image_out)
+    out, cable, module = given.image_out and os.path.abspath(given.image_out), os.path.abspath(given.cable or ""), module_words(given)
     try:
         wanted = exchange.apply(given.shape, batch, image)
         schedule = schedule_of(given, batch)
@@ -121,13 +120,19 @@ def main():
     ports = ["a", "b"] if is_wide else ["board"]
     with tempfile.TemporaryDirectory(prefix="rack-") as folder:
         os.chdir(folder)
-        for port in ports:
-            os.mkfifo(f"{port}.in")
-            os.mkfifo(f"{port}.out")
-        files, rack = [keep("batch", batch), keep("schedule", schedule), keep("image", image)], Rack()
+        cable = cable if given.cable else "cable"
+        for name in ports if given.cable else [*ports, cable]:
+            os.mkfifo(f"{name}.in")
+            os.mkfifo(f"{name}.out")
+        # Held open, the cable doesn't end where a host ends that the next one follows.
+        for way in "in", "out":
+            os.open(f"{cable}.{way}", os.O_RDWR)
+        keep("batch", batch)
+        keep("schedule", schedule)
+        rack = Rack(given.shape, image)
         try:
-            rack.start_all(given.shape, ports, files, ["--in-turn"] if given.in_turn else [])
-            left = rack.image() if rack.run() else b""
+            rack.start_all(cable, ports, module)
+            left = rack.image() if given.cable or is_driven(cable) else b""
         finally:
             rack.stop()
             os.chdir("/")

@@ -1,7 +1,7 @@
 #!/usr/bin/env bash
 # Tries the calls for programs in C: tools/c/run.sh [COUNT]
 #
-#   emulator   the program of examples/emulator, built with warnings and sanitizers, prints what it is to print
+#   emulator   the program of examples/emulator, built with warnings and sanitizers, prints what it is to print, also at the other end of `drive`
 #   try        each call with no room, too little, just enough and more, of accepted and refused texts, and without memory
 #   texts      COUNT spoilt texts, 10000 where it isn't said, byte for byte against the built program, with what is told of refusals
 #   states     twice as many streams and states of a switch, and of an end that waits to boot, by the built program and by plain Python
@@ -22,9 +22,12 @@ library=$top/crates/exchange_c/out/libexchange_c.a
 kit=$(dirname "$(rt doc)")/c/liblibc_c.a
 checks=(-std=c11 -Wall -Wextra -Werror -g -fsanitize=address,undefined -fno-sanitize-recover=all -I"$top/include")
 
+program=$top/crates/exchange/out/exchange
 failed=
 cc "${checks[@]}" -o "$work/emulator" "$top/examples/emulator/emulator.c" "$library" "$kit"
 "$work/emulator" >"$work/printed" && cmp "$work/printed" "$top/examples/emulator/printed.txt" || failed+=" emulator"
+{ echo "driven settings 4" && tail -n +2 "$top/examples/emulator/printed.txt"; } >"$work/wanted"
+"$work/emulator" "$program" >"$work/printed" && cmp "$work/printed" "$work/wanted" || failed+=" driven"
 cc "${checks[@]}" -Wl,--wrap=malloc,--wrap=realloc -o "$work/try" "$here/try.c" "$library" "$kit"
 python3 "$here/calls.py" "$work/try" --examples || failed+=" try"
 python3 "$here/calls.py" "$work/try" "${1:-10000}" || failed+=" texts"

@@ -57,8 +57,8 @@ def read_orders(text):
     return told
 
 
-def pass_words(draw, pairs, orders, store, aside):
-    """Moves all words of a setting between the links of its pairs, one at a time and in any order."""
+def pass_words(draw, pairs, orders, store, aside, is_cut=False):
+    """Moves all words of a setting between the links of its pairs, one at a time and in any order, or leaves off before some of them."""
     wires = []
     for one, other in pairs:
         sends, receives = (one, other) if orders[one][0] == "send" else (other, one)
@@ -70,7 +70,7 @@ def pass_words(draw, pairs, orders, store, aside):
     steps = [wire for wire in wires for _ in wire[0]]
     draw.shuffle(steps)
     passed = defaultdict(int)
-    for source, destination in steps:
+    for source, destination in steps[: draw.randint(0, len(steps)) if is_cut else None]:
         at = passed[id(destination)]
         destination[at] = source[at]
         passed[id(destination)] += 1
@@ -78,7 +78,8 @@ def pass_words(draw, pairs, orders, store, aside):
 
 
 def are_moved(draw, transfers, settings, text):
-    """Whether modules that obey the text move all blocks, by links that each setting of a schedule joins. A block has three words."""
+    """Whether modules that obey the text move all blocks, by links that each setting of a schedule joins. A block has three words. One setting in
+    three is left within its words, and done once more."""
     told = read_orders(text)
     places = {place for transfer in transfers for place in (plain.source(transfer), plain.destination(transfer))}
     store = {(module, block): [(module, block, j) for j in range(3)] for module, block in places}
@@ -89,7 +90,10 @@ def are_moved(draw, transfers, settings, text):
     for k, setting in enumerate(settings):
         pairs = [((transfers[t][1], 0), (transfers[t][3], 3)) for t in setting]
         orders = {(m, link): act for m, (_, own) in told.items() for when, link, *act in own if when == k}
-        if set(orders) != {link for pair in pairs for link in pair} or not pass_words(draw, pairs, orders, store, aside):
+        if set(orders) != {link for pair in pairs for link in pair}:
+            return False
+        cuts = [True, False] if draw.random() < 1 / 3 else [False]
+        if not all(pass_words(draw, pairs, orders, store, aside, is_cut) for is_cut in cuts):
             return False
     return store == wanted
 

@@ -1,14 +1,22 @@
 #!/usr/bin/env python3
-"""Tries the rack of processes of examples/rack: tools/rack/run.py [COUNT]
+"""Tries the rack of processes of examples/rack, behind the relay and the cable of examples/board: tools/rack/run.py [COUNT]
 
-Each case is a run: `exchange drive` sets a switch in another process, and a process for each module obeys its orders, by the plan, a steady
-plan or a schedule by hand. COUNT random batches follow, 40 where it isn't said. At the end the image has to be the one that
-`exchange apply` makes. Modules that do what they are told for link 0 before they look at link 3 have to hang in a ring, and in a transfer
-within a module. A switch alone and a module alone are handed words in parts, and the switch words that come before it has settled.
+    racks     each case is a run: host.py has `exchange drive` set the switch over one cable, and a process for each module obeys its orders,
+              by the plan, a steady plan or a schedule by hand. COUNT random batches follow, 40 where it isn't said. At the end the image has
+              to be the one that `exchange apply` makes
+    rings     modules that do what they are told for link 0 before they look at link 3 hang in a ring, and in a transfer within a module
+    repeats   each setting of each pattern is set and moved twice, the second time by a `drive` that begins with it, and one that isn't the
+              last is denied
+    C         modules are examples/board/module.c, compiled by the tables of orders_to_c.py over channels of inmos/
+    tables    those of each module of each pattern, in occam and in C, are made into its orders again
+    ends      a cable may be a terminal; a switch alone and a module alone are handed words in parts, and the switch words that come before it has settled; the two
+              loops of the relay carry the bytes of `drive` and `c004`; and a cable that ends ends the host
 
 What isn't built yet is proved and built first, and all is installed in a folder for the while. Another one is tried where RACK names it.
 """
 
+import contextlib
+import io
 import math
 import os
 import random
@@ -18,14 +26,19 @@ import socket
 import subprocess
 import sys
 import tempfile
+import threading
+import tty
 from pathlib import Path
 
 TOP = os.path.dirname(os.path.dirname(os.path.dirname(os.path.abspath(__file__))))
 EXAMPLES = f"{TOP}/examples"
-sys.path.insert(0, f"{TOP}/tools/hostile")
+sys.path[:0] = f"{TOP}/tools/hostile", f"{EXAMPLES}/board"
 
+import host  # noqa: E402
 import plain  # noqa: E402
+import relay  # noqa: E402
 import spoil  # noqa: E402
+import tables  # noqa: E402
 
 # Seconds that a run has, and those in which one that hangs says nothing more.
 LIMIT, SILENCE = 300, 2
@@ -36,6 +49,9 @@ ITSELF = "batch 2\npush 0 2 0 2\npush 0 2 1 0\n"
 PULLS = "batch 2\npull 0 1 2 3\npull 2 3 0 1\n"
 # Block b of module m and block m of module b change places, among ten modules.
 TRANSPOSITION = "batch 90\n" + "".join(f"push {m} {b} {b} {m}\n" for m in range(10) for b in range(10) if m != b)
+
+# In place of INMOS's headers, and the words of the compiler.
+INMOS, FLAGS = f"{TOP}/tools/rack/inmos", ["-std=c89", "-Wall", "-Wextra", "-Wno-strict-prototypes", "-Werror"]
 
 APART = "settings 3\nsetting 0\nsetting 1\nsetting 2\n"
 
@@ -64,6 +80,15 @@ CASES = [
     ("two switches", "17x2x2", read("wide-rack.txt"), []),
     ("no transfers", "2x1x1", "batch 0\n", []),
     ("no ring, links in turn", "3x2x2", read("three-transfers.txt"), ["--in-turn"]),
+]
+
+# What runs with modules in C, each with the words or the schedule by which it goes.
+IN_C = [
+    ("the plan", "3x2x2", read("three-transfers.txt"), []),
+    ("a swap", "2x1x256", read("swap.txt"), []),
+    ("a ring, the other way round", "3x1x2", read("ring.txt"), "settings 3\nsetting 2\nsetting 1\nsetting 0\n"),
+    ("a steady plan", "4x24x1", read("patterns/three-blocks.txt"), ["--steady"]),
+    ("two switches", "17x2x2", read("wide-rack.txt"), []),
 ]
 
 # What hangs with links in turn.
@@ -162,18 +187,116 @@ class Racks:
     def receives(self, what, parts, *wanted):
         """Notes what a module does that is told to receive a block, which comes in these parts: what it says before the last one, its
         acknowledge, what it prints to its end, and how it ends."""
-        near, far = zip(*(socket.socketpair() for _ in range(2)))
+        near, far = zip(*(socket.socketpair() for _ in range(3)))
         self.write(what, "2x1x256", "batch 1\npush 0 0 1 0\n", "settings 1\nsetting 0\n")
-        Path("image").write_bytes(bytes(2048))
-        run = self.start_alone("module", "1", "2x1x256", "batch", "schedule", "image", links=near)
-        run.stdin.write(b"setting 0\n")
-        run.stdin.flush()
-        early = send(far[1], parts, [far[1], run.stdout])
+        run = self.start_alone("module", "1", "2x1x256", "batch", "schedule", links=near)
+        run.stdin.write(bytes(1024))
+        run.stdin.close()
+        run.stdin = None
+        far[2].sendall(b"\0\0\xff\xff")
+        early = send(far[1], parts, [far[1], far[2]])
         far[1].shutdown(socket.SHUT_WR)
-        acknowledge = take(far[1], 1)
+        acknowledge, said = take(far[1], 1), take(far[2], 4)
         printed = run.communicate(timeout=LIMIT)[0]
-        found = early, acknowledge, printed if run.returncode == 0 else printed.splitlines()[-1], run.returncode
+        found = early, acknowledge, said, printed if run.returncode == 0 else printed.splitlines()[-1], run.returncode
         expect(what, found == wanted, found)
+
+    def goes(self, what, shape, batch, schedule, order, is_well):
+        """Notes whether a rack that does settings in an order, each by a `drive` of its own, leaves what `apply` does."""
+        words = self.write(what, shape, batch, schedule)
+        for name in "cable.in", "cable.out":
+            os.mkfifo(name)
+        run = self.start([*words, "--cable", "cable", "--image-out", "left"])
+        options, host.PROGRAM, cable = words[4:], self.program, host.Cable("cable")
+        settings = range(int(self.orders(0, options).split()[3]))
+        with tempfile.TemporaryDirectory(prefix="ports-") as ports, contextlib.redirect_stdout(io.StringIO()):
+            for setting in order(settings):
+                drive = host.Drive(cable, ports, "batch", *options, "--from", str(setting))
+                lines = drive.lines()
+                cable.move(int(next(lines)[1]))
+                drive.process.stdin.close()
+                ended = list(lines)
+                expect(f"{what}: setting {setting} is left", ended == [["left", "setting", str(setting)]], ended)
+                drive.process.wait()
+            cable.move(host.END)
+        told = run.communicate(timeout=LIMIT)[0].decode()
+        expect(what, told == ("as exchange apply\n" if is_well else "WRONG\n"), told)
+        for name in "cable.in", "cable.out", "left":
+            Path(name).unlink(missing_ok=True)
+
+    def make_modules(self, case, words):
+        """Compiles the program in C of each module, with the tables of its orders."""
+        count, blocks, size = map(int, case[0].split("x"))
+        os.makedirs("modules", exist_ok=True)
+        makes = [f"-DBLOCKS={blocks}", f"-DBLOCK_BYTES={4 * size}", "-I.", f"-I{INMOS}", f"{EXAMPLES}/board/module.c", f"{INMOS}/rack.c"]
+        for m in range(count):
+            Path("tables.h").write_text(self.tables("c", m, words))
+            subprocess.run(["cc", *FLAGS, *makes, "-o", f"modules/{m}", "-lpthread"], check=True)
+
+    def is_moved_in_c(self, what, *case):
+        """Notes whether a rack of modules in C leaves what the program says."""
+        words = self.write(what, *case)[4:]
+        self.make_modules(case, words)
+        run = self.start([*self.write(what, *case), "--modules", "modules"])
+        told = run.communicate(timeout=LIMIT)[0].decode()
+        expect(f"in C: {what}", run.returncode == 0 and told.endswith("as exchange apply\n"), told)
+
+    def orders(self, m, words, batch="batch"):
+        return subprocess.run([self.program, "orders", batch, *words, "--module", str(m)], stdout=subprocess.PIPE, check=True).stdout.decode()
+
+    def tables(self, language, m, words, batch="batch"):
+        """The tables of a module's orders."""
+        make = [sys.executable, f"{EXAMPLES}/orders_to_{language}.py"]
+        return subprocess.run(make, input=self.orders(m, words, batch).encode(), stdout=subprocess.PIPE, check=True).stdout.decode()
+
+    def are_told_again(self, batch, words, modules):
+        """Notes whether the tables of each module are made into its orders again."""
+        for language in "occam", "c":
+            for m in range(modules):
+                text = self.tables(language, m, words, batch)
+                expect(f"{language} of module {m}, {batch} {words}", tables.orders(language, text) == self.orders(m, words, batch), text)
+
+    def is_relayed(self, what):
+        """Notes whether the relay's two loops carry the bytes between `drive` and `c004`."""
+        for name in "port.in", "port.out", "config.in", "config.out":
+            os.mkfifo(name)
+        relay = subprocess.Popen([sys.executable, f"{EXAMPLES}/board/relay.py", "port", "config"])
+        switch = subprocess.Popen(["sh", "-c", f"exec {self.program} c004 < config.in > config.out"])
+        words = [self.program, "drive", f"{EXAMPLES}/three-transfers.txt", "port", "--go-on"]
+        told = subprocess.run(words, stdout=subprocess.PIPE, timeout=LIMIT, check=False).stdout
+        expect(what, told == b"setting 0 0 2\nsetting 1 1\ndriven settings 2\n" and relay.wait() == switch.wait() == 0, told)
+
+    def is_moved_over_a_pty(self, what, *case):
+        """Notes whether a rack whose cable is a terminal leaves what the program says."""
+        words = self.write(what, *case)
+        for name in "cable.in", "cable.out":
+            os.mkfifo(name)
+        run = self.start([*words, "--cable", "cable"])
+        far, near = os.openpty()
+        tty.setraw(near)
+        there, back = os.open("cable.in", os.O_WRONLY), os.open("cable.out", os.O_RDONLY)
+        for ends in (far, there), (back, far):
+            threading.Thread(target=relay.carry, args=ends, daemon=True).start()
+        words = [sys.executable, f"{EXAMPLES}/board/host.py", os.ttyname(near), "batch", *words[4:]]
+        driven = subprocess.run(words, stdout=subprocess.PIPE, env=self.env, timeout=LIMIT, check=False)
+        told = run.communicate(timeout=LIMIT)[0].decode()
+        expect(what, driven.returncode == run.returncode == 0 and told == "as exchange apply\n", told)
+        for name in "cable.in", "cable.out":
+            os.unlink(name)
+
+    def ends(self, what):
+        """Notes whether the host ends where its cable does before the switch has answered."""
+        self.write(what, "2x1x1", "batch 1\npush 0 0 1 0\n", [])
+        for name in "cable.in", "cable.out":
+            os.mkfifo(name)
+        words = [sys.executable, f"{EXAMPLES}/board/host.py", "cable", "batch"]
+        run = subprocess.Popen(words, stdout=subprocess.PIPE, stderr=subprocess.STDOUT, env=self.env)
+        with open("cable.in", "rb", 0) as there, open("cable.out", "wb", 0):
+            there.read(2)
+        told = run.communicate(timeout=LIMIT)[0].decode().splitlines()
+        expect(what, "stopped setting 0 port" in told and run.returncode == 1, told)
+        for name in "cable.in", "cable.out":
+            os.unlink(name)
 
 
 def send(link, parts, others):
@@ -219,6 +342,38 @@ def random_case(draw):
     return "{}x{}x{}".format(*shape), batch, draw.choice([[], ["--steady"], loose, loose])
 
 
+def patterns():
+    """The patterns' batches and the one of all to all, each with its shape and the words by which it goes."""
+    for path in [f"{EXAMPLES}/all-to-all.txt", *sorted(map(str, Path(f"{EXAMPLES}/patterns").glob("*.txt")))]:
+        with open(path, encoding="utf-8") as file:
+            batch = file.read()
+        if batch.startswith("batch "):
+            numbers = [[int(word) for word in line.split()[1:]] for line in batch.splitlines()[1:]]
+            modules = 1 + max(max(it[0], it[2]) for it in numbers)
+            blocks = 1 + max(max(it[1], it[3]) for it in numbers)
+            yield path, f"{modules}x{blocks}x2", batch, ["--steady"] if "three-blocks" in path else []
+
+
+def try_board(racks):
+    """Tries repeats, modules in C, and tables: how many."""
+    twice = 0
+    for path, shape, batch, options in patterns():
+        racks.goes(f"twice: {path}", shape, batch, options, lambda settings: [k for k in settings for _ in range(2)], True)
+        racks.are_told_again(path, options, int(shape.split("x")[0]))
+        twice += 1
+    racks.are_told_again(f"{EXAMPLES}/ring.txt", [], 4)
+    with open("none", "w", encoding="utf-8") as file:
+        file.write("batch 0\n")
+    racks.are_told_again("none", [], 1)
+    # Module 1 sends its block on in setting 0, and receives another one in setting 1: to go back to setting 0 sends that.
+    back = "2x2x1", "batch 2\npush 1 0 0 0\npush 0 1 1 0\n", "settings 2\nsetting 0\nsetting 1\n"
+    racks.goes("forth", *back, lambda settings: settings, True)
+    racks.goes("forth and back", *back, lambda settings: [*settings, 0, 1], False)
+    for case in IN_C:
+        racks.is_moved_in_c(*case)
+    return 2 * twice + len(IN_C) + 4
+
+
 def try_all(racks, count):
     for case in CASES:
         racks.is_moved(*case)
@@ -231,9 +386,13 @@ def try_all(racks, count):
     whole = b"".join(PARTS)
     racks.carries("words in parts", JOIN + SETTLE, whole, b"")
     racks.carries("words before the switch has settled", JOIN, b"", b"switch.py: words come over a link that isn't joined\n")
-    racks.receives("a block in parts", PARTS, [], b"\0", b"done 0\n" + whole, 0)
-    racks.receives("a part of a block", PARTS[:1], [], b"", b"EOFError: module.py: the link has ended", 1)
-    print(f"rack of processes: {len(CASES) + len(RINGS) + 6 + count} tried, {len(wrong)} wrong")
+    racks.receives("a block in parts", PARTS, [], b"\0", b"\0\0\xff\xff", whole, 0)
+    racks.receives("a part of a block", PARTS[:1], [], b"", b"", b"EOFError: module.py: the link has ended", 1)
+    racks.is_relayed("the relay alone")
+    racks.is_moved_over_a_pty("a terminal", *CASES[1][1:])
+    racks.ends("a cable that ends")
+    tried = len(CASES) + len(RINGS) + 9 + count + try_board(racks)
+    print(f"rack of processes: {tried} tried, {len(wrong)} wrong")
 
 
 def main():

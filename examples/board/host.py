@@ -1,0 +1,131 @@
+#!/usr/bin/env python3
+"""One cable to a board: over it `exchange drive` sets the switch, and the modules hear which setting stands.
+
+    host.py CABLE BATCH [OPTION]..
+
+The options are those of `drive`: --steady, --schedule FILE, --wiring FILE, --from K. CABLE is a device, or the two named pipes CABLE.in,
+to the board, and CABLE.out, from it. Over the cable the number of its way goes before each byte: 0 the switch, 1 the modules, 2 switch B.
+The modules are told the number of each setting in two bytes, the lower one first, and give it back once all of them are done. After the
+last setting they are told -1. docs/BOARD.md says more. The program is `exchange` on the PATH, or the one that EXCHANGE names.
+"""
+
+import contextlib
+import os
+import queue
+import shutil
+import subprocess
+import sys
+import tempfile
+import threading
+
+SWITCH, MODULES, SWITCH_B = 0, 1, 2
+END = -1
+PROGRAM = os.path.abspath(os.environ.get("EXCHANGE") or shutil.which("exchange") or "exchange")
+
+
+class Cable:
+    """The cable, whose bytes are parted by their ways."""
+
+    def __init__(self, name):
+        pipes = f"{name}.in", f"{name}.out"
+        if os.path.exists(pipes[0]):
+            self.out, self.back = open(pipes[0], "wb"), open(pipes[1], "rb", 0)
+        else:
+            self.out, self.back = open(name, "wb"), open(name, "rb", 0)
+        self.answers, self.heard, self.sending = {}, queue.Queue(), threading.Lock()
+        threading.Thread(target=self.listen, daemon=True).start()
+
+    def send(self, way, sent):
+        """Sends bytes, and before each of them the number of its way."""
+        with self.sending:
+            self.out.write(b"".join(bytes([way, byte]) for byte in sent))
+            self.out.flush()
+
+    def listen(self):
+        """Hands on each byte that comes: an answer of a switch to `drive`, one of the modules to `move`."""
+        while way := self.back.read(1):
+            byte = self.back.read(1)
+            if way[0] == MODULES:
+                self.heard.put(byte)
+            else:
+                os.write(self.answers[way[0]], byte)
+        # The cable has ended. So does what `drive` reads, and nobody hears more.
+        for answers in self.answers.values():
+            os.close(answers)
+        self.heard.put(b"")
+        self.heard.put(b"")
+
+    def move(self, setting):
+        """Tells the modules that a setting stands, and waits until all of them are done."""
+        told = setting.to_bytes(2, "little", signed=True)
+        self.send(MODULES, told)
+        heard = self.heard.get() + self.heard.get()
+        if heard != told:
+            sys.exit(f"host.py: the modules were told {told.hex(' ')}, and say {heard.hex(' ') or 'nothing more'}")
+
+
+class Drive:
+    """`drive`, whose ports are named pipes of a folder of its own, and go over the cable."""
+
+    def __init__(self, cable, folder, batch, *options):
+        ports = []
+        for way in ways(batch):
+            ports.append(f"{folder}/port{way}")
+            if not os.path.exists(f"{ports[-1]}.in"):
+                self.make_port(cable, way, ports[-1])
+        self.process = subprocess.Popen(
+            [PROGRAM, "drive", batch, *ports, *options], stdin=subprocess.PIPE, stdout=subprocess.PIPE, text=True, bufsize=1
+        )
+
+    def make_port(self, cable, way, port):
+        os.mkfifo(f"{port}.in")
+        os.mkfifo(f"{port}.out")
+        # Opened to read and write, neither waits for `drive`, which opens none where it is refused.
+        sent, cable.answers[way] = os.open(f"{port}.in", os.O_RDWR), os.open(f"{port}.out", os.O_RDWR)
+        threading.Thread(target=self.carry, args=(sent, cable, way), daemon=True).start()
+
+    def carry(self, sent, cable, way):
+        """Sends on what `drive` sends, as long as the cable is there."""
+        with contextlib.suppress(OSError):
+            while True:
+                cable.send(way, os.read(sent, 4096))
+
+    def lines(self):
+        """The lines that it prints, each by its words."""
+        for line in self.process.stdout:
+            print(line, end="", flush=True)
+            yield line.split()
+
+    def go_on(self):
+        self.process.stdin.write("\n")
+
+
+def ways(batch):
+    """The ways of the ports that a batch needs: those of two switches where it names a module above 15."""
+    with open(batch, encoding="utf-8") as file:
+        named = [word for line in file.read().splitlines()[1:] for word in line.split()[1::2]]
+    return [SWITCH, SWITCH_B] if any(word.isdigit() and int(word) > 15 for word in named) else [SWITCH]
+
+
+def main():
+    cable = Cable(sys.argv[1])
+    with tempfile.TemporaryDirectory(prefix="host-") as folder:
+        drive = Drive(cable, folder, *sys.argv[2:])
+        try:
+            for word, number, *_ in drive.lines():
+                if word == "setting":
+                    cable.move(int(number))
+                    # All are done, and not before that the next setting may be set.
+                    drive.go_on()
+                elif word == "driven":
+                    cable.move(END)
+        finally:
+            drive.process.kill()
+        sys.exit(drive.process.wait())
+
+
+if __name__ == "__main__":
+    try:
+        main()
+    except OSError as error:
+        sys.exit(f"host.py: {error}")
