@@ -33,6 +33,8 @@ from pathlib import Path
 TOP = os.path.dirname(os.path.dirname(os.path.dirname(os.path.abspath(__file__))))
 EXAMPLES = f"{TOP}/examples"
 sys.path[:0] = f"{TOP}/tools/hostile", f"{EXAMPLES}/board"
+# Nothing is left in the folder of the examples.
+sys.dont_write_bytecode = True
 
 import host  # noqa: E402
 import plain  # noqa: E402
