@@ -117,7 +117,9 @@ class Racks:
     def __init__(self, installed):
         self.program = f"{installed}/bin/exchange"
         module = next(Path(installed).rglob("exchange.py"))
-        self.env = {**os.environ, "EXCHANGE": self.program, "PYTHONPATH": str(module.parent), "PYTHONDONTWRITEBYTECODE": "1"}
+        # What a rack that is killed leaves goes with this folder.
+        places = {"EXCHANGE": self.program, "PYTHONPATH": str(module.parent), "TMPDIR": os.getcwd()}
+        self.env = {**os.environ, **places, "PYTHONDONTWRITEBYTECODE": "1"}
 
     def write(self, seed, shape, batch, schedule):
         """Writes the files of a run, and gives the words of one. Words of an option are such."""
