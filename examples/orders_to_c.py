@@ -7,7 +7,10 @@ at least: where there would be none, it has one that the numbers before it don't
 
 import sys
 
-from orders_to_occam import read_orders
+# Nothing is left in the folder of the examples.
+sys.dont_write_bytecode = True
+
+from orders_to_occam import read_orders  # noqa: E402
 
 ACTS = {"send block": "SEND", "send copy": "SEND_COPY", "receive block": "RECEIVE"}
 IDLE = "IDLE"

@@ -5,8 +5,8 @@
 
 The options are those of `drive`: --steady, --schedule FILE, --wiring FILE, --from K. CABLE is a device, or the two named pipes CABLE.in,
 to the board, and CABLE.out, from it. Over the cable the number of its way goes before each byte: 0 the switch, 1 the modules, 2 switch B.
-The modules are told the number of each setting in two bytes, the lower one first, and give it back once all of them are done. After the
-last setting they are told -1. docs/BOARD.md says more. The program is `exchange` on the PATH, or the one that EXCHANGE names.
+The modules are told the number of each setting in two bytes, the lower one first, and give it back once all of them are done. Before the
+first setting they are told -2, and after the last one -1. docs/BOARD.md says more. The program is `exchange` on the PATH, or the one that EXCHANGE names.
 """
 
 import contextlib
@@ -19,7 +19,7 @@ import tempfile
 import threading
 
 SWITCH, MODULES, SWITCH_B = 0, 1, 2
-END = -1
+END, WAIT = -1, -2
 PROGRAM = os.path.abspath(os.environ.get("EXCHANGE") or shutil.which("exchange") or "exchange")
 
 
@@ -55,10 +55,22 @@ class Cable:
         self.heard.put(b"")
         self.heard.put(b"")
 
-    def move(self, setting):
-        """Tells the modules that a setting stands, and waits until all of them are done."""
-        told = setting.to_bytes(2, "little", signed=True)
+    def tell(self, number):
+        """Tells the modules a number: the two bytes."""
+        told = number.to_bytes(2, "little", signed=True)
         self.send(MODULES, told)
+        return told
+
+    def find_modules(self):
+        """Waits until all modules wait for a setting. What comes before they say so was left of an earlier host."""
+        told, heard = self.tell(WAIT), b""
+        while not heard.endswith(told):
+            byte = self.heard.get()
+            heard += byte or sys.exit("host.py: the cable has ended")
+
+    def move(self, setting):
+        """Tells the modules that a setting is set, and waits until all of them are done."""
+        told = self.tell(setting)
         heard = self.heard.get() + self.heard.get()
         if heard != told:
             sys.exit(f"host.py: the modules were told {told.hex(' ')}, and say {heard.hex(' ') or 'nothing more'}")
@@ -109,6 +121,7 @@ def ways(batch):
 
 def main():
     cable = Cable(sys.argv[1])
+    cable.find_modules()
     with tempfile.TemporaryDirectory(prefix="host-") as folder:
         drive = Drive(cable, folder, *sys.argv[2:])
         try:
@@ -129,3 +142,5 @@ if __name__ == "__main__":
         main()
     except OSError as error:
         sys.exit(f"host.py: {error}")
+    except KeyboardInterrupt:
+        sys.exit(130)

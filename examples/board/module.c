@@ -2,7 +2,7 @@
  * tools/rack/run.py compiles it by another one, over channels of its own, and has it obey in a rack of processes. docs/BOARD.md says more.
  *
  * BLOCKS and BLOCK_BYTES are your own numbers: how many blocks the module has, and how many bytes each. Links 1 and 2 make a chain. Over
- * link 1 comes the number of each setting that stands. */
+ * link 1 comes the number of each setting, once the switch is set. A negative number has no orders. */
 #include <channel.h>
 #include <process.h>
 #include <string.h>
@@ -45,7 +45,7 @@ void obey(int is_last)
 
     for (i = 0; i < COPIES; i++)
         memcpy(aside[copies[i]], memory[copies[i]], BLOCK_BYTES);
-    while (k >= 0) {
+    while (k != -1) {
         ChanIn(LINK1IN, &k, 2);
         if (!is_last)
             ChanOut(LINK2OUT, &k, 2);

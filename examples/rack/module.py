@@ -4,8 +4,8 @@
     module.py [--in-turn] MODULE SHAPE BATCH SCHEDULE LINK0 LINK3 LINK1 [LINK2]
 
 Its words come over standard input, and go to standard output in the end. Its links are sockets, by their numbers. Over link 1 comes the
-number of each setting that stands, in two bytes, the lower one first. The module hands it on over link 2 and does its orders. Once all
-modules after it are done too, it gives the number back. After -1 it ends. rack.py starts this program.
+number of each setting, in two bytes, the lower one first, once the switch is set. The module hands it on over link 2 and does its orders.
+Once all modules after it are done too, it gives the number back. A negative number has no orders, and -1 ends it. rack.py starts it.
 """
 
 import socket
@@ -15,7 +15,7 @@ from concurrent.futures import ThreadPoolExecutor
 import exchange
 
 ACKNOWLEDGE = b"\0"
-END = b"\xff\xff"
+END = -1
 
 
 def read(path):
@@ -62,16 +62,17 @@ def main():
     orders = exchange.orders(batch, schedule, number)
     module = Module(shape, sys.stdin.buffer.read(), orders, {0: zero, 3: three})
     with ThreadPoolExecutor(1 if "--in-turn" in sys.argv else 2) as at_once:
-        told = b""
-        while told != END:
-            told = take(head, len(END))
+        setting = 0
+        while setting != END:
+            told = take(head, 2)
+            setting = int.from_bytes(told, "little", signed=True)
             for link in tail:
                 link.sendall(told)
-            if told != END:
+            if setting >= 0:
                 # Both links side by side.
-                list(at_once.map(module.obey, module.orders(int.from_bytes(told, "little"))))
+                list(at_once.map(module.obey, module.orders(setting)))
             for link in tail:
-                take(link, len(END))
+                take(link, 2)
             head.sendall(told)
     sys.stdout.buffer.write(b"".join(module.memory))
 

@@ -33,6 +33,8 @@ from pathlib import Path
 TOP = os.path.dirname(os.path.dirname(os.path.dirname(os.path.abspath(__file__))))
 EXAMPLES = f"{TOP}/examples"
 sys.path[:0] = f"{TOP}/tools/hostile", f"{EXAMPLES}/board"
+# Nothing is left in the folder of the examples.
+sys.dont_write_bytecode = True
 
 import host  # noqa: E402
 import plain  # noqa: E402
@@ -115,7 +117,9 @@ class Racks:
     def __init__(self, installed):
         self.program = f"{installed}/bin/exchange"
         module = next(Path(installed).rglob("exchange.py"))
-        self.env = {**os.environ, "EXCHANGE": self.program, "PYTHONPATH": str(module.parent), "PYTHONDONTWRITEBYTECODE": "1"}
+        # What a rack that is killed leaves goes with this folder.
+        places = {"EXCHANGE": self.program, "PYTHONPATH": str(module.parent), "TMPDIR": os.getcwd()}
+        self.env = {**os.environ, **places, "PYTHONDONTWRITEBYTECODE": "1"}
 
     def write(self, seed, shape, batch, schedule):
         """Writes the files of a run, and gives the words of one. Words of an option are such."""
@@ -211,6 +215,7 @@ class Racks:
         settings = range(int(self.orders(0, options).split()[3]))
         with tempfile.TemporaryDirectory(prefix="ports-") as ports, contextlib.redirect_stdout(io.StringIO()):
             for setting in order(settings):
+                cable.find_modules()
                 drive = host.Drive(cable, ports, "batch", *options, "--from", str(setting))
                 lines = drive.lines()
                 cable.move(int(next(lines)[1]))
@@ -230,7 +235,7 @@ class Racks:
         os.makedirs("modules", exist_ok=True)
         makes = [f"-DBLOCKS={blocks}", f"-DBLOCK_BYTES={4 * size}", "-I.", f"-I{INMOS}", f"{EXAMPLES}/board/module.c", f"{INMOS}/rack.c"]
         for m in range(count):
-            Path("tables.h").write_text(self.tables("c", m, words))
+            Path("tables.h").write_text(tables_of("c", self.orders(m, words)))
             subprocess.run(["cc", *FLAGS, *makes, "-o", f"modules/{m}", "-lpthread"], check=True)
 
     def is_moved_in_c(self, what, *case):
@@ -242,19 +247,16 @@ class Racks:
         expect(f"in C: {what}", run.returncode == 0 and told.endswith("as exchange apply\n"), told)
 
     def orders(self, m, words, batch="batch"):
+        """The orders of a module."""
         return subprocess.run([self.program, "orders", batch, *words, "--module", str(m)], stdout=subprocess.PIPE, check=True).stdout.decode()
-
-    def tables(self, language, m, words, batch="batch"):
-        """The tables of a module's orders."""
-        make = [sys.executable, f"{EXAMPLES}/orders_to_{language}.py"]
-        return subprocess.run(make, input=self.orders(m, words, batch).encode(), stdout=subprocess.PIPE, check=True).stdout.decode()
 
     def are_told_again(self, batch, words, modules):
         """Notes whether the tables of each module are made into its orders again."""
-        for language in "occam", "c":
-            for m in range(modules):
-                text = self.tables(language, m, words, batch)
-                expect(f"{language} of module {m}, {batch} {words}", tables.orders(language, text) == self.orders(m, words, batch), text)
+        for m in range(modules):
+            told = self.orders(m, words, batch)
+            for language in "occam", "c":
+                text = tables_of(language, told)
+                expect(f"{language} of module {m}, {batch} {words}", tables.orders(language, text) == told, text)
 
     def is_relayed(self, what):
         """Notes whether the relay's two loops carry the bytes between `drive` and `c004`."""
@@ -291,12 +293,20 @@ class Racks:
             os.mkfifo(name)
         words = [sys.executable, f"{EXAMPLES}/board/host.py", "cable", "batch"]
         run = subprocess.Popen(words, stdout=subprocess.PIPE, stderr=subprocess.STDOUT, env=self.env)
-        with open("cable.in", "rb", 0) as there, open("cable.out", "wb", 0):
+        with open("cable.in", "rb", 0) as there, open("cable.out", "wb", 0) as back:
+            # The modules wait, and something was left of an earlier host.
+            back.write(b"\1\0\1\0" + there.read(4))
             there.read(2)
         told = run.communicate(timeout=LIMIT)[0].decode().splitlines()
         expect(what, "stopped setting 0 port" in told and run.returncode == 1, told)
         for name in "cable.in", "cable.out":
             os.unlink(name)
+
+
+def tables_of(language, orders):
+    """The tables that are made of a module's orders."""
+    make = [sys.executable, f"{EXAMPLES}/orders_to_{language}.py"]
+    return subprocess.run(make, input=orders.encode(), stdout=subprocess.PIPE, check=True).stdout.decode()
 
 
 def send(link, parts, others):
