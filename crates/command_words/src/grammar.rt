@@ -1,6 +1,6 @@
 //! The commands as clap has them.
 
-ghost use Rattle.std.specs.Prelude.{◌≡◌, IfErr, IfOk, OnOk};
+ghost use Rattle.std.specs.Prelude.{◌≡◌, IfErr, IfOk, IfSome, OnOk, OnSome};
 ghost use Rattle.command_words.specs.Jobs.{IsFaultIn, IsTaken, texts_of};
 ghost use Rattle.clap.specs.Words.{app_of, new_app, subcommand_of, subcommand_rows_of};
 ghost use Rattle.command_words.specs.Program.{IsArgument, IsCommand, IsLocal, command as command_app, flag, option, program, rule_for, top, with_arguments, with_command, one_argument, client_arguments};
@@ -163,6 +163,20 @@ pub(crate) fn program<'a>(alloc: Global) -> Result<Command<'a>, AllocError>
     Ok(program)
 }
 
+/// The matches of arguments that begin with the word of a command and fit it: they are those of the
+/// program with this command alone, which is built sooner than the whole program.
+fn matches_by_name<'a>(alloc: Global, arguments: &'a [String]) -> Option<ArgMatches<'a>>
+    ensures matches { IfSome result (λ found.
+        subcommand_rows_of found ≡ subcommand_of program (texts_of arguments.entry.now)) }
+    ensures taken { OnSome result (IsTaken (texts_of arguments.entry.now)) }
+{
+    let name = CommandName::of(arguments.get(1)?.as_str())?;
+    let Ok(program) = with_command(alloc, top(alloc), name) else {
+        return None;
+    };
+    program.try_get_matches_from(arguments).ok()
+}
+
 /// The matches of the arguments.
 pub(crate) fn matches_of<'a>(
     alloc: Global,
@@ -173,5 +187,8 @@ pub(crate) fn matches_of<'a>(
     ensures taken { OnOk result (IsTaken (texts_of arguments.entry.now)) }
     ensures fault { IfErr result (IsFaultIn (texts_of arguments.entry.now)) }
 {
+    if let Some(found) = matches_by_name(alloc, arguments) {
+        return Ok(found);
+    }
     Ok(program(alloc)?.try_get_matches_from(arguments)?)
 }
