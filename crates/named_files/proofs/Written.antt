@@ -68,7 +68,7 @@ unwritten (Err e) P bytes after err is = ([], bytes, refl, is)
 -- a new file that was closed as it was opened, since something is lost
 pub left_new : {F C : Type 0} (contents : F → Option (List ℕ)) (received : C → Closed) (out : Option (OutFile F)) (o : OutFile F) (wanted : List ℕ) (receipt : C) (lost : Reason)
     → out ≡ Some o → IsOpened contents is_new (name_of out) out → received receipt ≡ closed (contents o.file) false → IsFileWritten received (name_of out) wanted (Some receipt) (Some lost)
-left_new contents received None o wanted receipt lost is opened left = absurd cc
-left_new contents received (Some x) o wanted receipt lost is opened left =
+left_new {F} {C} contents received None o wanted receipt lost is opened left = absurd cc
+left_new {F} {C} contents received (Some x) o wanted receipt lost is opened left =
     let same : x ≡ o = cc in
     (([], wanted, refl, ap (λ (c : Closed). c.bytes) left ∙ ap (λ (y : OutFile F). contents y.file) (sym same) ∙ opened.2 ∙ ap Some opened.1), ap (λ (c : Closed). c.stands) left)
