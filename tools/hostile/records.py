@@ -24,9 +24,9 @@ HEAD_WANTED = (
     '"record MxKxW SUM N", where MxKxW is its shape, SUM the sum of its image, of eight digits, and N counts the lines "client NAME" behind it'
 )
 CALL_WANTED = (
-    '"S CALL", where S is the number of a session, CALL is "batch N" and the batch\'s lines, "fetch ID", "settle ID", "run ID", "show ID", '
-    '"drop ID", "peek M A" or "poke M A D", ID is the number of a batch, M a module, A an address and D a word, of eight digits 0 to 9 and '
-    f"a to f each: {ENDED}"
+    '"S CALL", where S is the number of a session, below N if the head names N clients, CALL is "batch N" and the batch\'s lines, "fetch ID", '
+    '"settle ID", "run ID", "show ID", "drop ID", "peek M A" or "poke M A D", ID is the number of a batch, M a module, A an address and D a '
+    f"word, of eight digits 0 to 9 and a to f each: {ENDED}"
 )
 
 
@@ -186,13 +186,18 @@ def is_transfer(line):
         return False
 
 
-def call_has_begun(rest):
-    """Whether a rest is a front of a session's number and a call, but not the whole of them."""
+def limit_of(names):
+    """The numbers of a record's sessions are below this, whose head has these names."""
+    return len(names) or ANY
+
+
+def call_has_begun(rest, limit):
+    """Whether a rest is a front of a session's number, which is below a limit, and a call, but not the whole of them."""
     first, feed, more = rest.partition(b"\n")
     if not feed:
-        return any(is_front(first, [ANY, *form]) for form in FORMS)
+        return any(is_front(first, [limit, *form]) for form in FORMS)
     head = SUBMITTED.match(rest)
-    if not head or int(head[2]) > plain.TRANSFERS:
+    if not head or int(head[1]) >= limit or int(head[2]) > plain.TRANSFERS:
         return False
     *lines, last = more.split(b"\n")
     return len(lines) < int(head[2]) and all(is_transfer(line) for line in lines) and any(is_front(last, form) for form in TRANSFERS)
@@ -250,7 +255,7 @@ class Replay:
         if zlib.adler32(self.exchange.image()) != total:
             raise Misrecorded("head", text, 0, HEAD_WANTED)
         while first is None or len(self.entries) < first:
-            if END.startswith(text[at:]) or text.startswith(END, at) or call_has_begun(text[at:]):
+            if END.startswith(text[at:]) or text.startswith(END, at) or call_has_begun(text[at:], limit_of(self.names)):
                 break
             end = self.entry(text, at, len(self.entries))
             if end is None:
@@ -265,9 +270,11 @@ class Replay:
     def entry(self, text, at, number):
         """Replays the entry that stands there, and says where it ends. Where its reply is cut off, nothing is done, and it ends nowhere."""
         found = entry_at(text, at)
-        if not found:
+        if not found or found[0] >= limit_of(self.names):
             fault = Misrecorded(f"call {number}", text, at, f"the call of entry {number}, {CALL_WANTED}")
-            fault.line, fault.told = wrong_in_batch(text, at) or (fault.line, fault.told)
+            session = SESSION.match(text, at)
+            if session and int(session[1]) < limit_of(self.names):
+                fault.line, fault.told = wrong_in_batch(text, at) or (fault.line, fault.told)
             raise fault
         session, answer, named, begin, end = found
         before = None if b"\n" in text[end : end + 200] else copy.deepcopy(self.exchange)

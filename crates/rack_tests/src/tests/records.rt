@@ -147,7 +147,7 @@ fn is_gone_on_from<R: AllocGlobal + Threads + Sync>(rt: &R, bytes: usize) -> boo
     let (Some(rack), Some(text)) = (zeros(alloc, "2x1x1"), RECORD.get(..bytes)) else {
         return false;
     };
-    let Ok(remade) = replay(rt, alloc, rack, text, None, WorkerCount::ONE) else {
+    let Ok(remade) = replay(rt, alloc, rack, text, ANY, None, WorkerCount::ONE) else {
         return false;
     };
     let entries = whole_in(bytes);
@@ -168,7 +168,7 @@ fn a_record_is_gone_on_from_each_byte(rt: HostRuntime) {
 /// left.
 fn first_made<R: AllocGlobal + Threads + Sync>(rt: &R, first: usize) -> Option<(usize, usize)> {
     let rack = zeros(rt.alloc(), "2x1x1")?;
-    match replay(rt, rt.alloc(), rack, RECORD, Some(first), WorkerCount::ONE) {
+    match replay(rt, rt.alloc(), rack, RECORD, ANY, Some(first), WorkerCount::ONE) {
         Ok(remade) => Some((remade.entries, remade.rest.len())),
         Err(_) => None,
     }
@@ -189,6 +189,7 @@ fn wrong<R: AllocGlobal + Threads + Sync>(rt: &R, text: &str) -> Option<(RecordF
         rt.alloc(),
         rack,
         text.as_bytes(),
+        ANY,
         None,
         WorkerCount::ONE,
     ) {
