@@ -6,12 +6,12 @@
  *
  * What a call gives back, and what it leaves in `out` and `*count`:
  *
- *   EXCHANGE_DONE       the answer stands at the front of `out`, and `*count` is its number of bytes
+ *   EXCHANGE_DONE       the answer is at the beginning of `out`, and `*count` is its number of bytes
  *   EXCHANGE_REFUSED    the same, and the answer is the line of a refusal, as `refused batch line 2`
  *   EXCHANGE_NO_ROOM    the answer has more than `room` bytes: `*count` says how many, and `out` is as it was
  *   EXCHANGE_NO_MEMORY  malloc or realloc gave no memory: `*count` is 0, and `out` is as it was
  *
- * Bytes of `out` behind the answer are as they were. What `out` and `*count` hold before a call has no effect.
+ * Bytes of `out` after the answer are as they were. What `out` and `*count` hold before a call has no effect.
  * A call with a `room` of 0 asks for the number alone; it costs as much as one that writes. The same texts have
  * the same answer each time, so the room that the first call asks for is enough for the second.
  *
@@ -19,7 +19,7 @@
  * wiring is, docs/ORDERS.md what orders are, and docs/REFUSALS.md what each refusal means. They are installed in
  * share/doc/exchange.
  *
- * Below these calls stand a switch and the end of a link, each as calls over a state that is yours. They take no
+ * Below these calls are a switch and the end of a link, each as calls over a state that is yours. They take no
  * memory.
  *
  * What the caller promises, and no call can test:
@@ -59,7 +59,7 @@ extern "C" {
 #define EXCHANGE_NO_PORT 33
 #define EXCHANGE_NO_STATE 34
 
-/* The calls whose refusals `exchange_why` tells of, and what it gives where no call has the number. */
+/* The calls whose refusals `exchange_why` explains, and what it gives where no call has the number. */
 #define EXCHANGE_OF_PLAN 0
 #define EXCHANGE_OF_CHECK 1
 #define EXCHANGE_OF_SWITCH 2
@@ -157,12 +157,12 @@ uint8_t exchange_why(uint8_t call, const uint8_t *first, size_t first_bytes, con
 /* ---- an INMOS C004 ----
  *
  * The state of a switch is plain bytes: copy them, compare them, keep them in a file. Each switch has one state, and
- * each state is that of one switch. Bytes that no switch has are told by EXCHANGE_NO_STATE, and the call changes
+ * each state is that of one switch. Bytes that no switch has give EXCHANGE_NO_STATE, and the call changes
  * nothing. `exchange c004` answers as these calls do. Each takes constant time. */
 struct exchange_c004 {
     /* What each output answers an enquiry: 80 hex and the input that feeds it, or 0 where none does. */
     uint8_t outputs[32];
-    /* The bytes that have come of a command that isn't whole, zeros behind them, and their number, 0 to 2. */
+    /* The bytes that have come of a command that isn't whole, zeros after them, and their number, 0 to 2. */
     uint8_t begun[2];
     uint8_t begun_count;
     /* 1 from a command that connects (00, 01) to the next that settles (03) or resets (04), and else 0. */
@@ -176,7 +176,7 @@ void exchange_c004_reset(struct exchange_c004 *state);
  *
  *   EXCHANGE_DONE       no reply is due: `*reply` is as it was
  *   EXCHANGE_REPLY      the byte ends an enquiry: `*reply` is 80 hex and the input that feeds the output, or 0
- *   EXCHANGE_REFUSED    the byte can't stand where it came. The command that was begun is dropped, and the switch
+ *   EXCHANGE_REFUSED    the byte can't come there. The command that was begun is dropped, and the switch
  *                       stays as it was: the next byte begins a command. The data sheet doesn't say what a C004
  *                       does then
  *   EXCHANGE_NO_STATE   no switch has this state
@@ -194,9 +194,9 @@ uint8_t exchange_c004_joined(const struct exchange_c004 *state, uint8_t link, ui
 
 /* ---- the link's end of a T414 that waits to boot ----
  *
- * The state of an end is plain bytes too. Bytes that no end has are told by EXCHANGE_NO_STATE, and nothing changes. */
+ * The state of an end is plain bytes too. Bytes that no end has give EXCHANGE_NO_STATE, and nothing changes. */
 struct exchange_boot {
-    /* The bytes that have come of a message that isn't whole, and their number, 0 to 8. Those behind have no effect. */
+    /* The bytes that have come of a message that isn't whole, and their number, 0 to 8. Those after them have no effect. */
     uint8_t begun[8];
     uint8_t begun_count;
     /* 1 once the end has refused a byte, and else 0. */
@@ -212,7 +212,7 @@ void exchange_boot_reset(struct exchange_boot *end);
  * Nothing is booted. Gives
  *
  *   EXCHANGE_DONE        no reply is due. At the last byte of a poke (00, address, word) its word is written
- *   EXCHANGE_REPLY       at the last byte of a peek (01, address): the bytes of the word stand in `reply`
+ *   EXCHANGE_REPLY       at the last byte of a peek (01, address): the bytes of the word are in `reply`
  *   EXCHANGE_BOOTSTRAP   a control byte above 01: `byte` would be the length of a bootstrap
  *   EXCHANGE_MISALIGNED  at the last byte of a message whose address is no multiple of four
  *   EXCHANGE_OUTSIDE     at the last byte of a message whose word isn't in the memory

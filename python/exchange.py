@@ -28,14 +28,14 @@ _ROOM = 1 << 16
 
 class Refused(ValueError):
     """A text isn't right. `line` is the line of the refusal, of which docs/REFUSALS.md says what each means, and `why` says where, what
-    stands there, and what is wanted. The exception's text is both.
+    is there, and what is expected. The exception's text is both.
 
     >>> try:
     ...     plan("batch one")
     ... except Refused as refused:
     ...     print(refused)
     refused batch line 1
-    exchange: batch:1: "batch one": at byte 7 "o" stands where a number has to; wanted is "batch N", where N counts the transfers
+    exchange: batch:1: "batch one": at byte 7 there is "o" instead of a number; expected "batch N", where N counts the transfers
     """
 
     def __init__(self, line: str, why: str = ""):
@@ -165,11 +165,11 @@ class ModuleOrders(NamedTuple):
 
 def orders(batch: Text, schedule: Optional[Text] = None, module: Optional[int] = None) -> List[ModuleOrders]:
     r"""What each module does in the settings of a schedule of a batch, with a certificate or without, or what one module does. Where no
-    schedule is given, it is that of `plan`. A module without orders isn't told. A batch in which two transfers write one block is refused.
+    schedule is given, it is that of `plan`. A module without orders is left out. A batch in which two transfers write one block is refused.
     docs/ORDERS.md says how modules obey.
 
-    >>> for told in orders("batch 2\npush 0 0 1 0\npush 1 0 2 0\n", "settings 2\nsetting 0\nsetting 1\n"):
-    ...     print(told.module, told.copies, [[" ".join(map(str, order)) for order in setting] for setting in told.settings])
+    >>> for it in orders("batch 2\npush 0 0 1 0\npush 1 0 2 0\n", "settings 2\nsetting 0\nsetting 1\n"):
+    ...     print(it.module, it.copies, [[" ".join(map(str, order)) for order in setting] for setting in it.settings])
     0 [] [['0 send block 0'], []]
     1 [0] [['3 receive block 0'], ['0 send copy 0']]
     2 [] [[], ['3 receive block 0']]
@@ -237,7 +237,7 @@ class C004:
     """An INMOS C004 that is handed the bytes of its configuration link, as `exchange c004` is. At first it is as after a reset, or it has
     the state of another one.
 
-    A byte that can't stand where it comes is dropped, with the command that was begun; `refused` counts these bytes.
+    A byte that can't come there is dropped, with the command that was begun; `refused` counts these bytes.
 
     >>> switch = C004()
     >>> switch.take(bytes([4, 1, 0, 17, 3, 2, 17])).hex()
@@ -296,14 +296,14 @@ class _BootState(ctypes.Structure):
 
 
 class EndFailed(ValueError):
-    """The end of a link refuses a byte, and each byte behind it. `replies` are those to what came before."""
+    """The end of a link refuses a byte, and each byte after it. `replies` are those to what came before."""
 
     def __init__(self, why: str, replies: bytes):
         super().__init__(why)
         self.replies = replies
 
 
-# What is told of the statuses by which an end refuses a byte.
+# What is said of the statuses by which an end refuses a byte.
 _FAULTS = {
     5: "a bootstrap of {} bytes isn't taken",
     6: "the address is no multiple of four",
@@ -428,7 +428,7 @@ def _ask(name: str, *texts: Text) -> bytes:
 
 
 def _why(name: str, given: List[bytes]) -> str:
-    """What is told beside the refusal of these texts by this call, or nothing where there is no memory for it."""
+    """What is said beside the refusal of these texts by this call, or nothing where there is no memory for it."""
     words = [word for text in (given + [b"", b""])[:3] for word in (text, len(text))]
     status, line = _in_room(_LIBRARY.exchange_why, [_NUMBERS[name], *words, b"", 0], _ROOM)
     return line.decode().rstrip("\n") if status == _DONE else ""

@@ -853,7 +853,7 @@ def output_is_full():
     chip = Far(Pipes("port"))
     with open("/dev/full", "wb") as full:
         process = start_apart([EXCHANGE, "drive", THREE, "port", "--go-on"], stdin=subprocess.DEVNULL, stdout=full)
-        yield process.communicate()[1], b"exchange: a setting that stands can't be told: No space left on device (os error 28)\n"
+        yield process.communicate()[1], b"exchange: a setting that is set can't be printed: No space left on device (os error 28)\n"
     yield process.returncode, 3
     yield chip.heard(), (sent_for(THREE)[0][0], [])
 

@@ -382,7 +382,7 @@ def sweep_help_by_name():
 def sweep_host(client, *options):
     """The same for a live client, over plain files. The first run starts no thread, so that no file is made."""
     words = ["host", "2x1x1", client, *options]
-    note = b"exchange: no thread could be had for each client; fewer clients may do\n"
+    note = b"exchange: the system has no thread for each client; try fewer clients\n"
     no_threads = (b"refused threads\n", note, 1)
     alone, _, _, unstarted = run("T", EXCHANGE, words, False)
     is_made = os.path.exists(f"{client}.out")

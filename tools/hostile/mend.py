@@ -41,7 +41,7 @@ def mended_text(kind, text, number, told):
     if told.endswith((f", and line 1 says {notes.announced(text)}\n", " has at most 4096\n")):
         number, right = 1, FIRST[kind]
     else:
-        wanted = re.split(r" is(?:n't)? (?=\")", told)[-1]
+        wanted = re.split(r" (?:isn't|expected) (?=\")", told)[-1]
         right = next(right for form, right in RIGHT.items() if wanted.startswith(form))
     right = right.format(*numbers_for(kind, lines, number, entries))
     return b"\n".join([*lines[: number - 1], right.encode(), *(lines[number:] or [b""])])

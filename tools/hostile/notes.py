@@ -30,8 +30,8 @@ KINDS = {
     "wiring": ("module", rb"module ", [
         ("wiring N", '"wiring N", where N counts the modules, 1 to 16'),
         ("module N link 0 at N link 3 at N",
-         '"module M link 0 at A link 3 at B", where M rises from line to line up to 15, A and B are 0 to 31 and stand nowhere else, '
-         'and "none" may stand for "at A" or "at B"'),
+         '"module M link 0 at A link 3 at B", where M rises from line to line up to 15, A and B are 0 to 31, each used once, '
+         'and "none" may replace "at A" or "at B"'),
     ]),
 }  # fmt: skip
 # What a line that begins so has to go on with, in the place of another form.
@@ -44,7 +44,7 @@ STANDS = {
 }  # fmt: skip
 # What is told of two lines that sessions haven't.
 UNHEARD = {
-    b"help": 'isn\'t a line of a session; "exchange talk --help" tells them',
+    b"help": 'isn\'t a line of a session; "exchange talk --help" lists them',
     b"quit": 'isn\'t a line of a session; "bye" ends it',
 }  # fmt: skip
 # The lines of a session: N is a number, and H eight hexadecimal digits.
@@ -53,14 +53,14 @@ SENT = ["batch N", "plan N", "run N", "show N", "drop N", "peek N H", "poke N H 
 QUOTES = {
     "line": 'isn\'t a line of a session: "batch N" and the batch\'s lines, "plan ID", "run ID", "show ID", "drop ID", "peek M A", "poke M A D", '
     '"progress" or "bye", where ID is the number of a batch, M a module, A an address and D a word, of eight digits 0 to 9 and a to f each: ' + RULES,
-    "unknown": 'names no batch of this session; "accepted ID" tells the ID of each that it hands in',
+    "unknown": 'names no batch of this session; "accepted ID" gives the ID of each that it hands in',
     "unplanned": 'names a batch that has no plan yet; send "plan ID" first',
-    "already": "names a batch that was planned or run already; hand it in again for another run",
-    "memory no module": "names a module that the rack hasn't; it has {modules}",
-    "memory misaligned": "names an address that is no multiple of four; its last digit is none of 0, 4, 8 and c",
-    "memory outside": "names an address of no word; words of a module are at 80000800 to {last:08x}",
+    "already": "names a batch that was already planned or run; hand it in again to run it again",
+    "memory no module": "names a module that the rack doesn't have; it has {modules}",
+    "memory misaligned": "names an address that isn't a multiple of four; its last digit has to be 0, 4, 8 or c",
+    "memory outside": "names an address where there is no word; a module has its words at 80000800 to {last:08x}",
     "book full": 'is one batch too many for the exchange; send "drop ID" for one that isn\'t needed',
-    "history full": "is one call too many for the exchange; end the session, and start another exchange",
+    "history full": "is one call too many for the exchange; end the session, and start the program anew",
     "settings": 'isn\'t "A..B": two settings, counted from 0, of which the second isn\'t below the first',
     "shape": 'isn\'t "MxKxW": 1 to 32 modules, 1 to 64 blocks each, 1 to 256 words each',
 }  # fmt: skip
@@ -126,7 +126,7 @@ def stop_of(line, form):
             return at, "a space" if piece == " " else quoted(piece.encode())
         else:
             at += 1
-    return (at, "the line's end") if at < len(line) else None
+    return (at, "the end of the line") if at < len(line) else None
 
 
 def difference(line, form):
@@ -143,7 +143,7 @@ def difference(line, form):
     if not line:
         return "the line is empty"
     if form == "batch N" and line.startswith(b"moves "):
-        return 'a text of moves begins so, and "direct" makes a batch of it'
+        return 'a text of moves begins like this; "direct" makes a batch of it'
     return told_at(line, *stop)
 
 
@@ -151,12 +151,12 @@ def told_at(line, at, wrong):
     """What is told of the place where a line stops being of a form."""
     rest = line[at:]
     if rest == b"\r":
-        wrong = "a carriage return stands before the line's end"
+        wrong = "there is a carriage return before the end of the line"
     elif wrong == "eight digits" and rest:
-        wrong = "eight digits 0 to 9 and a to f have to stand"
+        wrong = "eight digits 0 to 9 or a to f are expected"
     elif not wrong.startswith("a number has"):
-        stands = next((name for front, name in STANDS.items() if rest.startswith(front)), quoted(rest[:1]) if rest else "the line's end")
-        wrong = f"{stands} stands where {wrong} ha{'ve' if wrong == 'eight digits' else 's'} to"
+        stands = next((name for front, name in STANDS.items() if rest.startswith(front)), quoted(rest[:1]) if rest else "the end of the line")
+        wrong = f"there is {stands} instead of {wrong}"
     return f"at byte {at + 1} {wrong}"
 
 
@@ -166,9 +166,9 @@ def taken(text, number):
     for port in lines[-1]:
         above = next((k for k, ports in enumerate(lines[:-1], 1) if port in ports), None)
         if above:
-            return f"link {port.decode()} of the switch stands on line {above} already"
+            return f"link {port.decode()} of the switch is on line {above} already"
     is_twice = len(lines[-1]) == 2 and lines[-1][0] == lines[-1][1]
-    return f"link {lines[-1][0].decode()} of the switch stands on line {number} already" if is_twice else None
+    return f"link {lines[-1][0].decode()} of the switch is on line {number} already" if is_twice else None
 
 
 def of_form(text, number, form, wanted, differs=None):
@@ -176,11 +176,11 @@ def of_form(text, number, form, wanted, differs=None):
     wanted there."""
     line, is_ended = line_of(text, number), text.count(b"\n") >= number
     if not line and not is_ended:
-        return f"the text {'is empty' if number == 1 else 'ends above this line'}; wanted is {wanted}"
+        return f"the text {'is empty' if number == 1 else 'ends before this line'}; expected {wanted}"
     differs = form and difference(line, form) or differs
     if differs:
-        return f"{quoted(line)}: {differs}; wanted is {wanted}"
-    return f"{quoted(line)}{'' if is_ended else ' with no line feed'} isn't {wanted}"
+        return f"{quoted(line)}: {differs}; expected {wanted}"
+    return f"{quoted(line)}{'' if is_ended else ' without a line feed'} isn't {wanted}"
 
 
 def of_line(kind, name, text, number):
@@ -193,7 +193,7 @@ def of_line(kind, name, text, number):
         return f"{name}: {many(listed, entry + ' line')}, and line 1 says {count}"
     which = 0 if number == 1 else 1 + max(behind, 0)
     if which >= len(forms) or behind == 2 and line_of(text, number - 1) == b"busiest none":
-        return f"{place_of(name, number)}: {quoted(line)} stands behind the last line; nothing may follow"
+        return f"{place_of(name, number)}: {quoted(line)} comes after the last line; nothing may follow"
     differs = taken(text, number) if kind == "wiring" and which == 1 else None
     return f"{place_of(name, number)}: {of_form(text, number, *forms[which], differs)}"
 
@@ -215,11 +215,11 @@ def of_check(asked, what, t, u=None, module=None):
     if what == "unknown":
         return f"{plan}:{held[0] + 2}: transfer {t}{beyond}"
     if what == "missing":
-        return f"{plan}: transfer {t} stands in no setting {line}"
+        return f"{plan}: transfer {t} occurs in no setting {line}"
     if what == "repeated":
         is_one = held[0] == held[1]
         often = f"{len(held)} times, the first two " if len(held) > 2 else "twice " if is_one else ""
-        return f"{plan}:{held[1] + 2}: transfer {t} stands {often}in setting{f' {held[0]}' if is_one else f's {held[0]} and {held[1]}'} {line}"
+        return f"{plan}:{held[1] + 2}: transfer {t} occurs {often}in setting{f' {held[0]}' if is_one else f's {held[0]} and {held[1]}'} {line}"
     if what == "clash link module":
         one, other = [it for it in settings[t] if (u, module) in plain.links_of(transfers[it])][:2]
         return f"{plan}:{t + 2}: transfers {one} and {other} both use link {u} of module {module} (lines {one + 2} and {other + 2} of {batch})"
@@ -270,7 +270,7 @@ def of_text(asked, what, t=0, u=0):
         "no setting": f"setting {t}; {schedule} has {numbered(settings, 'setting')}",
         "no certificate": f'{other}: no certificate: "busiest link E module M" and "named T U .."{known(asked)}',
         "image": f"{other}: {many(t, 'byte')}; an image of {word} has {u}",
-        "threads": "no thread could be had for each client; fewer clients may do",
+        "threads": "the system has no thread for each client; try fewer clients",
     }[what]
 
 

@@ -21,7 +21,7 @@ SUBMITTED = re.compile(NUMBER + rb" batch " + NUMBER + rb"\n")
 # What is wanted in the first line, and in that of a call, as the line on standard error says it.
 ENDED = f"{notes.RULES}, a line feed at its end"
 HEAD_WANTED = (
-    '"record MxKxW SUM N", where MxKxW is its shape, SUM the sum of its image, of eight digits, and N counts the lines "client NAME" behind it'
+    '"record MxKxW SUM N", where MxKxW is its shape, SUM the sum of its image, of eight digits, and N counts the lines "client NAME" after it'
 )
 CALL_WANTED = (
     '"S CALL", where S is the number of a session, below N if the head names N clients, CALL is "batch N" and the batch\'s lines, "fetch ID", '
@@ -235,11 +235,11 @@ class Misrecorded(Refused):
     def __init__(self, what, text, at, wanted):
         super().__init__(f"record {what}")
         self.line = text.count(b"\n", 0, at) + 1
-        self.told = f"{notes.quoted(notes.line_of(text, self.line))} stands behind the last line; nothing may follow"
+        self.told = f"{notes.quoted(notes.line_of(text, self.line))} comes after the last line; nothing may follow"
         if wanted:
             self.told = notes.of_form(text, self.line, None, wanted)
         if what == "head" and text:
-            self.told = f"{notes.quoted(notes.line_of(text, 1))} begins no record of this rack; wanted is {wanted}"
+            self.told = f"{notes.quoted(notes.line_of(text, 1))} doesn't begin a record of this rack; expected {wanted}"
 
 
 class Replay:

@@ -53,8 +53,8 @@ gather 644 "$work/manual" share/man/man1/exchange.1
 gather 644 "$work/completions" share/bash-completion/completions/exchange
 gather 644 "$work/exchange.pc" lib/pkgconfig/exchange.pc
 
-# The pages that these name, and the files of their examples, as they stand in a clone.
-(cd "$top" && find README.md docs/*.md examples -type f) >"$work/pages"
+# The pages that these name, and the files of their examples, as they are in a clone.
+(cd "$top" && find README.md CHANGES.md CONTRIBUTING.md docs/*.md rows/help examples -type f) >"$work/pages"
 while read -r page; do
     gather "$([ -x "$top/$page" ] && echo 755 || echo 644)" "$top/$page" "share/doc/exchange/$page"
 done <"$work/pages"

@@ -4,16 +4,17 @@
     tools/texts/run.py [FILE..]     all documents, or these
 
 A document shows commands and what they print in a block that begins with ```console. A line that begins with `$ ` is a command, and the
-lines behind it, up to the next one, are what it prints on both streams, whatever its status. A line that is `...` stands for any lines.
+lines after it, up to the next one, are what it prints on both streams, whatever its status. A line that is `...` stands for any lines.
 The commands of a document run one after another, by the shell bash, in a folder with the repository's examples and `./exchange`.
-A block that begins with ```file NAME isn't run: it is a file of that name for the commands behind it.
+A block that begins with ```file NAME isn't run: it is a file of that name for the commands after it.
 
 Each command's help begins with the line `Example:`, and the next line is one. It is run too, and has to end well. So is each command in the last column of a table
 whose last column is headed `For example`.
 
 Each link of a document has to lead to a file or folder of the repository, and where it names a heading there, to one. What a link to source
 code shows, as [`split`](../crates/euler_split/src/halving.rt#L40), has to stand there: a function or a type in that line, where it names
-one. Lines of more than 100 columns are told, which is no fault; those of tables and of shown texts aren't.
+one. Lines of more than 100 columns are printed, which is no fault; those of tables and of shown texts aren't. Nor is it a fault where README
+names another kit than `rt version` does, but that is printed too.
 
 A program that isn't built, or is older than its sources, is proved and built first. Another one is tried where EXCHANGE names it:
 EXCHANGE=other/exchange tools/texts/run.py
@@ -21,6 +22,7 @@ EXCHANGE=other/exchange tools/texts/run.py
 
 import os
 import re
+import shutil
 import subprocess
 import sys
 import tempfile
@@ -44,6 +46,9 @@ DECLARED = r"\b(?:fn|struct|enum|trait) "
 
 # Columns that a line of a document should have at most.
 COLUMNS = 100
+
+# The name of a kit, as README has it, and as `rt version` begins.
+KIT = re.compile(r"rattle-kit-\w+")
 
 # The head of a table's last column, where that has commands to try.
 EXAMPLES = "For example"
@@ -126,6 +131,15 @@ def try_columns(name):
     for number in wide:
         print(f"{name}:{number}: more than {COLUMNS} columns")
     return len(prose), len(wide)
+
+
+def compare_kits():
+    """Prints the kit of this machine, where README names another one."""
+    with open(f"{TOP}/README.md", encoding="utf-8") as page:
+        named = set(KIT.findall(page.read()))
+    here = KIT.findall(subprocess.run(["rt", "version"], stdout=subprocess.PIPE, text=True, check=True).stdout) if shutil.which("rt") else []
+    if here and named != set(here):
+        print(f"README.md: the kit is {' and '.join(sorted(named))}, and `rt version` is {' '.join(here)}")
 
 
 def table_examples(name):
@@ -241,6 +255,7 @@ def main():
     names = sys.argv[1:] or documents()
     wrong = tell(names, try_links, "links", "lead nowhere")[1]
     tell(names, try_columns, "lines", "are too long")
+    compare_kits()
     if not os.environ.get("EXCHANGE"):
         subprocess.run([f"{TOP}/exchange", "prove"], check=True)
     tried, differing = tell(names, try_document, "commands of documents", "print something else")

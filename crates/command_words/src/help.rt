@@ -28,7 +28,7 @@ The answer is the line `settings S`, then S lines `setting t t ..`: the
 transfers that move at once, numbered from 0 in the order of their lines. A
 transfer uses link 0 of the module I that starts it, and link 3 of the module R
 that answers. In one setting each link carries one transfer at most. No schedule
-has fewer settings, as the two last lines show:
+has fewer settings, as the last two lines show:
   busiest link E module M   the link that most transfers use
   named t t ..              all transfers that use it, one in each setting
 or the line `busiest none` where there is no transfer.
@@ -37,7 +37,7 @@ Use --steady where changing the switch takes time. The schedule has as few
 settings, and few changes: at most one for each pair of links that share
 transfers, and one for each link in use. A change is a setting that joins other
 pairs of links than the one before; the first setting is one. `exchange draw`
-tells how many changes a schedule has, and how many are shown to be needed.
+shows how many changes a schedule has, and how many it needs at least.
 --steady and --workers exclude each other.
 
 A file that can't be read is `refused file`. Where FILE is no batch text, the
@@ -49,7 +49,7 @@ answer is what is first wrong, line by line:
   refused count          fewer than N lines follow, or something after them
 
 Status: 0 a schedule was printed, 1 the batch was refused or there was no
-memory, 2 the words fit no command, 3 the answer couldn't be written.",
+memory, 2 the arguments are wrong, 3 the answer couldn't be written.",
 };
 
 /// What help says of `check`.
@@ -64,8 +64,8 @@ in the form that `exchange plan --help` shows. The certificate depends on the
 batch alone: for a schedule of your own take the last two lines of
 `exchange plan BATCH`.
 
-The answer is the line `shortest S` where the S settings use each transfer
-once and no link twice at a time, and S distinct transfers are named that all
+The answer is the line `shortest S` where the S settings have each transfer
+once, none of them has a link twice, and S distinct transfers are named that all
 use the link. Then no schedule of the batch has fewer settings.
 
 Else it is the first of these that is wrong. Both files are read first, then
@@ -75,8 +75,8 @@ BATCH is looked at, then SCHEDULE, and then what it says:
   refused schedule line N               line N of SCHEDULE, from 1
   refused no certificate                SCHEDULE has no certificate part
   refused check unknown T               no transfer T
-  refused check repeated T              T stands twice
-  refused check missing T               T stands nowhere
+  refused check repeated T              the settings have T twice
+  refused check missing T               no setting has T
   refused check clash S link E module M two of setting S use the link
   refused check wrong link T            T is named and doesn't use the link
   refused check certificate repeats T   T is named twice
@@ -87,12 +87,12 @@ the certificate is missing or wrong, the line on standard error says whether
 the schedule is valid, and if so how many settings are enough.
 
 Status: 0 it is shortest, 1 it was refused or there was no memory, 2 the
-words fit no command, 3 the answer couldn't be written.",
+arguments are wrong, 3 the answer couldn't be written.",
 };
 
 /// What help says of `draw`.
 pub(crate) const DRAW: CommandHelp = CommandHelp {
-    about: "Draws a schedule of a batch: a picture in SVG, to be looked at in a browser",
+    about: "Draws a schedule of a batch: a picture in SVG, for a browser",
     example: "\
 Example:
   ./exchange draw examples/three-transfers.txt examples/three-transfers.plan.txt > schedule.svg",
@@ -100,7 +100,7 @@ Example:
 BATCH is a batch text and SCHEDULE a schedule text, with the certificate part or
 without it, in the form that `exchange plan --help` shows.
 
-The answer is a picture of the schedule, the text of an SVG file for a browser.
+The answer is a picture of the schedule, the text of an SVG file.
 Each module that takes part has a row, and each setting a column. The upper half
 of a row shows the transfers that link 0 of the module starts, the lower half
 those that link 3 answers. A cell has the number and the colour of the module at
@@ -123,15 +123,15 @@ Else it is the first of these that is wrong:
   refused ..              BATCH, as `exchange plan --help` shows
   refused schedule line N as `exchange check --help` shows
   refused check ..        the same, where SCHEDULE is no schedule of BATCH
-  refused no setting K    A..B has K, and SCHEDULE hasn't
+  refused no setting K    A..B has K, and SCHEDULE doesn't
 
 Status: 0 a picture was printed, 1 it was refused or there was no memory, 2 the
-words fit no command, 3 the answer couldn't be written.",
+arguments are wrong, 3 the answer couldn't be written.",
 };
 
 /// What help says of `switch`.
 pub(crate) const SWITCH: CommandHelp = CommandHelp {
-    about: "Tells a real switch's bytes: what a run of a batch sends over the configuration link",
+    about: "Prints a real switch's bytes: what a run of a batch sends over the configuration link",
     example: "Example:\n  ./exchange switch examples/two-pushes.txt",
     notes: "\
 BATCH is a batch text, in the form that `exchange plan --help` shows. Its
@@ -140,7 +140,7 @@ schedule is that of `exchange plan`, or that of `exchange plan --steady` with
 the certificate part or without it. --workers, --steady and --schedule exclude
 each other.
 
-The answer tells which bytes a run of the schedule sends over the configuration
+The answer has the bytes that a run of the schedule sends over the configuration
 link of an INMOS C004, setting by setting, as pairs of hexadecimal digits:
   setting S 04 ..   the first setting's set a switch, whatever it was, and each
                     later one's change the switch of the setting before
@@ -150,7 +150,7 @@ m on link m of each, and each setting has two lines:
   setting S a ..    the switch of the way from link 0 to link 3
   setting S b ..    the switch of the way back
 A run has two switches where its rack has more than 16 modules, whatever BATCH
-names. Behind each setting it also enquires all outputs, which isn't told here.
+names. After each setting it also enquires all outputs, which isn't shown here.
 With --wiring the links are those of a board with one switch. FILE has a line
 for each of its N modules, by rising numbers, and one before them:
   wiring N
@@ -158,8 +158,9 @@ for each of its N modules, by rising numbers, and one before them:
                                      switch, and link 3 on link B
 with N from 1 to 16, M from 0 to 15, and links from 0 to 31, each of them once.
 A module that isn't there has no line. Where a link of one is on no link of the
-switch, `none` stands for `at A`.
-Where two transfers write one block, which a run refuses, standard error tells.
+switch, write `none` in place of `at A`.
+Two transfers that write one block, which a run refuses, are named on standard
+error.
 
 Else it is the first of these that is wrong. The files are read first:
   refused file            a file can't be read
@@ -172,16 +173,16 @@ Else it is the first of these that is wrong. The files are read first:
   refused check ..        the same, where FILE has no schedule of BATCH
 
 Status: 0 the bytes were printed, 1 they were refused or there was no memory,
-2 the words fit no command, 3 the answer couldn't be written.",
+2 the arguments are wrong, 3 the answer couldn't be written.",
 };
 
 /// What help says of `orders`.
 pub(crate) const ORDERS: CommandHelp = CommandHelp {
-    about: "Tells what each module does: what it copies first, and sends and receives in each setting",
+    about: "Prints what each module does: what it copies first, sends and receives, setting by setting",
     example: "Example:\n  ./exchange orders examples/swap.txt",
     notes: "\
-BATCH is a batch text, in the form that `exchange plan --help` shows. Which
-schedule of it the orders are for, `exchange switch --help` tells.
+BATCH is a batch text, in the form that `exchange plan --help` shows.
+`exchange switch --help` says which schedule of it the orders are for.
 
 The answer is the line `modules N settings S`, and for each of the N modules that
 have orders, from the first on:
@@ -194,8 +195,9 @@ have orders, from the first on:
   setting K link L receive block B   or words that come become those of block B
 Words are sent in their order. What a module does over link 0 and link 3 in one
 setting it does side by side: else it may wait for itself. A setting begins when
-all modules are done with the one before. Then the blocks are where BATCH says.
-With --module the answer tells one module alone.
+all modules are done with the one before. In the end each block is where BATCH
+wants it.
+With --module the answer has one module alone.
 
 Else it is the first of these that is wrong. The files are read first:
   refused file            a file can't be read
@@ -205,60 +207,61 @@ Else it is the first of these that is wrong. The files are read first:
   refused overlap I J     transfers I and J write one block
 
 Status: 0 the orders were printed, 1 they were refused or there was no memory,
-2 the words fit no command, 3 the answer couldn't be written.",
+2 the arguments are wrong, 3 the answer couldn't be written.",
 };
 
 /// What help says of `drive`.
 pub(crate) const DRIVE: CommandHelp = CommandHelp {
-    about: "Sets a real switch: sends its bytes setting by setting, and asks it whether each stands",
+    about: "Sets a real switch: sends its bytes setting by setting, and asks what it has joined",
     example: "\
 Example: a driver and a switch of this program, with two pipes between them:
   rm -f board.in board.out; mkfifo board.in board.out
   ./exchange c004 < board.in > board.out &
   ./exchange drive examples/three-transfers.txt board --go-on",
     notes: "\
-BATCH is a batch text, in the form that `exchange plan --help` shows. Which
-schedule of it is driven, where there are two switches, and what --wiring is,
-`exchange switch --help` tells. PORT is the way to the only switch, or to switch
+BATCH is a batch text, in the form that `exchange plan --help` shows.
+`exchange switch --help` says which schedule of it is driven, when there are two
+switches, and what --wiring is. PORT is the way to the only switch, or to switch
 a, and PORT_B that to switch b: a device of a link adaptor, which is opened to
 read and write; or, where PORT.in and PORT.out are there, two named pipes, of
 which PORT.in goes to the switch. It is opened first, and each pipe waits for
 its other end.
 
-First each switch comes up: what was begun at it is ended, it is reset, and old
-answers that stand in the line are read, up to 31. Then, setting by setting, the
-bytes are sent that `exchange switch` tells, and each output is enquired; a reply
-is read and judged before the next command is sent. Behind the last one 03 is
-sent again. Once all outputs have answered as the setting calls for, this is told:
-  setting K t t ..   setting K stands, from 0; these transfers may move in it
-A setting that joins what stands already is told at once: nothing is sent for it.
-Behind each a line of standard input is waited for, whatever it says: it tells
-that their blocks have moved. With --go-on nothing is waited for. With --from K
-the first setting is setting K, set as from a reset; K is 0 to 999999999.
+First each switch comes up: a command that was begun is ended, the switch is
+reset, and up to 31 old answers that are on their way are read. Then, setting by
+setting, the bytes are sent that `exchange switch` prints, and each output is
+enquired; a reply is read and judged before the next command is sent. After the
+last one 03 is sent again. Once all outputs have answered as the setting needs,
+this is printed:
+  setting K t t ..   setting K is set, from 0; these transfers may move now
+Where a setting joins what is joined already, nothing is sent, and the line
+comes at once. After each line a line of standard input is read, whatever it says: it
+means that these blocks have moved. With --go-on none is read. With --from K the
+first setting is setting K, set as after a reset; K is 0 to 999999999.
 
 The last line says how it ended. The switches are left as they are:
-  driven settings S            all S settings stood, one after the other
+  driven settings S            all S settings were set, one after the other
   stopped setting K port       a byte couldn't be sent, or a reply didn't come
   stopped setting K switch O   output O of setting K answered otherwise; those
                                of switch b are counted from 32
-  stopped setting K input      setting K stands, but no line could be read
-  left setting K               setting K stands, and standard input ended
+  stopped setting K input      setting K is set, but no line could be read
+  left setting K               setting K is set, and standard input ended
 Standard error says more of what stopped it. A switch that says nothing is
 waited for without end, and a terminal that isn't raw alters bytes and may hold
-them. Both are settled before, for a device:
+them back. For a device, settle both first:
   stty -F PORT raw -echo min 0 time 20
 
 Else nothing is sent, and the answer is the first of these that is wrong:
   refused file            a file can't be read, or PORT leads to one that is read
   refused ..              a file, as `exchange switch --help` shows
   refused no setting K    --from names setting K, which the schedule doesn't have
-  refused ports W         W ports are wanted: 2 where BATCH names a module above
+  refused ports W         W ports are needed: 2 where BATCH names a module above
                           15, else 1
   refused port a          PORT can't be opened, or is a plain file with something
                           in it; `port b`: PORT_B
 
-Status: 0 all settings stood, 1 they didn't, or it was refused or there was no
-memory, 2 the words fit no command, 3 standard output couldn't be written.",
+Status: 0 all settings were set, 1 they weren't, it was refused, or there was no
+memory, 2 the arguments are wrong, 3 standard output couldn't be written.",
 };
 
 /// What help says of `c004`.
@@ -281,11 +284,11 @@ those of a link, from 0 to 31 as a byte:
   05 O     output O isn't fed
   06 I O   neither output O nor output I is
 At first no output is fed. A byte that is no command, or no input or output, is
-dropped, with what stands before it in its command, and a line on standard error
-tells of it. --quiet leaves that line out.
+dropped, with what comes before it in its command, and a line on standard error
+says so. --quiet leaves that line out.
 
 Status: 0 standard input ended, 1 it couldn't be read any further, or there was
-no memory, 2 the words fit no command, 3 an answer couldn't be written.",
+no memory, 2 the arguments are wrong, 3 an answer couldn't be written.",
 };
 
 /// What help says of `direct`.
@@ -313,7 +316,7 @@ Else it is the first of these that is wrong:
   refused count          fewer than N lines follow, or something after them
 
 Status: 0 a batch was printed, 1 the moves were refused or there was no memory,
-2 the words fit no command, 3 the answer couldn't be written.",
+2 the arguments are wrong, 3 the answer couldn't be written.",
 };
 
 /// What help says of `apply`.
@@ -338,7 +341,7 @@ Else no image is printed, and the answer is the first of these that is wrong:
   refused overlap I J   transfers I and J write one block
 
 Status: 0 the image was printed, 1 it was refused or there was no memory, 2 the
-words fit no command, 3 the answer couldn't be written.",
+arguments are wrong, 3 the answer couldn't be written.",
 };
 
 /// What help says of `run`.
@@ -348,14 +351,14 @@ pub(crate) const RUN: CommandHelp = CommandHelp {
     notes: "\
 SHAPE is MxKxW: M modules, from 1 to 32, each of K blocks, from 1 to 64, each
 of W words, from 1 to 256. BATCH is a batch text, in the form that
-`exchange plan --help` shows, with modules below M and blocks below K. By which
-schedule it is run, `exchange switch --help` tells.
+`exchange plan --help` shows, with modules below M and blocks below K.
+`exchange switch --help` says by which schedule it is run.
 
 Word j of block b of module m is 65536 m + 256 b + j before the run, or that of
 the image where there is one. The answer is the line
 `ran settings S words X bits Y`: how many settings the switches had, how many
 words were moved, and how many bits went over the links for them. With --steady
-or --schedule a second line tells how often the switch changed, the first
+or --schedule a second line says how often the switch changed, the first
 setting counted:
   changes N
 Then comes each block that was written, by module and then by block:
@@ -370,11 +373,11 @@ Else nothing is run, and the answer is the first of these that is wrong:
   refused image L W       the image has L bytes, and the shape wants W
   refused overlap I J     transfers I and J write one block
 Such a batch isn't run: the result would depend on which transfer came last. Of
-several such pairs the one with the smallest I is told, then the smallest J. A
-block may be read and written: moved is what it held before the run.
+several such pairs the one with the smallest I is printed, then the smallest J.
+A block may be read and written: what it held before the run is moved.
 
 Status: 0 the batch was run, 1 it was refused or there was no memory, 2 the
-words fit no command, 3 the answer couldn't be written.",
+arguments are wrong, 3 the answer couldn't be written.",
 };
 
 /// What help says of `serve`.
@@ -384,28 +387,28 @@ pub(crate) const SERVE: CommandHelp = CommandHelp {
     notes: "\
 SHAPE is MxKxW, in the form that `exchange run --help` shows. Each SCRIPT is a
 file of session lines; 1 to 16 of them are served at once, each in a thread of
-its own where one can be had. They share one rack, whose words are at first 0,
-or those of the image. Whose line comes first isn't fixed.
+its own where the system has one. They share one rack, whose words are at first
+0, or those of the image. Whose line comes first isn't fixed.
 
 A line has at most 80 bytes, and single spaces between its words. It is answered
 by one line:
-  batch N      takes the N batch lines behind it, N up to 4096: accepted ID
+  batch N      takes the N batch lines after it, N up to 4096: accepted ID
   plan ID      plans the batch: planned ID settings S
   run ID       runs its plan: ran ID run R settings S words X bits Y
-  show ID      how it stands: batch ID transfers N waiting, or planned, or ran
+  show ID      gives its state: batch ID transfers N waiting, or planned, or ran
   drop ID      forgets the batch: dropped ID
   peek M A     reads the word of module M at address A: word D
   poke M A D   writes D there: poked
-  progress     how far the last run is: progress run R done SETTINGS
+  progress     says how far the last run is: progress run R done SETTINGS
   bye          ends the session: bye
 Batches and runs are numbered from 1, those of all sessions together: so let one
 script alone hand batches in. A batch is its session's own, and is run once. A
 and D are eight hexadecimal digits in lower case. Word j of block b is at
 address 80000800 + 4 (W b + j), in hexadecimal digits.
 
-The answer is, for each script in the order of the words, the line `session I`,
-with I from 0, and then the lines that its own are answered by. A line may be
-refused; then nothing has changed, and the session goes on:
+The answer is, for each script in the order given, the line `session I`, with I
+from 0, and then the lines that answer its own. A line may be refused. Then
+nothing has changed, and the session goes on:
   refused line               the line has another form
   refused ..                 the batch, as `exchange plan --help` shows, in
                              this rack; its lines count from the line `batch N`
@@ -440,7 +443,7 @@ Else nothing is served, and the answer is the first of these that is wrong:
   refused image L W          the image has L bytes, and the shape wants W
 
 Status: 0 each session ended with its script or by `bye`, 1 one of them didn't,
-or nothing was served, or there was no memory, 2 the words fit no command, 3 the
+or nothing was served, or there was no memory, 2 the arguments are wrong, 3 the
 answer, the record or the image couldn't be written.",
 };
 
@@ -465,18 +468,18 @@ whose words are at first 0, or those of the image where there is one. Lines and
 replies are those that `exchange serve --help` shows. Each reply is written as
 soon as it is there, and before the client's next line is read.
 
-What a client says is read from CLIENT.in, and what it is told is written to
-CLIENT.out. Mostly both are named pipes. Plain files work too: CLIENT.out is
+What a client says is read from CLIENT.in, and its replies are written to
+CLIENT.out. Usually both are named pipes. Plain files work too: CLIENT.out is
 made where it isn't there, and emptied. CLIENT.in is opened first, and each
 pipe waits for its client: so let a client open its CLIENT.in before its
-CLIENT.out. A client that comes late, or never, holds no other; the host ends
+CLIENT.out. A client that comes late, or never, holds no other up; the host ends
 when all sessions have ended. A name may have a path before it. It can't be
-empty, have a line feed or stand twice.
+empty or have a line feed, and no two clients have one name.
 
-The answer comes at the end: for each client, in the order of the words, the
-line `session I CLIENT`, with I from 0. Where a session didn't end with its
-CLIENT.in or by `bye` another line follows, which `exchange serve --help`
-shows, and here they mean:
+The answer comes at the end: for each client, in the order given, the line
+`session I CLIENT`, with I from 0. Where a session didn't end with its CLIENT.in
+or by `bye` another line follows, which `exchange serve --help` shows. Here they
+mean:
   ended open    CLIENT.in or CLIENT.out can't be opened: it asked nothing
   ended cut     the client went away within a line or within a batch
   ended read    CLIENT.in can't be read any further
@@ -484,13 +487,13 @@ shows, and here they mean:
   ended record  the record couldn't be written: no call is made any more
 
 --record writes each call with its reply, in the form that
-`exchange replay --help` shows, before the reply is told. FILE has to be empty,
+`exchange replay --help` shows, before the reply is sent. FILE has to be empty,
 or not to be there, or to have no more than the head; else it stays as it was. A
-host that is killed leaves all that was told, and no line `end`. With --resume
-FILE may have what such a host left, if that had the same SHAPE, image and
-CLIENT words: its calls are made again, what isn't whole is cut off, and the
+host that is killed leaves all that was answered, and no line `end`. With
+--resume FILE may have what such a host left, if that had the same SHAPE, image
+and clients: its calls are made again, what isn't whole is cut off, and the
 clients go on where it ends, each in the session of its place. With --sync a
-reply is told once its entry is on the disk; each call then waits for that.
+reply is sent once its entry is on the disk; each call then waits for that.
 --image-out writes the words at the end, in the form that
 `exchange apply --help` shows, to a new file that then takes the name FILE.
 
@@ -502,12 +505,12 @@ answer is the first of these that is wrong:
   refused shape      SHAPE is no shape
   refused image L W  the image has L bytes, and the shape wants W
   refused file       FILE has more than the head, and --resume isn't there
-  refused record ..  FILE can't be gone on with, as `exchange replay --help` shows
+  refused record ..  FILE can't be continued, as `exchange replay --help` shows
   refused threads    the system has no thread for each client
 
 Status: 0 each session ended with its CLIENT.in or by `bye`, 1 one of them
-didn't, or nobody was served, or there was no memory, 2 the words fit no
-command, 3 the answer, the record or the image couldn't be written.",
+didn't, or nobody was served, or there was no memory, 2 the arguments are
+wrong, 3 the answer, the record or the image couldn't be written.",
 };
 
 /// What help says of `talk`.
@@ -523,17 +526,17 @@ rack are at first 0, or those of the image where there is one. The session's
 lines are read from standard input, and each is answered on standard output
 before the next is read. So the image can't be `-`. The lines are
   batch N, plan ID, run ID, show ID, drop ID, peek M A, poke M A D, progress, bye
-`exchange serve --help` says what each does, and what it is answered by.
+`exchange serve --help` says what each does, and how it is answered.
 
 The session ends with the input or by `bye`; where it doesn't, its last line is
-`ended ..`, as `exchange serve --help` shows. Of --record, --resume, --sync and
---image-out `exchange host --help` tells.
+`ended ..`, as `exchange serve --help` shows. `exchange host --help` explains
+--record, --resume, --sync and --image-out.
 
 Else no line is read and no call of yours is made, and the answer is what is
-first wrong, as `exchange host --help` shows; but no threads are wanted.
+first wrong, as `exchange host --help` shows; but no threads are needed.
 
 Status: 0 the session ended with its input or by `bye`, 1 it didn't, or it was
-refused, or there was no memory, 2 the words fit no command, 3 the answer, the
+refused, or there was no memory, 2 the arguments are wrong, 3 the answer, the
 record or the image couldn't be written.",
 };
 
@@ -549,8 +552,8 @@ head, entries, and the line `end`. The head is
   client NAME          N such lines: the clients of `host`, in their order
 An entry is
   S CALL   what session S, from 0, asked: a line of a session, as
-           `exchange serve --help` shows, and behind `batch N` its N lines
-  REPLY    the line that it was answered by
+           `exchange serve --help` shows, and after `batch N` its N lines
+  REPLY    the line that answered it
 But `plan ID` is two calls: `fetch ID`, which is answered by `fetched`, and
 `settle ID`, which is answered as `plan ID` is. `progress` and `bye` are none,
 nor is a line that was refused for its form, or a batch that a session couldn't
@@ -559,12 +562,12 @@ hand in. A record may have a batch that names more than the rack has: its
 
 The calls are made again, one after the other, on a rack whose words are at
 first 0, or those of the image where there is one. Each reply is compared with
-the record's. Where `settle ID` stands the batch is planned again: no plan is in
-a record, and no reply depends on which it was. The answer is the image of the
+the record's. At `settle ID` the batch is planned again: no plan is in a record,
+and no reply depends on which it was. The answer is the image of the
 words that are left, in the form that `exchange apply --help` shows, and it is
 what --image-out wrote beside RECORD. A host may be writing it still, or was
 killed: then the last entry may be cut off, and there is no line `end`. What is
-whole is replayed, and a line on standard error tells how much that is. With
+whole is replayed, and a line on standard error says how much that is. With
 --first E the first E entries are replayed, and no more is looked at.
 
 Else the answer is the first of these that is wrong. The files are read first:
@@ -573,14 +576,14 @@ Else the answer is the first of these that is wrong. The files are read first:
   refused record head     there is no head, or it is cut off, or it has another
                           shape than SHAPE, or the sum of another image
   refused image L W       the image has L bytes, and the record's shape wants W
-  refused record call E   E entries are right, and no call stands behind them
-  refused record reply E  E entries are right, and the call behind them is
-                          answered by another line
-  refused record more     something stands behind the line `end`
-The line on standard error says what stands there, and what is due.
+  refused record call E   E entries are right, and no call comes after them
+  refused record reply E  E entries are right, and the call after them has
+                          another answer
+  refused record more     something comes after the line `end`
+The line on standard error says what is there, and what is expected.
 
 Status: 0 the image was printed, 1 the record was refused or there was no
-memory, 2 the words fit no command, 3 the answer couldn't be written.",
+memory, 2 the arguments are wrong, 3 the answer couldn't be written.",
 };
 
 /// What help says of the program, below the commands too.
@@ -589,17 +592,17 @@ pub(crate) const PROGRAM: CommandHelp = CommandHelp {
     example: "Example:\n  ./exchange run 3x2x2 examples/two-pushes.txt",
     notes: "\
 `exchange plan --help` shows the form of a batch. Where a file's name is `-`,
-standard input is read; of a command's files one at most may be that. How many
-modules, blocks and words there may be, `exchange run --help` tells; how many
-transfers, `exchange plan --help`; and how long a session may be,
-`exchange serve --help`.
+standard input is read; of a command's files one at most may be that.
+`exchange run --help` says how many modules, blocks and words there may be,
+`exchange plan --help` how many transfers, and `exchange serve --help` how long
+a session may be.
 
 A refusal is one line on standard output. A second line, on standard error, says
-which file and line it is about, what stands there, and what is wanted. Each
+which file and line it is about, what is there, and what is expected. Each
 command takes --quiet, which leaves the second line out.
 
 Status: 0 the answer is there, 1 a refusal, whose one line says what is wrong,
-or a session that ended badly, 2 the words fit no command, 3 the answer, a
+or a session that ended badly, 2 the arguments are wrong, 3 the answer, a
 record or an image couldn't be written.",
 };
 
@@ -616,24 +619,24 @@ pub(crate) fn help_on(argument: Argument) -> &'static str {
         Argument::Record => "The file of the record, or - for standard input",
         Argument::Shaped => "The shape that the record has to have",
         Argument::Resume => "Go on where that file ends, if it has a record already",
-        Argument::Sync => "Tell a reply only once its entry is on the disk",
+        Argument::Sync => "Send a reply only once its entry is on the disk",
         Argument::Entries => "How many of its entries to replay",
         Argument::Scripts => "A file of session lines, or - for standard input",
         Argument::Clients => "The name of a client, whose files are CLIENT.in and CLIENT.out",
         Argument::ImageIn =>
             "The file of the words before, an image as `exchange apply --help` shows",
         Argument::RecordOut => "The file for the record of all sessions' calls",
-        Argument::ImageOut => "The file for the image of the words behind all sessions",
+        Argument::ImageOut => "The file for the image of the words after all sessions",
         Argument::Settings => "The settings to draw, A to B, counted from 0",
         Argument::Scheduled => "The file of its schedule, or - for standard input",
         Argument::Wiring => "The file of the board's wiring, or - for standard input",
         Argument::First => "The setting of the schedule to begin with, counted from 0",
-        Argument::Module => "The module whose orders are wanted, from 0 to 31",
+        Argument::Module => "The module whose orders to print, from 0 to 31",
         Argument::Steady => "Plan so that the switch changes seldom",
-        Argument::GoOn => "Wait for no line of standard input behind a setting",
+        Argument::GoOn => "Wait for no line of standard input after a setting",
         Argument::Workers => "\
 How many workers there may be, from 1 to 64. Any number gives the
-same answer; one is mostly quickest",
-        Argument::Quiet => "Tell nothing on standard error beside a refusal",
+same answer; one is usually quickest",
+        Argument::Quiet => "Print nothing on standard error beside a refusal",
     }
 }

@@ -126,5 +126,5 @@ IsUnwrittenTold (Answer error lost) before after = ⊤
 IsUnwrittenTold Nowhere before after = after ≡ before
 IsUnwrittenTold (Setting (Some error)) before after = ⊤
 IsUnwrittenTold (Setting None) before after =
-    IsToldInPart before after (codes "exchange: a setting that stands can't be told\n")
+    IsToldInPart before after (codes "exchange: a setting that is set can't be printed\n")
 IsUnwrittenTold (Kept lost) before after = IsLostTold lost before after

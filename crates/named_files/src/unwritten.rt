@@ -45,11 +45,11 @@ impl Unwritten {
             Unwritten::Nowhere => {}
             Unwritten::Setting(Some(error)) => {
                 let _ = err.writeln(format_args!(
-                    "exchange: a setting that stands can't be told: {error}"
+                    "exchange: a setting that is set can't be printed: {error}"
                 ));
             }
             Unwritten::Setting(None) => tell_line(
-                b"exchange: a setting that stands can't be told\n",
+                b"exchange: a setting that is set can't be printed\n",
                 err,
             ),
             Unwritten::Kept(lost) => lost.tell(err),

@@ -172,7 +172,7 @@ impl<'a> Display for Difference<'a> {
     fn fmt<W: Write>(&self, f: &mut Formatter<W>) -> fmt::Result {
         match *self {
             Difference::Moves => {
-                f.write_str("a text of moves begins so, and \"direct\" makes a batch of it")
+                f.write_str("a text of moves begins like this; \"direct\" makes a batch of it")
             }
             Difference::Stops(1, _, []) => f.write_str("the line is empty"),
             Difference::Stops(at, due, rest) => {
@@ -180,7 +180,7 @@ impl<'a> Display for Difference<'a> {
                 write_stop(f, due, rest)
             }
             Difference::Taken(port, line) => {
-                write!(f, "link {port} of the switch stands on line {line} already")
+                write!(f, "link {port} of the switch is on line {line} already")
             }
         }
     }
@@ -193,23 +193,26 @@ fn write_stop<W: Write>(f: &mut Formatter<W>, due: Due, rest: &[u8]) -> fmt::Res
         (Due::Number, [b'1'..=b'9', ..]) => {
             return f.write_str("a number has more than nine digits");
         }
-        (_, [b'\r']) => return f.write_str("a carriage return stands before the line's end"),
+        (_, [b'\r']) => return f.write_str("there is a carriage return before the end of the line"),
         (Due::Hex8, [_, ..]) => {
-            return f.write_str("eight digits 0 to 9 and a to f have to stand");
+            return f.write_str("eight digits 0 to 9 or a to f are expected");
         }
-        (_, []) => f.write_str("the line's end")?,
-        (_, [b'\t', ..]) => f.write_str("a tab")?,
-        (_, [b'\r', ..]) => f.write_str("a carriage return")?,
-        (_, [b' ', ..]) => f.write_str("a space")?,
-        (_, [b'#', ..]) => f.write_str("a comment")?,
-        (_, [0xef, 0xbb, 0xbf, ..]) => f.write_str("a byte order mark")?,
-        (_, [byte, ..]) => write!(f, "{}", Quote::of(&[*byte]))?,
+        _ => f.write_str("there is ")?,
+    }
+    match rest {
+        [] => f.write_str("the end of the line")?,
+        [b'\t', ..] => f.write_str("a tab")?,
+        [b'\r', ..] => f.write_str("a carriage return")?,
+        [b' ', ..] => f.write_str("a space")?,
+        [b'#', ..] => f.write_str("a comment")?,
+        [0xef, 0xbb, 0xbf, ..] => f.write_str("a byte order mark")?,
+        [byte, ..] => write!(f, "{}", Quote::of(&[*byte]))?,
     }
     match due {
-        Due::Byte(b' ') => f.write_str(" stands where a space has to"),
-        Due::Byte(byte) => write!(f, " stands where {} has to", Quote::of(&[byte])),
-        Due::Number => f.write_str(" stands where a number has to"),
-        Due::Hex8 => f.write_str(" stands where eight digits have to"),
-        Due::End => f.write_str(" stands where the line's end has to"),
+        Due::Byte(b' ') => f.write_str(" instead of a space"),
+        Due::Byte(byte) => write!(f, " instead of {}", Quote::of(&[byte])),
+        Due::Number => f.write_str(" instead of a number"),
+        Due::Hex8 => f.write_str(" instead of eight digits"),
+        Due::End => f.write_str(" instead of the end of the line"),
     }
 }

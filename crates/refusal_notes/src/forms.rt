@@ -64,7 +64,7 @@ pub(crate) const MODULE: &[Form] = &[(
         Port("link 0", "A"),
         Port("link 3", "B"),
     ],
-    ", where M rises from line to line up to 15, A and B are 0 to 31 and stand nowhere else, and \"none\" may stand for \"at A\" or \"at B\"",
+    ", where M rises from line to line up to 15, A and B are 0 to 31, each used once, and \"none\" may replace \"at A\" or \"at B\"",
 )];
 
 /// The link of a certificate.

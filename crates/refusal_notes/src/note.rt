@@ -94,13 +94,13 @@ impl<'a> LineNote<'a> {
             (Some(_), _) => &[Piece::Place, Text(": "), Number(Above),
                 Text(" transfers; a batch has at most 4096")],
             _ if is_missing && self.number <= 1 => &[Piece::Place,
-                Text(": the text is empty; wanted is "), Piece::Wanted],
-            _ if is_missing => &[Piece::Place, Text(": the text ends above this line; wanted is "),
+                Text(": the text is empty; expected "), Piece::Wanted],
+            _ if is_missing => &[Piece::Place, Text(": the text ends before this line; expected "),
                 Piece::Wanted],
             (_, Wanted::End | Wanted::RecordEnd) => &[Piece::Place, Text(": "), Piece::Quote,
-                Text(" stands behind the last line; nothing may follow")],
+                Text(" comes after the last line; nothing may follow")],
             (_, Wanted::RecordHead) => &[Piece::Place, Text(": "), Piece::Quote,
-                Text(" begins no record of this rack; wanted is "), Piece::Wanted],
+                Text(" doesn't begin a record of this rack; expected "), Piece::Wanted],
             _ => self.difference_sentence(),
         }
     }
@@ -110,11 +110,11 @@ impl<'a> LineNote<'a> {
     fn difference_sentence(&self) -> &'static [Piece] {
         match (self.difference(), self.is_ended) {
             (Some(_), _) => &[Piece::Place, Text(": "), Piece::Quote, Text(": "), Piece::Difference,
-                Text("; wanted is "), Piece::Wanted],
+                Text("; expected "), Piece::Wanted],
             (None, true) => &[Piece::Place, Text(": "), Piece::Quote, Text(" isn't "),
                 Piece::Wanted],
             (None, false) => &[Piece::Place, Text(": "), Piece::Quote,
-                Text(" with no line feed isn't "), Piece::Wanted],
+                Text(" without a line feed isn't "), Piece::Wanted],
         }
     }
 
@@ -123,7 +123,7 @@ impl<'a> LineNote<'a> {
     pub(crate) fn sent(&self) -> &'static [Piece] {
         match (self.quote.bytes, self.difference()) {
             (b"help", _) => &[Piece::Quote,
-                Text(" isn't a line of a session; \"exchange talk --help\" tells them")],
+                Text(" isn't a line of a session; \"exchange talk --help\" lists them")],
             (b"quit", _) => &[Piece::Quote, Text(" isn't a line of a session; \"bye\" ends it")],
             (_, Some(Difference::Stops(1, ..)) | None) => &[Piece::Quote,
                 Text(" isn't a line of a session: "), Piece::Wanted],

@@ -70,7 +70,7 @@ pub fn file_line(alloc: Global, name: &str, reason: &str) -> Option<String>
         None => reason,
     };
     let hint = match Shape::read(name.as_bytes()) {
-        Ok(_) => "; where a command takes a shape, that stands before the files",
+        Ok(_) => "; where a command takes a shape, it comes before the files",
         Err(_) => "",
     };
     let words = format!(in alloc; "{named}: {reason}{hint}").ok()?;

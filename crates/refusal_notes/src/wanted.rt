@@ -16,7 +16,7 @@ const _: () = prove!(MAX_MODULES == 32 && PORTS == 32 && JOINED_MODULES == 16);
 
 /// The first line of a record, and what goes on behind it.
 const RECORD_HEAD: &str =
-    "\"record MxKxW SUM N\", where MxKxW is its shape, SUM the sum of its image, of eight digits, and N counts the lines \"client NAME\" behind it";
+    "\"record MxKxW SUM N\", where MxKxW is its shape, SUM the sum of its image, of eight digits, and N counts the lines \"client NAME\" after it";
 
 /// The call of an entry of a record.
 const CALL: &str =
@@ -121,7 +121,7 @@ impl<'a> Display for Wanted<'a> {
             }
             Wanted::Sent => write!(f, "{}, where {RULES}", English(forms::SENT)),
             Wanted::Reply(e, due) => write!(f, "the reply of entry {e}, {due}"),
-            Wanted::End | Wanted::RecordEnd => f.write_str("the text's end"),
+            Wanted::End | Wanted::RecordEnd => f.write_str("the end of the text"),
             _ => write!(f, "{}", English(self.forms())),
         }
     }
