@@ -24,9 +24,9 @@ HEAD_WANTED = (
     '"record MxKxW SUM N", where MxKxW is its shape, SUM the sum of its image, of eight digits, and N counts the lines "client NAME" after it'
 )
 CALL_WANTED = (
-    '"S CALL", where S is the number of a session, below N if the head names N clients, CALL is "batch N" and the batch\'s lines, "fetch ID", '
-    '"settle ID", "run ID", "show ID", "drop ID", "peek M A" or "poke M A D", ID is the number of a batch, M a module, A an address and D a '
-    f"word, of eight digits 0 to 9 and a to f each: {ENDED}"
+    '"S CALL", where S is the number of a session, below the number of clients if the head names any, CALL is "batch N" and the batch\'s '
+    'lines, "fetch ID", "settle ID", "run ID", "show ID", "drop ID", "peek M A" or "poke M A D", ID is the number of a batch, M a module, A an '
+    f"address and D a word, of eight digits 0 to 9 and a to f each: {ENDED}"
 )
 
 
@@ -334,9 +334,10 @@ def made(draw, shape, sessions, count):
     return entries
 
 
-def spelled(shape, entries, ended=True):
-    """The record of these entries on a rack that begins with zeros, with its end or without it."""
-    return head_of(shape, Exchange(shape).image(), []) + b"".join(entries) + (END if ended else b"")
+def spelled(shape, entries, clients, ended=True):
+    """The record of these entries on a rack that begins with zeros, by so many clients with names, with its end or without it."""
+    names = [f"client-{number}" for number in range(clients)]
+    return head_of(shape, Exchange(shape).image(), names) + b"".join(entries) + (END if ended else b"")
 
 
 def other_word(draw, entry):
@@ -349,8 +350,9 @@ def other_word(draw, entry):
 
 def spoilt(draw, shape, entries):
     """A record of a rack of this shape to which something was done, or nothing: a word of a reply changed, two entries exchanged, one left out, one
-    twice, one of another session; any bytes of it; its end left out, or more; or the head of another rack."""
-    entries, what = list(entries), draw.randrange(10)
+    twice, one of another session; any bytes of it; its end left out, or more; or the head of another rack. Its head may name clients, maybe fewer
+    than it has sessions."""
+    entries, what, clients = list(entries), draw.randrange(10), draw.choice([0, 0, 2, 3])
     one, other = draw.randrange(len(entries)), draw.randrange(len(entries))
     if what == 0:
         entries[one] = other_word(draw, entries[one])
@@ -363,10 +365,10 @@ def spoilt(draw, shape, entries):
     elif what == 4:
         entries[one] = b"%d %b" % (draw.randrange(4), entries[one].partition(b" ")[2])
     elif what < 7:
-        return spoil.spoil(draw, spelled(shape, entries))
+        return spoil.spoil(draw, spelled(shape, entries, clients))
     elif what < 9:
-        text = spelled(shape, entries)
+        text = spelled(shape, entries, clients)
         return text[: draw.randrange(len(text) + 1)]
     elif draw.random() < 0.5:
         shape = (shape[0] + 1, *shape[1:])
-    return spelled(shape, entries, draw.random() < 0.8)
+    return spelled(shape, entries, clients, draw.random() < 0.8)
