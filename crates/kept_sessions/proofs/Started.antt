@@ -1,11 +1,12 @@
 -- How live sessions begin.
-use Rattle.std.proofs.Common.{◌≡◌, ◌≢◌, ◌⊎◌, ◌∙◌, ◌++◌, ◌∷◌, rules, arith, ℕ, Bool, List, [], Option, Some, None, IfSome, IfOk, IfErr, Result, Ok, Err, true, false, is_some, append-nil, ap, inl, inr, sym, subst, refl, take}
+use Rattle.std.proofs.Common.{◌≡◌, ◌≢◌, ◌⊎◌, ◌∙◌, ◌++◌, ◌∷◌, rules, arith, ℕ, Bool, List, [], Option, Some, None, IfSome, IfOk, IfErr, Result, Ok, Err, true, false, is_some, append-nil, ap, inl, inr, length, sym, subst, refl, take}
 use Rattle.std.specs.Prelude.{option_map}
 use Rattle.clap.specs.Words.{Text}
 use Rattle.module_memory.specs.Store.{Store}
 use Rattle.batch_book.specs.History.{Account, AreUnstopped, IsLegal, new_account}
 use Rattle.batch_book.specs.Machine.{opened}
 use Rattle.plan_answers.specs.Refusals.{Refuses}
+use Rattle.book_record.specs.Heads.{session_limit}
 use Rattle.rack_answers.specs.Openings.{IsRackOf, IsWrongRack}
 use Rattle.refusals.specs.declared.refusal.Refusal.{Refusal}
 use Rattle.refusals.specs.declared.refusal.Refusal.TheVariants.{NoMemory}
