@@ -24,9 +24,9 @@ HEAD_WANTED = (
     '"record MxKxW SUM N", where MxKxW is its shape, SUM the sum of its image, of eight digits, and N counts the lines "client NAME" after it'
 )
 CALL_WANTED = (
-    '"S CALL", where S is the number of a session, CALL is "batch N" and the batch\'s lines, "fetch ID", "settle ID", "run ID", "show ID", '
-    '"drop ID", "peek M A" or "poke M A D", ID is the number of a batch, M a module, A an address and D a word, of eight digits 0 to 9 and '
-    f"a to f each: {ENDED}"
+    '"S CALL", where S is the number of a session, below the number of clients if the head names any, CALL is "batch N" and the batch\'s '
+    'lines, "fetch ID", "settle ID", "run ID", "show ID", "drop ID", "peek M A" or "poke M A D", ID is the number of a batch, M a module, A an '
+    f"address and D a word, of eight digits 0 to 9 and a to f each: {ENDED}"
 )
 
 
@@ -186,13 +186,18 @@ def is_transfer(line):
         return False
 
 
-def call_has_begun(rest):
-    """Whether a rest is a front of a session's number and a call, but not the whole of them."""
+def limit_of(names):
+    """The numbers of a record's sessions are below this, whose head has these names."""
+    return len(names) or ANY
+
+
+def call_has_begun(rest, limit):
+    """Whether a rest is a front of a session's number, which is below a limit, and a call, but not the whole of them."""
     first, feed, more = rest.partition(b"\n")
     if not feed:
-        return any(is_front(first, [ANY, *form]) for form in FORMS)
+        return any(is_front(first, [limit, *form]) for form in FORMS)
     head = SUBMITTED.match(rest)
-    if not head or int(head[2]) > plain.TRANSFERS:
+    if not head or int(head[1]) >= limit or int(head[2]) > plain.TRANSFERS:
         return False
     *lines, last = more.split(b"\n")
     return len(lines) < int(head[2]) and all(is_transfer(line) for line in lines) and any(is_front(last, form) for form in TRANSFERS)
@@ -250,7 +255,7 @@ class Replay:
         if zlib.adler32(self.exchange.image()) != total:
             raise Misrecorded("head", text, 0, HEAD_WANTED)
         while first is None or len(self.entries) < first:
-            if END.startswith(text[at:]) or text.startswith(END, at) or call_has_begun(text[at:]):
+            if END.startswith(text[at:]) or text.startswith(END, at) or call_has_begun(text[at:], limit_of(self.names)):
                 break
             end = self.entry(text, at, len(self.entries))
             if end is None:
@@ -265,9 +270,11 @@ class Replay:
     def entry(self, text, at, number):
         """Replays the entry that stands there, and says where it ends. Where its reply is cut off, nothing is done, and it ends nowhere."""
         found = entry_at(text, at)
-        if not found:
+        if not found or found[0] >= limit_of(self.names):
             fault = Misrecorded(f"call {number}", text, at, f"the call of entry {number}, {CALL_WANTED}")
-            fault.line, fault.told = wrong_in_batch(text, at) or (fault.line, fault.told)
+            session = SESSION.match(text, at)
+            if session and int(session[1]) < limit_of(self.names):
+                fault.line, fault.told = wrong_in_batch(text, at) or (fault.line, fault.told)
             raise fault
         session, answer, named, begin, end = found
         before = None if b"\n" in text[end : end + 200] else copy.deepcopy(self.exchange)
@@ -327,9 +334,10 @@ def made(draw, shape, sessions, count):
     return entries
 
 
-def spelled(shape, entries, ended=True):
-    """The record of these entries on a rack that begins with zeros, with its end or without it."""
-    return head_of(shape, Exchange(shape).image(), []) + b"".join(entries) + (END if ended else b"")
+def spelled(shape, entries, clients, ended=True):
+    """The record of these entries on a rack that begins with zeros, by so many clients with names, with its end or without it."""
+    names = [f"client-{number}" for number in range(clients)]
+    return head_of(shape, Exchange(shape).image(), names) + b"".join(entries) + (END if ended else b"")
 
 
 def other_word(draw, entry):
@@ -342,8 +350,9 @@ def other_word(draw, entry):
 
 def spoilt(draw, shape, entries):
     """A record of a rack of this shape to which something was done, or nothing: a word of a reply changed, two entries exchanged, one left out, one
-    twice, one of another session; any bytes of it; its end left out, or more; or the head of another rack."""
-    entries, what = list(entries), draw.randrange(10)
+    twice, one of another session; any bytes of it; its end left out, or more; or the head of another rack. Its head may name clients, maybe fewer
+    than it has sessions."""
+    entries, what, clients = list(entries), draw.randrange(10), draw.choice([0, 0, 2, 3])
     one, other = draw.randrange(len(entries)), draw.randrange(len(entries))
     if what == 0:
         entries[one] = other_word(draw, entries[one])
@@ -356,10 +365,10 @@ def spoilt(draw, shape, entries):
     elif what == 4:
         entries[one] = b"%d %b" % (draw.randrange(4), entries[one].partition(b" ")[2])
     elif what < 7:
-        return spoil.spoil(draw, spelled(shape, entries))
+        return spoil.spoil(draw, spelled(shape, entries, clients))
     elif what < 9:
-        text = spelled(shape, entries)
+        text = spelled(shape, entries, clients)
         return text[: draw.randrange(len(text) + 1)]
     elif draw.random() < 0.5:
         shape = (shape[0] + 1, *shape[1:])
-    return spelled(shape, entries, draw.random() < 0.8)
+    return spelled(shape, entries, clients, draw.random() < 0.8)

@@ -13,7 +13,7 @@ sys.path.insert(0, f"{TOP}/tools/hostile")
 
 import plain  # noqa: E402
 from plain import Refused  # noqa: E402
-from records import CLIENT, END, HEAD, call_has_begun, entry_at, head_of  # noqa: E402
+from records import CLIENT, END, HEAD, call_has_begun, entry_at, head_of, limit_of  # noqa: E402
 from sessions import Exchange  # noqa: E402
 
 __all__ = ["END", "Record", "Wrong", "head_of", "judge_client"]
@@ -50,7 +50,7 @@ class Record:
             pass
         self.rest = text[self.ends[-1] :]
         self.ended = self.rest == END
-        if not END.startswith(self.rest) and not call_has_begun(self.rest) and not self.reply_has_begun:
+        if not END.startswith(self.rest) and not call_has_begun(self.rest, limit_of(self.names)) and not self.reply_has_begun:
             raise Wrong(f"behind {len(self.entries)} entries stands {self.rest[:200]!r}")
 
     def take_entry(self, text):
@@ -59,6 +59,8 @@ class Record:
         if not found:
             return False
         session, answer, named, begin, end = found
+        if session >= limit_of(self.names):
+            raise Wrong(f"entry {len(self.entries)} is of session {session}, and there are {len(self.names)} clients")
         line, behind = plain.line_at(text, end)
         exchange = copy.deepcopy(self.exchange) if line is None else self.exchange
         try:
@@ -70,8 +72,6 @@ class Record:
             return False
         if line != reply.encode():
             raise Wrong(f"entry {len(self.entries)} has {line!r}, and its reply is {reply!r}")
-        if self.names and session >= len(self.names):
-            raise Wrong(f"entry {len(self.entries)} is of session {session}, and there are {len(self.names)} clients")
         self.entries.append((session, text[begin:end].decode(), reply))
         self.ends.append(behind)
         return True

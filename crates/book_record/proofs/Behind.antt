@@ -1,7 +1,8 @@
 -- What stands behind words that were read, and what doesn't.
-use Rattle.std.proofs.Common.{◌≡◌, ◌≢◌, ℕ, List, ◌++◌, length, codes, Option, None, Some, IfNone, sym, ◌∙◌, append_assoc, arith}
+use Rattle.std.proofs.Common.{◌≡◌, ◌≢◌, ℕ, ◌≤◌, List, ◌++◌, length, codes, Option, None, Some, IfNone, sym, ◌∙◌, append_assoc, arith}
 use Rattle.std.specs.List.{flat_map}
 use Rattle.batch.specs.Batches.{IsBatch}
+use Rattle.batch.proofs.Lines.{behind_number as number_there, ends_space}
 use Rattle.batch.specs.Text.{IsNumber, number, batch_text, line, space, line_feed}
 use Rattle.batch.specs.declared.transfer.Transfer.{Transfer}
 use Rattle.line_words.specs.HexWords.{hex8}
@@ -57,8 +58,14 @@ no_batch text lines count can_count is none call rest can e = omega (arith, at_i
 
 -- ---- entries
 
-pub no_session : (text : List ℕ) → ((n : ℕ) (rest : List ℕ) → IsNumber n → text ≢ number n space ++ rest) → BeginsWithNoEntry text
-no_session text none session call rest fits can e = none session (call_text call ++ rest) fits e
+pub no_session : (text : List ℕ) → ((n : ℕ) (rest : List ℕ) → IsNumber n → text ≢ number n space ++ rest) → (limit : ℕ) → BeginsWithNoEntry limit text
+no_session text none limit session call rest fits below can e = none session (call_text call ++ rest) fits e
 
-pub no_entry : (text after : List ℕ) (n : ℕ) → IsNumber n × (text ≡ number n space ++ after) → BeginsWithNoCall after → BeginsWithNoEntry text
-no_entry text after n read none session call rest fits can e = none call rest can (behind_number text after (call_text call ++ rest) n session read fits e)
+pub no_entry : (text after : List ℕ) (n : ℕ) → IsNumber n × (text ≡ number n space ++ after) → BeginsWithNoCall after → (limit : ℕ) → BeginsWithNoEntry limit text
+no_entry text after n read none limit session call rest fits below can e = none call rest can (behind_number text after (call_text call ++ rest) n session read fits e)
+
+-- where the number is too great
+pub no_such_session : (text after : List ℕ) (n limit : ℕ) → IsNumber n × (text ≡ number n space ++ after) → limit ≤ n → BeginsWithNoEntry limit text
+no_such_session text after n limit read out session call rest fits below can e =
+    let one = number_there text n session space after (call_text call ++ rest) ends_space fits read e in
+    omega (arith, one.0, out, below)

@@ -246,8 +246,9 @@ mended_call n (Poke i a v) b m enough say cut = poked n i a v b m say cut
 
 -- ---- the session's number, and the call
 
-record Mended (n : ℕ) (rest : List ℕ) : Type 0 where
+record Mended (n limit : ℕ) (rest : List ℕ) : Type 0 where
   session : ℕ
+  below : session < limit
   call : PlanlessCall
   fits : IsNumber session
   say : CanSay call
@@ -259,9 +260,10 @@ record Mended (n : ℕ) (rest : List ℕ) : Type 0 where
 number_form : (s : ℕ) (x : List ℕ) → number s space ++ x ≡ decimal s ++ (space ∷ x)
 number_form s x = append_assoc (decimal s) (space ∷ []) x
 
-in_call : (n s : ℕ) (rest l : List ℕ) → IsNumber s → rest ≡ decimal s ++ l → MendedCall n l → Mended n rest
-in_call n s rest l fits is r = record {
+in_call : (n limit s : ℕ) (rest l : List ℕ) → IsNumber s → s < limit → rest ≡ decimal s ++ l → MendedCall n l → Mended n limit rest
+in_call n limit s rest l fits below is r = record {
   session = s;
+  below = below;
   call = r.call;
   fits = fits;
   say = r.say;
@@ -271,11 +273,12 @@ in_call n s rest l fits is r = record {
   is = ap (λ (x : List ℕ). x ++ drop r.at (endings n)) is ∙ append_assoc (decimal s) l (drop r.at (endings n)) ∙ ap (λ (x : List ℕ). decimal s ++ x) r.is ∙ sym (number_form s (call_text r.call ++ r.behind));
 }
 
-in_number : (n s : ℕ) (rest : List ℕ) → IsNumber s → rest ≡ decimal s → Mended n rest
-in_number n s rest fits is =
+in_number : (n limit s : ℕ) (rest : List ℕ) → IsNumber s → s < limit → rest ≡ decimal s → Mended n limit rest
+in_number n limit s rest fits below is =
     let after = codes " settle 0\n run 0\n show 0\n drop 0\n peek 0 00000000\n poke 0 00000000 00000000\n batch 0\npull 0 0 0 0\npush 0 0 0 0\n" ++ pushes n in
     record {
       session = s;
+      below = below;
       call = Fetch 0;
       fits = fits;
       say = omega arith;
@@ -287,37 +290,37 @@ in_number n s rest fits is =
           ∙ sym (number_form s (call_text (Fetch 0) ++ after));
     }
 
-mended : (n s : ℕ) (c : PlanlessCall) (b : ℕ) (a missing : List ℕ) → MAX_TRANSFERS ≤ n → IsNumber s → CanSay c → number s space ++ call_text c ≡ (b ∷ a) ++ missing → Mended n (b ∷ a)
-mended n s c b a missing enough fits say cut =
+mended : (n limit s : ℕ) (c : PlanlessCall) (b : ℕ) (a missing : List ℕ) → MAX_TRANSFERS ≤ n → IsNumber s → s < limit → CanSay c → number s space ++ call_text c ≡ (b ∷ a) ++ missing → Mended n limit (b ∷ a)
+mended n limit s c b a missing enough fits below say cut =
     elim (split (decimal s) (space ∷ call_text c) (b ∷ a) missing (sym (number_form s (call_text c)) ∙ cut)) [
-      | inl p ↦ in_call n s (b ∷ a) p.0 fits p.1 (mended_call n c p.0 missing enough say p.2)
-      | inr p ↦ let k = cut_number s b a p.0 (omega (arith, fits)) p.2 in let less = k.1 in in_number n k.0 (b ∷ a) (omega (arith, less, fits)) k.2
+      | inl p ↦ in_call n limit s (b ∷ a) p.0 fits below p.1 (mended_call n c p.0 missing enough say p.2)
+      | inr p ↦ let k = cut_number s b a p.0 (omega (arith, fits)) p.2 in let less = k.1 in in_number n limit k.0 (b ∷ a) (omega (arith, less, fits)) (omega (arith, less, below)) k.2
     ]
 
 -- where no ending makes a call whole, none has begun
-pub none_begun : (n : ℕ) (rest : List ℕ) → MAX_TRANSFERS ≤ n → rest ≢ [] → BeginsWithNoEntry rest → ((k : ℕ) → k < 121 → BeginsWithNoEntry (rest ++ drop k (endings n))) → HasNoneBegun rest
-none_begun n [] enough some none tried = absurd (some refl)
-none_begun n (b ∷ a) enough some none tried = record {
+pub none_begun : (n limit : ℕ) (rest : List ℕ) → MAX_TRANSFERS ≤ n → rest ≢ [] → BeginsWithNoEntry limit rest → ((k : ℕ) → k < 121 → BeginsWithNoEntry limit (rest ++ drop k (endings n))) → HasNoneBegun limit rest
+none_begun n limit [] enough some none tried = absurd (some refl)
+none_begun n limit (b ∷ a) enough some none tried = record {
   none = none;
-  unbegun = λ s c missing fits say cut.
-      let m = mended n s c b a missing enough fits say cut in
+  unbegun = λ s c missing fits below say cut.
+      let m = mended n limit s c b a missing enough fits below say cut in
       let few = m.few in
-      tried m.at (omega (arith, few)) m.session m.call m.behind m.fits m.say m.is;
+      tried m.at (omega (arith, few)) m.session m.call m.behind m.fits m.below m.say m.is;
 }
 
 -- ---- what is read
 
 -- a call that stands there once something is put behind, and that doesn't stand there yet
-pub begun_by : (rest ending behind : List ℕ) (s : ℕ) (c : PlanlessCall) → BeginsWithNoEntry rest → IsNumber s → CanSay c → rest ++ ending ≡ number s space ++ (call_text c ++ behind) → HasBegun rest s c []
-begun_by rest ending behind s c none fits say is =
+pub begun_by : (limit : ℕ) (rest ending behind : List ℕ) (s : ℕ) (c : PlanlessCall) → BeginsWithNoEntry limit rest → IsNumber s → s < limit → CanSay c → rest ++ ending ≡ number s space ++ (call_text c ++ behind) → HasBegun limit rest s c []
+begun_by limit rest ending behind s c none fits below say is =
     elim (split (number s space ++ call_text c) behind rest ending (append_assoc (number s space) (call_text c) behind ∙ sym is)) [
-      | inl p ↦ absurd (none s c p.0 fits say (p.1 ∙ append_assoc (number s space) (call_text c) p.0))
-      | inr p ↦ record { number_fits = fits; can_say = say; missing = p.0; begins = ap (λ (l : List ℕ). number s space ++ l) (append-nil (call_text c)) ∙ p.2; whole = inr refl }
+      | inl p ↦ absurd (none s c p.0 fits below say (p.1 ∙ append_assoc (number s space) (call_text c) p.0))
+      | inr p ↦ record { number_fits = fits; below = below; can_say = say; missing = p.0; begins = ap (λ (l : List ℕ). number s space ++ l) (append-nil (call_text c)) ∙ p.2; whole = inr refl }
     ]
 
 -- a call that stands there
-pub whole_begun : (text replied : List ℕ) (s : ℕ) (c : PlanlessCall) → IsNumber s → CanSay c → text ≡ number s space ++ (call_text c ++ replied) → HasBegun text s c replied
-whole_begun text replied s c fits say is = record { number_fits = fits; can_say = say; missing = []; begins = sym is ∙ sym (append-nil text); whole = inl refl }
+pub whole_begun : (limit : ℕ) (text replied : List ℕ) (s : ℕ) (c : PlanlessCall) → IsNumber s → s < limit → CanSay c → text ≡ number s space ++ (call_text c ++ replied) → HasBegun limit text s c replied
+whole_begun limit text replied s c fits below say is = record { number_fits = fits; below = below; can_say = say; missing = []; begins = sym is ∙ sym (append-nil text); whole = inl refl }
 
 -- ---- no call is longer
 
@@ -385,10 +388,10 @@ call_length (Poke m a v) say =
       length-hex8 v,
     )
 
-pub too_long : (rest : List ℕ) → 200000 < length rest → BeginsWithNoEntry rest → HasNoneBegun rest
-too_long rest long none = record {
+pub too_long : (limit : ℕ) (rest : List ℕ) → 200000 < length rest → BeginsWithNoEntry limit rest → HasNoneBegun limit rest
+too_long limit rest long none = record {
   none = none;
-  unbegun = λ s c missing fits say cut.
+  unbegun = λ s c missing fits below say cut.
       let front = number_length s space fits in
       let lines = call_length c say in
       omega (arith, long, front, lines, ap length cut, length-append rest missing, length-append (number s space) (call_text c));

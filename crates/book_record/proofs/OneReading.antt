@@ -9,7 +9,6 @@ use Rattle.std.proofs.lemmas.Str.Parse.{digit_at}
 use Rattle.batch.proofs.Lines.{IsFirst, first_from_position, position_from_first}
 use Rattle.batch.proofs.Numbers.{form}
 use Rattle.client_session.specs.Bytes.{HasNoFeed}
-use Rattle.book_record.specs.Reading.{BeginsWithNoEntry}
 use Rattle.batch.specs.Text.{IsNumber, number, space, line_feed}
 use Rattle.book_record.specs.RecordText.{call_text}
 use Rattle.book_record.specs.Fronts.{IsUnfinished, end_line}
@@ -37,9 +36,6 @@ end_is_no_entry = (
 )
 
 -- ---- what the reader finds
-
-pub no_entry : (text : List ℕ) → BeginsWithNoEntry text → IsUnfinished text
-no_entry text none s call line rest fits say no_feed is = none s call (line ++ line_feed ∷ rest) fits say is
 
 first_in : (w y : List ℕ) → HasNoFeed w → IsFirst (w ++ line_feed ∷ y) line_feed (length w)
 first_in w y none = record {

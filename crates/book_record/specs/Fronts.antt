@@ -1,5 +1,5 @@
 -- A record that may have been cut off: whole entries, and a rest with which none begins.
-use Rattle.std.specs.Prelude.{◌≡◌, ◌≢◌, ◌⊎◌, ℕ, List, [], ◌∷◌, ◌++◌, All, codes}
+use Rattle.std.specs.Prelude.{◌≡◌, ◌≢◌, ◌⊎◌, ℕ, ◌<◌, List, [], ◌∷◌, ◌++◌, All, codes}
 use Rattle.std.specs.List.{flat_map}
 use Rattle.batch.specs.Text.{IsNumber, number, space, line_feed}
 use Rattle.batch_book.specs.declared.entry.Entry.{Entry}
@@ -51,21 +51,22 @@ pub record IsCutOff (es : List Entry) (front : List ℕ) : Type 0 where
 
 -- ---- an entry that has begun
 
--- A session's number and the lines of a call stand there, and this behind them. Or the text is a
--- front of such lines, and nothing stands behind them.
-pub record HasBegun (text : List ℕ) (session : ℕ) (call : PlanlessCall)
+-- A session's number, which is below this, and the lines of a call stand there, and this behind
+-- them. Or the text is a front of such lines, and nothing stands behind them.
+pub record HasBegun (limit : ℕ) (text : List ℕ) (session : ℕ) (call : PlanlessCall)
     (replied : List ℕ) : Type 0 where
   pub number_fits : IsNumber session
+  pub below : session < limit
   pub can_say : CanSay call
   pub missing : List ℕ
   pub begins : number session space ++ (call_text call ++ replied) ≡ text ++ missing
   pub whole : (missing ≡ []) ⊎ (replied ≡ [])
 
 -- neither stands there
-pub record HasNoneBegun (text : List ℕ) : Type 0 where
-  pub none : BeginsWithNoEntry text
+pub record HasNoneBegun (limit : ℕ) (text : List ℕ) : Type 0 where
+  pub none : BeginsWithNoEntry limit text
   pub unbegun : (session : ℕ) (call : PlanlessCall) (missing : List ℕ) → IsNumber session
-      → CanSay call → number session space ++ call_text call ≢ text ++ missing
+      → session < limit → CanSay call → number session space ++ call_text call ≢ text ++ missing
 
 -- ---- the end
 

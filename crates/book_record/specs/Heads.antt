@@ -1,9 +1,10 @@
 -- The head of a record: its first line, and the names of the clients. Its form is this project's
 -- choice.
-use Rattle.std.specs.Prelude.{◌≡◌, ◌≢◌, ℕ, ◌+◌, ◌*◌, ◌%◌, ◌≤◌, List, [], ◌∷◌, ◌++◌, length, All, AllPairs, codes}
+use Rattle.std.specs.Prelude.{◌≡◌, ◌≢◌, ℕ, zero, suc, ◌+◌, ◌*◌, ◌^◌, ◌%◌, ◌≤◌, List, [], ◌∷◌, ◌++◌, length, All, AllPairs, codes}
 use Rattle.std.specs.List.{flat_map}
 use Rattle.batch.specs.Extent.{Extent, IsShape}
 use Rattle.batch.specs.Text.{IsNumber, number, space, line_feed}
+use Rattle.batch.specs.declared.limits.TheConstants.{MAX_DIGITS}
 use Rattle.batch_book.specs.History.{Account}
 use Rattle.book_record.specs.RecordText.{entry_text}
 use Rattle.client_session.specs.Bytes.{HasNoFeed}
@@ -55,6 +56,12 @@ pub record AreNames (names : List (List ℕ)) (n : ℕ) : Type 0 where
   pub few : n ≤ MAX_SESSIONS
   pub each : All IsName names
   pub apart : AllPairs (λ one other. one ≢ other) names
+
+-- The number of each session of a record is below this, of whose clients so many have names: each
+-- of them has a session, and nobody else. Where none has a name, it has nine digits at most.
+abbrev pub session_limit : ℕ → ℕ
+session_limit zero = 10 ^ MAX_DIGITS
+session_limit (suc clients) = suc clients
 
 -- the text begins with the lines of clients of these names
 pub record AreClients (text : List ℕ) (names : List (List ℕ)) (rest : List ℕ) : Type 0 where

@@ -1,5 +1,5 @@
 -- How a record is read from the left.
-use Rattle.std.specs.Prelude.{◌≡◌, ◌≢◌, ℕ, zero, suc, ◌+◌, ◌==◌, List, ◌∷◌, ◌++◌, drop, length, codes, position, Option, Some, None}
+use Rattle.std.specs.Prelude.{◌≡◌, ◌≢◌, ℕ, zero, suc, ◌+◌, ◌<◌, ◌==◌, List, ◌∷◌, ◌++◌, drop, length, codes, position, Option, Some, None}
 use Rattle.batch.specs.Batches.{IsBatch}
 use Rattle.batch.specs.Text.{IsNumber, number, batch_text, space, line_feed}
 use Rattle.batch.specs.declared.transfer.Transfer.{Transfer}
@@ -65,8 +65,8 @@ abbrev pub BeginsWithNoCall : List ℕ → Type 0
 BeginsWithNoCall text =
     (call : PlanlessCall) (rest : List ℕ) → CanSay call → text ≢ call_text call ++ rest
 
--- the text begins with no session's number and call
-abbrev pub BeginsWithNoEntry : List ℕ → Type 0
-BeginsWithNoEntry text =
-    (session : ℕ) (call : PlanlessCall) (rest : List ℕ) → IsNumber session → CanSay call
-    → text ≢ number session space ++ (call_text call ++ rest)
+-- the text begins with no call by a session whose number is below this
+abbrev pub BeginsWithNoEntry : ℕ → List ℕ → Type 0
+BeginsWithNoEntry limit text =
+    (session : ℕ) (call : PlanlessCall) (rest : List ℕ) → IsNumber session → session < limit
+    → CanSay call → text ≢ number session space ++ (call_text call ++ rest)

@@ -47,59 +47,71 @@ fn endings(alloc: Global) -> Result<Vec<u8>, AllocError>
     Ok(all)
 }
 
-/// The session's number and the call that stand there once this ending is put behind a rest.
+/// The session's number and the call that stand there once this ending is put behind a rest, where
+/// that number is below this.
 fn completed(
     alloc: Global,
     rest: &[u8],
     ending: &[u8],
+    limit: usize,
 ) -> Result<Option<(usize, ToldCall<Batch>)>, AllocError>
-    requires { BeginsWithNoEntry rest.now }
-    ensures some { IfOk result (λ read. IfSome read (λ x. HasBegun rest.now x.0 x.1 [])) }
-    ensures none { IfOk result (λ read. IfNone read (BeginsWithNoEntry (rest.now ++ ending.now))) }
+    requires { BeginsWithNoEntry limit rest.now }
+    ensures some { IfOk result (λ read. IfSome read (λ x. HasBegun limit rest.now x.0 x.1 [])) }
+    ensures none { IfOk result (λ read. IfNone read
+        (BeginsWithNoEntry limit (rest.now ++ ending.now))) }
 {
     let mut text = Vec::from_slice(alloc, rest)?;
     text.extend_from_slice(ending)?;
-    match read_entry(alloc, text.as_slice())? {
+    match read_entry(alloc, text.as_slice(), limit)? {
         Some((session, call, _)) => Ok(Some((session, call))),
         None => Ok(None),
     }
 }
 
-/// A session's number and a call that begin so, where there is such.
-fn read_torn(alloc: Global, rest: &[u8]) -> Result<Option<(usize, ToldCall<Batch>)>, AllocError>
-    requires { BeginsWithNoEntry rest.now }
-    ensures some { IfOk result (λ read. IfSome read (λ x. HasBegun rest.now x.0 x.1 [])) }
+/// A session's number and a call that begin so, where there is such, and that number is below this.
+fn read_torn(
+    alloc: Global,
+    rest: &[u8],
+    limit: usize,
+) -> Result<Option<(usize, ToldCall<Batch>)>, AllocError>
+    requires { BeginsWithNoEntry limit rest.now }
+    ensures some { IfOk result (λ read. IfSome read (λ x. HasBegun limit rest.now x.0 x.1 [])) }
     ensures none { IfOk result (λ read. IfNone read
-        ((rest.now ≡ []) ⊎ HasNoneBegun rest.now)) }
+        ((rest.now ≡ []) ⊎ HasNoneBegun limit rest.now)) }
 {
     if rest.is_empty() || rest.len() > MAX_ASKED {
         return Ok(None);
     }
     let endings = endings(alloc)?;
     for at in 0..PLACES {
-        if let Some(begun) = completed(alloc, rest, &endings[at..])? {
+        if let Some(begun) = completed(alloc, rest, &endings[at..], limit)? {
             return Ok(Some(begun));
         }
     }
     Ok(None)
 }
 
-/// The entry that the text begins with, or a front of which the text is. It takes memory for a
-/// batch. Where an entry isn't whole, it takes as much time as reading it some hundred times.
-pub fn read_begun(alloc: Global, text: &[u8]) -> Result<Option<BegunEntry<'_>>, AllocError>
+/// The entry that the text begins with, or a front of which the text is, where its session's number
+/// is below this. It takes memory for a batch. Where an entry isn't whole, it takes as much time as
+/// reading it some hundred times.
+pub fn read_begun(
+    alloc: Global,
+    text: &[u8],
+    limit: usize,
+) -> Result<Option<BegunEntry<'_>>, AllocError>
     ensures some { IfOk result (λ read. IfSome read (λ e.
-        HasBegun text.now e.session e.call e.replied.now)) }
+        HasBegun limit text.now e.session e.call e.replied.now)) }
     ensures none { IfOk result (λ read. IfNone read
-        ((text.now ≡ []) ⊎ HasNoneBegun text.now)) }
+        ((text.now ≡ []) ⊎ HasNoneBegun limit text.now)) }
 {
-    if let Some((session, call, replied)) = read_entry(alloc, text)? {
+    if let Some((session, call, replied)) = read_entry(alloc, text, limit)? {
         return Ok(Some(BegunEntry {
             session,
             call,
             replied,
         }));
     }
-    match read_torn(alloc, text)? {
+    match read_torn(alloc, text, limit)? {
         Some((session, call)) => Ok(Some(BegunEntry {
             session,
             call,

@@ -6,7 +6,7 @@ ghost use Rattle.batch.specs.Extent.{IsShape};
 ghost use Rattle.batch.specs.Text.{IsNumber, number, space, line_feed};
 ghost use Rattle.line_words.specs.HexWords.{IsWord, hex8, BeginsWithNoHex8};
 ghost use Rattle.book_record.specs.Fronts.{end_line};
-ghost use Rattle.book_record.specs.Heads.{AreClients, AreNames, BeginsWithNoClient, BeginsWithNoRackLine, BeginsWithNoHead, BeginsWithNoNames, BeginsWithNoNumbers, IsName, client_line, rack_line, head_of, letter_x};
+ghost use Rattle.book_record.specs.Heads.{AreClients, AreNames, BeginsWithNoClient, BeginsWithNoRackLine, BeginsWithNoHead, BeginsWithNoNames, BeginsWithNoNumbers, IsName, client_line, rack_line, head_of, letter_x, session_limit};
 
 use batch::{Shape, number_before, position_of};
 use exchange_limits::MAX_SESSIONS;
@@ -147,40 +147,51 @@ fn behind_clients(text: &[u8], names: usize) -> Option<&[u8]>
     Some(rest)
 }
 
-/// The shape and the sum of a head whose first line has these numbers, and what stands behind the
-/// lines of its clients.
+/// The shape, the sum and the number of clients of a head whose first line has these numbers, and
+/// what stands behind the lines of its clients.
 fn whole_head<'a>(
     text: &[u8],
     shape: Shape,
     sum: u32,
     names: usize,
     rest: &'a [u8],
-) -> Option<(Shape, u32, &'a [u8])>
+) -> Option<(Shape, u32, usize, &'a [u8])>
     requires shape { IsShape shape }
     requires sum { IsWord sum }
     requires names { IsNumber names }
     requires line { text.now ≡ rack_line shape sum names ++ rest.now }
-    ensures some { IfSome result (λ x. IsShape x.0 × IsWord x.1 × ((n : ℕ)
-        × (names : List (List ℕ)) × AreNames names n
-        × (text.now ≡ head_of x.0 x.1 names ++ x.2.now))) }
+    ensures some { IfSome result (λ x. IsShape x.0 × IsWord x.1
+        × ((names : List (List ℕ)) × AreNames names x.2
+        × (text.now ≡ head_of x.0 x.1 names ++ x.3.now))) }
     ensures none { IfNone result (BeginsWithNoHead text.now) }
 {
     match behind_clients(rest, names) {
-        Some(body) => Some((shape, sum, body)),
+        Some(body) => Some((shape, sum, names, body)),
         None => None,
     }
 }
 
-/// The shape and the sum of the head of a record, and what stands behind it.
-pub fn read_head(text: &[u8]) -> Option<(Shape, u32, &[u8])>
-    ensures some { IfSome result (λ x. IsShape x.0 × IsWord x.1 × ((n : ℕ)
-        × (names : List (List ℕ)) × AreNames names n
-        × (text.now ≡ head_of x.0 x.1 names ++ x.2.now))) }
+/// The shape and the sum of the head of a record, how many clients it names, and what stands behind
+/// it.
+pub fn read_head(text: &[u8]) -> Option<(Shape, u32, usize, &[u8])>
+    ensures some { IfSome result (λ x. IsShape x.0 × IsWord x.1
+        × ((names : List (List ℕ)) × AreNames names x.2
+        × (text.now ≡ head_of x.0 x.1 names ++ x.3.now))) }
     ensures none { IfNone result (BeginsWithNoHead text.now) }
 {
     match read_rack_line(text) {
         Some((shape, sum, names, rest)) => whole_head(text, shape, sum, names, rest),
         None => None,
+    }
+}
+
+/// The number below which the sessions of a record are, whose head names so many clients.
+pub fn session_limit(clients: usize) -> usize
+    ensures { result ≡ session_limit clients }
+{
+    match clients {
+        0 => 1_000_000_000,
+        _ => clients,
     }
 }
 

@@ -1,6 +1,6 @@
 //! The reader of a record, from the left: each function gives what it has read, and the rest.
 
-ghost use Rattle.std.specs.Prelude.{◌≡◌, ◌+◌, ◌≤◌, ◌∷◌, ◌++◌, drop, length, codes, IfOk, IfSome, IfNone, Some, None};
+ghost use Rattle.std.specs.Prelude.{◌≡◌, ◌+◌, ◌<◌, ◌≤◌, ◌∷◌, ◌++◌, drop, length, codes, IfOk, IfSome, IfNone, Some, None};
 ghost use Rattle.batch.specs.Batches.{IsBatch};
 ghost use Rattle.batch.specs.Text.{IsNumber, number, batch_text, space, line_feed};
 ghost use Rattle.line_words.specs.HexWords.{IsWord, hex8, BeginsWithNoHex8};
@@ -143,19 +143,23 @@ fn read_call(alloc: Global, text: &[u8]) -> Result<Option<(ToldCall<Batch>, &[u8
     }
 }
 
-/// The session's number and the call that the text begins with, and the rest. It takes memory for a
-/// batch.
+/// The session's number and the call that the text begins with, and the rest, where that number is
+/// below this. It takes memory for a batch.
 pub fn read_entry(
     alloc: Global,
     text: &[u8],
+    limit: usize,
 ) -> Result<Option<(usize, ToldCall<Batch>, &[u8])>, AllocError>
-    ensures some { IfOk result (λ read. IfSome read (λ x. IsNumber x.0 × CanSay x.1
-        × (text.now ≡ number x.0 space ++ (call_text x.1 ++ x.2.now)))) }
-    ensures none { IfOk result (λ read. IfNone read (BeginsWithNoEntry text.now)) }
+    ensures some { IfOk result (λ read. IfSome read (λ x. IsNumber x.0 × (x.0 < limit)
+        × CanSay x.1 × (text.now ≡ number x.0 space ++ (call_text x.1 ++ x.2.now)))) }
+    ensures none { IfOk result (λ read. IfNone read (BeginsWithNoEntry limit text.now)) }
 {
     let Some((session, rest)) = number_and_rest(text) else {
         return Ok(None);
     };
+    if session >= limit {
+        return Ok(None);
+    }
     match read_call(alloc, rest)? {
         Some((call, rest)) => Ok(Some((session, call, rest))),
         None => Ok(None),

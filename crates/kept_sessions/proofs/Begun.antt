@@ -15,10 +15,10 @@ use Rattle.kept_sessions.specs.declared.recording.Unbegun.{Unbegun}
 use Rattle.kept_sessions.specs.declared.recording.Unbegun.TheVariants.{Missed, Wrong}
 
 -- what can't be made again isn't gone on with
-pub unremade : (held head text : List ℕ) (opening : Store) (error : RecordError) (what : Unbegun)
-    → held ≡ head ++ text → (error.fault ≢ fault.NoMemory → IsRecordError text opening None error) → IsUnremade error what → IsUnbegun true held head opening what
-unremade held head text opening error (Missed missed) is wrong told = told
-unremade held head text opening error (Wrong so) is wrong told = (refl, inr (text, error, is, wrong told.0, told.1))
+pub unremade : (limit : ℕ) (held head text : List ℕ) (opening : Store) (error : RecordError) (what : Unbegun)
+    → held ≡ head ++ text → (error.fault ≢ fault.NoMemory → IsRecordError limit text opening None error) → IsUnremade error what → IsUnbegun true limit held head opening what
+unremade limit held head text opening error (Missed missed) is wrong told = told
+unremade limit held head text opening error (Wrong so) is wrong told = (refl, inr (text, error, is, wrong told.0, told.1))
 
 -- what is told of what was cut off
 pub cut_none : (held head missing : List ℕ) (opening : Store) (names : List (List ℕ)) (was : Account) → head ≡ head_for opening names → head ≡ held ++ missing → was ≡ new_account opening → IsCutFrom held (record_front names was) None
@@ -29,9 +29,9 @@ cut_from held front kept cut is off =
     gone_on (drop kept held) (sym (take-append-drop kept held) ∙ ap (λ (l : List ℕ). l ++ drop kept held) is) (subst (λ (l : List ℕ). IsCutOff l (drop kept held) cut) is off)
 
 -- what stays of it is what the record tells of the book
-pub resumed_front : (held head : List ℕ) (opening : Store) (names : List (List ℕ)) (was : Account) (kept : ℕ) (made : List ℕ)
-    → head ≡ head_for opening names → (r : IsResumed held head opening was) → kept ≡ length held - length r.rest → made ≡ [] → take kept held ++ made ≡ record_front names was
-resumed_front held head opening names was kept made head_is r kept_is none =
+pub resumed_front : (limit : ℕ) (held head : List ℕ) (opening : Store) (names : List (List ℕ)) (was : Account) (kept : ℕ) (made : List ℕ)
+    → head ≡ head_for opening names → (r : IsResumed limit held head opening was) → kept ≡ length held - length r.rest → made ≡ [] → take kept held ++ made ≡ record_front names was
+resumed_front limit held head opening names was kept made head_is r kept_is none =
     let entries = flat_map entry_text was.history in
     let whole : held ≡ (head ++ entries) ++ r.rest = r.held_is ∙ ap (λ (x : List ℕ). head ++ x) r.remade.replayed.front ∙ sym (append_assoc head entries r.rest) in
     let count : kept ≡ length (head ++ entries) = omega (arith, kept_is, ap length whole, length-append (head ++ entries) r.rest) in

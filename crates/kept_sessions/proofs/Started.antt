@@ -1,11 +1,12 @@
 -- How live sessions begin.
-use Rattle.std.proofs.Common.{◌≡◌, ◌≢◌, ◌⊎◌, ◌∙◌, ◌++◌, ◌∷◌, rules, arith, ℕ, Bool, List, [], Option, Some, None, IfSome, IfOk, IfErr, Result, Ok, Err, true, false, is_some, append-nil, ap, inl, inr, sym, subst, refl, take}
+use Rattle.std.proofs.Common.{◌≡◌, ◌≢◌, ◌⊎◌, ◌∙◌, ◌++◌, ◌∷◌, rules, arith, ℕ, Bool, List, [], Option, Some, None, IfSome, IfOk, IfErr, Result, Ok, Err, true, false, is_some, append-nil, ap, inl, inr, length, sym, subst, refl, take}
 use Rattle.std.specs.Prelude.{option_map}
 use Rattle.clap.specs.Words.{Text}
 use Rattle.module_memory.specs.Store.{Store}
 use Rattle.batch_book.specs.History.{Account, AreUnstopped, IsLegal, new_account}
 use Rattle.batch_book.specs.Machine.{opened}
 use Rattle.plan_answers.specs.Refusals.{Refuses}
+use Rattle.book_record.specs.Heads.{session_limit}
 use Rattle.rack_answers.specs.Openings.{IsRackOf, IsWrongRack}
 use Rattle.refusals.specs.declared.refusal.Refusal.{Refusal}
 use Rattle.refusals.specs.declared.refusal.Refusal.TheVariants.{NoMemory}
@@ -94,7 +95,7 @@ started_in (Ok start) holds contents (Some file) rack names resumes out opened r
     }
 
 -- why they don't begin
-unbegun_for : (holds : List ℕ → List ℕ → Type 0) (file : RecordFile) (rack : Store) (names : List Text) (resumes : Bool) (held : List ℕ) (why : Unbegun) → resumes ≡ file.resumes → holds file.name held → IsUnbegun resumes held (head_for rack names) rack why → IsUnbegunFor holds (Some file) rack names why
+unbegun_for : (holds : List ℕ → List ℕ → Type 0) (file : RecordFile) (rack : Store) (names : List Text) (resumes : Bool) (held : List ℕ) (why : Unbegun) → resumes ≡ file.resumes → holds file.name held → IsUnbegun resumes (session_limit (length names)) held (head_for rack names) rack why → IsUnbegunFor holds (Some file) rack names why
 unbegun_for holds file rack names resumes held (Missed missed) same has is = is
 unbegun_for holds file rack names resumes held (Wrong error) same has is = (sym same ∙ is.0, held, has, is.1)
 
@@ -106,7 +107,7 @@ left_in holds received file names resumes held (Some r) same has is =
 
 pub unstarted_in : {F C : Type 0} (r : Result (Start F) (Unstarted C)) (holds : List ℕ → List ℕ → Type 0) (contents : F → Option (List ℕ)) (received : C → Closed) (record_out : Option RecordFile) (rack : Store) (names : List Text) (resumes : Bool) (out : OutFile F)
     → IsOpened contents holds (option_map (λ (o : RecordFile). o.name) record_out) (Some out) → IfSome record_out (λ o. resumes ≡ o.resumes)
-    → IfErr r (λ end. IsUnbegun resumes out.held.items (head_for rack names) rack end.why × IfSome end.receipt (λ r. (text : List ℕ) × (received r ≡ closed (Some text) false) × ((text ≡ out.held.items) ⊎ IsBegun resumes out.held.items names text)))
+    → IfErr r (λ end. IsUnbegun resumes (session_limit (length names)) out.held.items (head_for rack names) rack end.why × IfSome end.receipt (λ r. (text : List ℕ) × (received r ≡ closed (Some text) false) × ((text ≡ out.held.items) ⊎ IsBegun resumes out.held.items names text)))
     → IfErr r (IsUnstarted holds received record_out rack names)
 unstarted_in (Ok start) holds contents received record_out rack names resumes out opened resume is = tt
 unstarted_in (Err end) holds contents received None rack names resumes out opened resume is = absurd (let bad : None ≡ Some out.name.now = opened.0 in cc)

@@ -18,10 +18,10 @@ use Rattle.named_files.specs.Notes.{IsRefused}
 
 -- why sessions don't begin on this rack whose record's file holds this: there is no answer, or the
 -- record is wrong
-abbrev pub IsUnbegun : Bool → List ℕ → List ℕ → Store → Unbegun → Type 0
-IsUnbegun resumes held head opening (Missed missed) = IsRefused missed
-IsUnbegun resumes held head opening (Wrong error) =
-    (resumes ≡ true) × IsWrongRecord held head opening error.fault
+abbrev pub IsUnbegun : Bool → ℕ → List ℕ → List ℕ → Store → Unbegun → Type 0
+IsUnbegun resumes limit held head opening (Missed missed) = IsRefused missed
+IsUnbegun resumes limit held head opening (Wrong error) =
+    (resumes ≡ true) × IsWrongRecord limit held head opening error.fault
 
 -- the same where their record goes to this file, or to none
 abbrev pub IsUnbegunFor : Holding → Option RecordFile → Store → List Text → Unbegun → Type 0

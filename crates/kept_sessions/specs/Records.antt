@@ -8,7 +8,7 @@ use Rattle.batch_book.specs.declared.entry.Entry.{Entry}
 use Rattle.batch_book.specs.History.{Account, IsLegal, new_account}
 use Rattle.book_record.specs.RecordText.{entry_text}
 use Rattle.book_record.specs.Fronts.{end_line}
-use Rattle.book_record.specs.Heads.{adler, head_of}
+use Rattle.book_record.specs.Heads.{adler, head_of, session_limit}
 use Rattle.record_replay.specs.Replays.{IsRecordError, IsRemade}
 use Rattle.record_replay.specs.declared.fault.RecordError.{RecordError}
 use Rattle.record_replay.specs.declared.fault.RecordFault.{RecordFault}
@@ -30,13 +30,14 @@ record_front names book = head_for book.opening names ++ flat_map entry_text boo
 abbrev pub whole_record : List Text → Account → List ℕ
 whole_record names book = record_front names book ++ end_line
 
--- the head stands there, and the entries behind it were made again
-pub record IsResumed (held head : List ℕ) (opening : Store) (was : Account) : Type 0 where
+-- the head stands there, and the entries behind it, of sessions below this, were made again
+pub record IsResumed (limit : ℕ) (held head : List ℕ) (opening : Store)
+    (was : Account) : Type 0 where
   pub text : List ℕ
   pub rest : List ℕ
   pub held_is : held ≡ head ++ text
   pub is_opening : was.opening ≡ opening
-  pub remade : IsRemade text opening None was.history was.machine rest
+  pub remade : IsRemade limit text opening None was.history was.machine rest
 
 -- The file holds as much of the head as may have been written, or all of it: sessions begin anew.
 -- Else, where they are to go on, the head of the same rack and the same clients stands there, and
@@ -44,7 +45,8 @@ pub record IsResumed (held head : List ℕ) (opening : Store) (was : Account) : 
 abbrev pub BeginsAs : Bool → List ℕ → Store → List Text → Account → Type 0
 BeginsAs resumes held opening names was =
     ((missing : List ℕ) × (head_for opening names ≡ held ++ missing) × (was ≡ new_account opening))
-    ⊎ ((resumes ≡ true) × IsResumed held (head_for opening names) opening was)
+    ⊎ ((resumes ≡ true)
+    × IsResumed (session_limit (length names)) held (head_for opening names) opening was)
 
 -- What is told of a rest that was cut off behind this front of a record: how many bytes it had, and
 -- the line with which it began, counted from 1. Of the last line nothing is told.
@@ -74,19 +76,20 @@ BeginsFor holds None opening names was = was ≡ new_account opening
 BeginsFor holds (Some out) opening names was =
     (held : List ℕ) × holds out.name held × BeginsAs out.resumes held opening names was
 
--- what is wrong with a record that is to have this head: it has another, or this is wrong behind it
-abbrev pub IsWrongRecord : List ℕ → List ℕ → Store → RecordFault → Type 0
-IsWrongRecord held head opening fault =
+-- what is wrong with a record that is to have this head, by which the numbers of its sessions are
+-- below this: it has another, or this is wrong behind it
+abbrev pub IsWrongRecord : ℕ → List ℕ → List ℕ → Store → RecordFault → Type 0
+IsWrongRecord limit held head opening fault =
     (((text : List ℕ) → held ≢ head ++ text) × (fault ≡ Head))
     ⊎ ((text : List ℕ) × (error : RecordError) × (held ≡ head ++ text)
-    × IsRecordError text opening None error × (fault ≡ error.fault))
+    × IsRecordError limit text opening None error × (fault ≡ error.fault))
 
 -- sessions were to go on, and can't, since the record is wrong
 abbrev pub IsWrongFor : Holding → Option RecordFile → Store → List Text → RecordFault → Type 0
 IsWrongFor holds None opening names fault = ⊥
 IsWrongFor holds (Some out) opening names fault =
     (out.resumes ≡ true) × (held : List ℕ) × holds out.name held
-    × IsWrongRecord held (head_for opening names) opening fault
+    × IsWrongRecord (session_limit (length names)) held (head_for opening names) opening fault
 
 -- What a record's file that held this has where nobody was told more: of a new book a front of the
 -- head; or all that the record tells of the book with which sessions began, and behind that maybe a

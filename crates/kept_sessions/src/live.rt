@@ -10,6 +10,7 @@ ghost use Rattle.module_memory.specs.Store.{Store};
 ghost use Rattle.plan_answers.specs.Refusals.{Refuses};
 ghost use Rattle.rack_answers.specs.Openings.{IsRackOf};
 ghost use Rattle.book_record.specs.Fronts.{end_line};
+ghost use Rattle.book_record.specs.Heads.{session_limit};
 ghost use Rattle.book_record.specs.Streams.{IsWritten as IsStreamed};
 ghost use Rattle.named_files.specs.Contents.{contents_in};
 ghost use Rattle.kept_sessions.specs.Live.{HasFront, IsOver, IsStarted, IsUnserved, IsUnstarted, left_by};
@@ -135,7 +136,8 @@ fn start_in<R: Threads + Sync, S: System>(
     ensures cut { IfOk result (λ start. IsCutFrom out.entry.held.items
         (record_front names.now start.book) start.cut) }
     ensures unstarted { IfErr result (λ end.
-        IsUnbegun resumes out.entry.held.items (head_for rack names.now) rack end.why
+        IsUnbegun resumes (session_limit (length names.now)) out.entry.held.items
+        (head_for rack names.now) rack end.why
         × IfSome end.receipt (λ receipt. (text : List ℕ)
         × (S.received receipt ≡ closed (Some text) false)
         × ((text ≡ out.entry.held.items)

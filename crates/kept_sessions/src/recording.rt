@@ -3,6 +3,7 @@
 ghost use Rattle.std.specs.Prelude.{◌≡◌, ◌==◌, ◌⊎◌, [], ◌≤◌, ◌+◌, ◌++◌, ◌-◌, IfErr, IfOk, true, count_by, drop, length, map, take};
 ghost use Rattle.batch.specs.Text.{IsNumber, line_feed};
 ghost use Rattle.batch_book.specs.History.{AreUnstopped, new_account};
+ghost use Rattle.book_record.specs.Heads.{session_limit};
 ghost use Rattle.record_replay.specs.ReplayAnswers.{of_record};
 ghost use Rattle.named_files.specs.Notes.{IsRefused};
 ghost use Rattle.kept_sessions.specs.Outcomes.{IsUnbegun, IsUnremade};
@@ -10,7 +11,7 @@ ghost use Rattle.kept_sessions.specs.Records.{BeginsAs, IsCutFrom, IsCutOff, IsR
 
 use crate::found::Cut;
 use batch_book::{Book, Silent};
-use book_record::{head_text, is_ended, sum_of};
+use book_record::{head_text, is_ended, session_limit, sum_of};
 use command_words::Text;
 use exchange_limits::WorkerCount;
 use line_words::behind;
@@ -126,20 +127,21 @@ fn wrong_behind(head: usize, error: RecordError) -> Unbegun
     })
 }
 
-/// The book of the entries that stand behind this head, which is that of the rack's record, and how
-/// many bytes the head and they have.
+/// The book of the entries that stand behind this head, which is that of the rack's record, and by
+/// which the numbers of sessions are below this; and how many bytes the head and they have.
 fn resume<R: Threads + Sync>(
     rt: &R,
     alloc: Global,
     rack: Rack,
     held: &[u8],
     head: &[u8],
+    limit: usize,
     workers: WorkerCount,
 ) -> Result<(Book<Silent>, usize), Unbegun>
-    ensures resumed { IfOk result (λ r. (resumed : IsResumed held.now head.now rack r.0)
+    ensures resumed { IfOk result (λ r. (resumed : IsResumed limit held.now head.now rack r.0)
         × (r.1 ≡ length held.now - length resumed.rest)) }
     ensures whole { IfOk result (λ r. r.0.whole ≡ true) }
-    ensures unbegun { IfErr result (IsUnbegun true held.now head.now rack) }
+    ensures unbegun { IfErr result (IsUnbegun true limit held.now head.now rack) }
 {
     let Some(text) = behind(held, head) else {
         return Err(Unbegun::Wrong(RecordError {
@@ -148,7 +150,7 @@ fn resume<R: Threads + Sync>(
             due: None,
         }));
     };
-    match replay(rt, alloc, rack, text, None, workers) {
+    match replay(rt, alloc, rack, text, limit, None, workers) {
         Ok(Remade { book, rest, .. }) => {
             // Asked for only for its contract, which says that the book is whole.
             book.log();
@@ -208,7 +210,8 @@ pub(crate) fn begin<R: Threads + Sync>(
     ensures ready { IfOk result (λ begun.
         (begun.book.whole ≡ true) × AreUnstopped begun.book.history) }
     ensures unbegun { IfErr result
-        (IsUnbegun resumes held.now (head_for rack names.now) rack) }
+        (IsUnbegun resumes (session_limit (length names.now)) held.now
+        (head_for rack names.now) rack) }
 {
     let head = head_on(alloc, &rack, names)?;
     if head.as_slice().starts_with(held) {
@@ -222,7 +225,8 @@ pub(crate) fn begin<R: Threads + Sync>(
     if !resumes {
         return Err(Unbegun::Missed(holds_more(alloc, name)));
     }
-    let (book, kept) = resume(rt, alloc, rack, held, head.as_slice(), workers)?;
+    let limit = session_limit(names.len());
+    let (book, kept) = resume(rt, alloc, rack, held, head.as_slice(), limit, workers)?;
     Ok(Begun {
         book,
         kept,

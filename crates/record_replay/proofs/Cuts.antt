@@ -1,5 +1,5 @@
 -- What is read of a text that was cut leads where a front of its history leads.
-use Rattle.std.proofs.Common.{◌≡◌, ℕ, ◌≤◌, true, false, List, [], ◌∷◌, ◌++◌, length, map, All, refl, sym, ap, ◌∙◌, append_assoc, append-nil, subst, arith}
+use Rattle.std.proofs.Common.{◌≡◌, ℕ, ◌<◌, ◌≤◌, true, false, List, [], ◌∷◌, ◌++◌, length, map, All, refl, sym, ap, ◌∙◌, append_assoc, append-nil, subst, arith}
 use Rattle.std.specs.List.{flat_map}
 use Rattle.std.proofs.lemmas.Grind.{flat_map-append}
 use Rattle.std.proofs.lemmas.List.{append_cancel_left, length-append, length-map, nil_from_length}
@@ -69,17 +69,21 @@ told_is_resumed opening told later fs end n text behind missing rest all told_ca
     let l = at_front opening (told ++ later) fs (told ++ c.whole) c.more end n text c.rest rest all (ap (λ (x : List Entry). told ++ x) c.are ∙ sym (append_assoc told c.whole c.more)) led known read too in
     (l.0, omega (arith, ap length l.1, length-append told c.whole))
 
-pub both_tell : (xs ys : List Entry) → All CanTell (xs ++ ys) → All CanTell xs × All CanTell ys
-both_tell [] ys all = (All-nil CanTell, all)
-both_tell (x ∷ xs) ys all =
-    let rest = both_tell xs ys (All-tail CanTell x (xs ++ ys) all) in
-    (All-cons CanTell x xs (All-head CanTell x (xs ++ ys) all) rest.0, rest.1)
+-- the number of an entry's session is below this
+abbrev pub IsBelow : ℕ → Entry → Type 0
+IsBelow limit e = e.session < limit
+
+pub both_parts : (P : Entry → Type 0) (xs ys : List Entry) → All P (xs ++ ys) → All P xs × All P ys
+both_parts P [] ys all = (All-nil P, all)
+both_parts P (x ∷ xs) ys all =
+    let rest = both_parts P xs ys (All-tail P x (xs ++ ys) all) in
+    (All-cons P x xs (All-head P x (xs ++ ys) all) rest.0, rest.1)
 
 -- the same of all entries, of which these were told
 parts_resumed : (opening : Store) (told later all fs : List Entry) (end n : Machine) (text behind missing rest : List ℕ) → HasAllBlocks opening → all ≡ told ++ later → All CanTell all → IsReplay (opened opening) all end
     → text ≡ flat_map entry_text told ++ behind → flat_map entry_text later ≡ behind ++ missing → IsReadAs text fs rest → IsReplay (opened opening) fs n → (l : LeadsToFront opening all fs n) × (length told ≤ length l.front)
 parts_resumed opening told later all fs end n text behind missing rest blocks are can led is cut read too =
-    let parts = both_tell told later (subst (All CanTell) are can) in
+    let parts = both_parts CanTell told later (subst (All CanTell) are can) in
     subst (λ (es : List Entry). (l : LeadsToFront opening es fs n) × (length told ≤ length l.front)) (sym are)
     (told_is_resumed opening told later fs end n text behind missing rest blocks parts.0 parts.1 (subst (λ (es : List Entry). IsReplay (opened opening) es end) are led) is cut read too)
 

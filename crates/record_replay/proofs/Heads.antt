@@ -13,17 +13,17 @@ use Rattle.book_record.proofs.Sums.{sum_is_word}
 use Rattle.record_replay.specs.ReplayAnswers.{IsNoRecordOn, IsRecordOn, IsShapeOf}
 
 -- what is read of a head
-abbrev IsRead : List ℕ → Extent → ℕ → List ℕ → Type 0
-IsRead recorded e sum body = IsShape e × IsWord sum × ((n : ℕ) × (names : List (List ℕ)) × AreNames names n × (recorded ≡ head_of e sum names ++ body))
+abbrev IsRead : List ℕ → Extent → ℕ → ℕ → List ℕ → Type 0
+IsRead recorded e sum n body = IsShape e × IsWord sum × ((names : List (List ℕ)) × AreNames names n × (recorded ≡ head_of e sum names ++ body))
 
 -- a record that begins with no head is none on any rack
 pub no_record : (opening : Store) (recorded : List ℕ) → IsShape opening.shape → BeginsWithNoHead recorded → IsNoRecordOn opening recorded
-no_record opening recorded shape none body on = none opening.shape (adler (image_of opening)) (length on.names) on.names body shape (sum_is_word (image_of opening)) on.are on.head
+no_record opening recorded shape none body limit on = none opening.shape (adler (image_of opening)) (length on.names) on.names body shape (sum_is_word (image_of opening)) on.are on.head
 
 -- nor is one whose head says another shape or sum
-pub other_record : (opening : Store) (recorded body : List ℕ) (e : Extent) (sum : ℕ) → IsShape opening.shape → IsRead recorded e sum body → (e ≡ opening.shape → sum ≡ adler (image_of opening) → ⊥) → IsNoRecordOn opening recorded
-other_record opening recorded body e sum shape read other after on =
-    let one = one_head e opening.shape sum (adler (image_of opening)) read.2.1 on.names body after read.0 shape read.1 (sum_is_word (image_of opening)) (counted read.2.1 read.2.0 read.2.2) on.are (sym read.2.3 ∙ on.head) in
+pub other_record : (opening : Store) (recorded body : List ℕ) (e : Extent) (sum n : ℕ) → IsShape opening.shape → IsRead recorded e sum n body → (e ≡ opening.shape → sum ≡ adler (image_of opening) → ⊥) → IsNoRecordOn opening recorded
+other_record opening recorded body e sum n shape read other after limit on =
+    let one = one_head e opening.shape sum (adler (image_of opening)) read.2.0 on.names body after read.0 shape read.1 (sum_is_word (image_of opening)) (counted read.2.0 n read.2.1) on.are (sym read.2.2 ∙ on.head) in
     other one.shape one.sum
 
 -- a shape is none but itself
@@ -36,8 +36,8 @@ same_shape e f apart is =
     absurd cc
 
 -- what stands behind the head is no more than the record
-pub body_within : (opening : Store) (recorded body : List ℕ) → IsRecordOn opening recorded body → length body ≤ length recorded
-body_within opening recorded body on = omega (arith, ap length on.head, length-append (head_of opening.shape (adler (image_of opening)) on.names) body)
+pub body_within : (opening : Store) (recorded body : List ℕ) (limit : ℕ) → IsRecordOn opening recorded body limit → length body ≤ length recorded
+body_within opening recorded body limit on = omega (arith, ap length on.head, length-append (head_of opening.shape (adler (image_of opening)) on.names) body)
 
 spelled_so : (a b c : List ℕ) → a ++ (120 ∷ (b ++ (120 ∷ c))) ≡ (((a ++ 120 ∷ []) ++ b) ++ 120 ∷ []) ++ c
 spelled_so a b c = simp append_assoc
@@ -49,18 +49,18 @@ spelled e a b c text is modules blocks words =
     ∙ ap (λ (n : ℕ). (((decimal e.modules ++ 120 ∷ []) ++ decimal n) ++ 120 ∷ []) ++ decimal c) blocks ∙ ap (λ (n : ℕ). (((decimal e.modules ++ 120 ∷ []) ++ decimal e.blocks) ++ 120 ∷ []) ++ decimal n) words
 
 -- the shape is that of the head, where none is given
-pub shape_of_head : (shape : Option (List ℕ)) (recorded body text : List ℕ) (e : Extent) (sum : ℕ) → shape ≡ None → IsRead recorded e sum body → text ≡ shape_text e → IsShapeOf shape recorded text
-shape_of_head shape recorded body text e sum none read is =
+pub shape_of_head : (shape : Option (List ℕ)) (recorded body text : List ℕ) (e : Extent) (sum n : ℕ) → shape ≡ None → IsRead recorded e sum n body → text ≡ shape_text e → IsShapeOf shape recorded text
+shape_of_head shape recorded body text e sum n none read is =
     subst (λ (o : Option (List ℕ)). IsShapeOf o recorded text) (sym none) (
       record {
         shape = e;
         sum = sum;
-        names = read.2.1;
+        names = read.2.0;
         body = body;
         allowed = read.0;
         word = read.1;
-        are = counted read.2.1 read.2.0 read.2.2;
-        head = read.2.3;
+        are = counted read.2.0 n read.2.1;
+        head = read.2.2;
       },
       is,
     )

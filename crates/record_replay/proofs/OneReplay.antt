@@ -10,7 +10,7 @@ use Rattle.batch_book.specs.declared.entry.Entry.{Entry}
 use Rattle.book_record.specs.Untold.{told_entry}
 use Rattle.rack_answers.specs.Openings.{IsRackOf, IsWrongRack}
 use Rattle.rack_answers.proofs.Openings.{not_wrong_rack, one_rack, one_wrong_rack, rack_blocks}
-use Rattle.book_record.specs.Heads.{BeginsWithNoHead}
+use Rattle.book_record.specs.Heads.{BeginsWithNoHead, session_limit}
 use Rattle.book_record.proofs.Heads.{one_head}
 use Rattle.book_record.proofs.Sums.{sum_is_word}
 use Rattle.record_replay.specs.declared.fault.RecordError.{RecordError}
@@ -21,6 +21,7 @@ use Rattle.refusals.specs.declared.refusal.Refusal.TheVariants as refusal
 use Rattle.refusals.specs.Refusals.{refusal_words}
 use Rattle.plan_answers.specs.Refusals.{Printed, Refuses, IsRefused}
 use Rattle.plan_answers.proofs.Printing.{printed_same, refused_same}
+use Rattle.record_replay.specs.declared.answering.Replayed.{Replayed}
 use Rattle.record_replay.specs.declared.answering.Torn.{Torn}
 use Rattle.record_replay.specs.ReplayAnswers.{IsBehindHead, IsOnlyTold, IsRecordAnswer, IsRecordOn, IsReplayAnswer, IsReplayPrinted, IsShapeOf, IsTornSo, RefusesHead, of_record, told_of, led, record_wrong, replayed, no_head, rack_wrong, other_head}
 
@@ -36,10 +37,11 @@ one_shape_of None recorded p q a b =
 headless : (recorded text : List ℕ) → IsShapeOf None recorded text → BeginsWithNoHead recorded → ⊥
 headless recorded text is none = let h = is.0 in none h.shape h.sum (length h.names) h.names h.body h.allowed h.word h.are h.head
 
-one_body : (opening : Store) (recorded b c : List ℕ) → IsShape opening.shape → IsRecordOn opening recorded b → IsRecordOn opening recorded c → b ≡ c
-one_body opening recorded b c shape p q =
+one_body : (opening : Store) (recorded b c : List ℕ) (m n : ℕ) → IsShape opening.shape → IsRecordOn opening recorded b m → IsRecordOn opening recorded c n → (b ≡ c) × (m ≡ n)
+one_body opening recorded b c m n shape p q =
     let word = sum_is_word (image_of opening) in
-    (one_head opening.shape opening.shape _ _ p.names q.names b c shape shape word word p.are q.are (sym p.head ∙ q.head)).rest
+    let one = one_head opening.shape opening.shape _ _ p.names q.names b c shape shape word word p.are q.are (sym p.head ∙ q.head) in
+    (one.rest, p.limited ∙ ap (λ (names : List (List ℕ)). session_limit (length names)) one.names ∙ sym q.limited)
 
 -- ---- what is told
 
@@ -54,10 +56,10 @@ same_told f g fault offset due = cc
 same_offset : (text : List ℕ) (i j : ℕ) → i ≤ length text → j ≤ length text → drop i text ≡ drop j text → i ≡ j
 same_offset text i j below under same = omega (arith, below, under, ap length same, length-drop i text, length-drop j text)
 
-one_error : (opening : Store) (body : List ℕ) (first : Option ℕ) (head : ℕ) (f g s t : RecordError) → HasAllBlocks opening → IsRecordError body opening first f → IsRecordError body opening first g → IsBehindHead head f s → IsBehindHead head g t
+one_error : (limit : ℕ) (opening : Store) (body : List ℕ) (first : Option ℕ) (head : ℕ) (f g s t : RecordError) → HasAllBlocks opening → IsRecordError limit body opening first f → IsRecordError limit body opening first g → IsBehindHead head f s → IsBehindHead head g t
     → (f.fault ≡ g.fault) × (told_of (Some s) ≡ told_of (Some t))
-one_error opening body first head f g s t all wrong too moved moved_too =
-    let one = one_fault opening body first f.fault g.fault _ _ _ _ all wrong.wrong too.wrong in
+one_error limit opening body first head f g s t all wrong too moved moved_too =
+    let one = one_fault limit opening body first f.fault g.fault _ _ _ _ all wrong.wrong too.wrong in
     let at = same_offset body f.offset g.offset wrong.within too.within one.1 in
     (one.0, same_told s t (moved.fault ∙ one.0 ∙ sym moved_too.fault) (moved.offset ∙ ap (λ (n : ℕ). head + n) at ∙ sym moved_too.offset) (moved.due ∙ one.2 ∙ sym moved_too.due))
 
@@ -78,6 +80,10 @@ same_torn recorded first n m x y (Some s) None long same a (inl all) = absurd (l
 same_torn recorded first n m x y (Some s) None long same a (inr end) = absurd (a.1 (same ∙ end))
 same_torn recorded first n m x y (Some s) (Some t) long same a b = torn_of s t (a.2 ∙ long ∙ sym b.2) (a.3 ∙ ap (λ (l : List ℕ). length recorded - length l) same ∙ sym b.3)
 
+-- an answer, and what is told beside it
+abbrev beside : Printed → Option RecordError → Option Torn → Replayed
+beside printed told torn = record { answer = printed; error = told; torn = torn }
+
 -- the answers are one, and what is told beside them
 record Same (p q : Printed) (u v : Option RecordError) (s t : Option Torn) : Type 0 where
   printed : q ≡ p
@@ -87,18 +93,19 @@ record Same (p q : Printed) (u v : Option RecordError) (s t : Option Torn) : Typ
 same_length : (es fs : List Entry) → map told_entry es ≡ map told_entry fs → length es ≡ length fs
 same_length es fs same = sym (length-map es told_entry) ∙ ap length same ∙ length-map fs told_entry
 
-same_record : (opening : Store) (recorded body : List ℕ) (first : Option ℕ) (p q : Printed) (u v : Option RecordError) (s t : Option Torn) → HasAllBlocks opening → IsRecordAnswer opening recorded body first p u s → IsRecordAnswer opening recorded body first q v t → Same p q u v s t
-same_record opening recorded body first p q u v s t all (led es a x is image ends none torn) (led fs b y are picture stops too cut) =
-    let one = one_remade opening body first es fs a b x y all is are in
+same_record : (opening : Store) (recorded body : List ℕ) (limit : ℕ) (first : Option ℕ) (p q : Printed) (u v : Option RecordError) (s t : Option Torn) → HasAllBlocks opening → IsRecordAnswer opening recorded body limit first (beside p u s)
+    → IsRecordAnswer opening recorded body limit first (beside q v t) → Same p q u v s t
+same_record opening recorded body limit first p q u v s t all (led es a x is image ends none torn) (led fs b y are picture stops too cut) =
+    let one = one_remade limit opening body first es fs a b x y all is are in
     record {
       printed = printed_same q p (picture ∙ ap image_of (sym one.1) ∙ sym image) (stops ∙ sym ends);
       told = none_told u v none too;
       torn = same_torn recorded first (length es) (length fs) x y s t (same_length es fs one.0) one.2 torn cut;
     }
-same_record opening recorded body first p q u v s t all (led es a x is image ends none torn) (record_wrong f g wrong moved b are cut) = absurd (never_both opening body first es a x f.fault _ _ all is wrong.wrong)
-same_record opening recorded body first p q u v s t all (record_wrong f g wrong moved a is torn) (led es b x are image ends none cut) = absurd (never_both opening body first es b x f.fault _ _ all are wrong.wrong)
-same_record opening recorded body first p q u v s t all (record_wrong f m wrong moved a is torn) (record_wrong g n too moved_too b are cut) =
-    let one = one_error opening body first _ f g m n all wrong too moved moved_too in
+same_record opening recorded body limit first p q u v s t all (led es a x is image ends none torn) (record_wrong f g wrong moved b are cut) = absurd (never_both limit opening body first es a x f.fault _ _ all is wrong.wrong)
+same_record opening recorded body limit first p q u v s t all (record_wrong f g wrong moved a is torn) (led es b x are image ends none cut) = absurd (never_both limit opening body first es b x f.fault _ _ all are wrong.wrong)
+same_record opening recorded body limit first p q u v s t all (record_wrong f m wrong moved a is torn) (record_wrong g n too moved_too b are cut) =
+    let one = one_error limit opening body first _ f g m n all wrong too moved moved_too in
     record {
       printed = same_refused (of_record f.fault) (of_record g.fault) p q (ap of_record one.0) a b;
       told = ap told_of are ∙ sym one.1 ∙ sym (ap told_of is);
@@ -120,24 +127,25 @@ rack_shape text image rack is = (rack_blocks text image rack is).0
 
 same_answer : (shape : Option (List ℕ)) (recorded : List ℕ) (image : Option (List ℕ)) (first : Option ℕ) (p q : Printed) (u v : Option RecordError) (s t : Option Torn)
     → IsReplayAnswer shape recorded image first p u s → IsReplayAnswer shape recorded image first q v t → Same p q u v s t
-same_answer shape recorded image first p q u v s t (replayed x b o named rack on a) (replayed y c r other_named other_rack other_on d) =
+same_answer shape recorded image first p q u v s t (replayed x b o m named rack on a) (replayed y c r n other_named other_rack other_on d) =
     let rack_too : IsRackOf x image r = subst (λ (z : List ℕ). IsRackOf z image r) (sym (one_shape_of shape recorded x y named other_named)) other_rack in
     let store : r ≡ o = one_rack x image o r rack rack_too in
-    let on_too : IsRecordOn o recorded c = subst (λ (z : Store). IsRecordOn z recorded c) store other_on in
-    let body : b ≡ c = one_body o recorded b c (rack_shape x image o rack) on on_too in
-    same_record o recorded b first p q u v s t (rack_blocks x image o rack) a
-    (subst (λ (z : List ℕ). IsRecordAnswer o recorded z first q v t) (sym body) (subst (λ (z : Store). IsRecordAnswer z recorded c first q v t) store d))
-same_answer shape recorded image first p q u v s t (replayed x b o named rack on a) (no_head none headless_too d) = absurd (headless recorded x (subst (λ (z : Option (List ℕ)). IsShapeOf z recorded x) none named) headless_too)
-same_answer shape recorded image first p q u v s t (replayed x b o named rack on a) (rack_wrong y w other_named wrong d none cut) =
+    let on_too : IsRecordOn o recorded c n = subst (λ (z : Store). IsRecordOn z recorded c n) store other_on in
+    let one = one_body o recorded b c m n (rack_shape x image o rack) on on_too in
+    let there = subst (λ (z : Store). IsRecordAnswer z recorded c n first (beside q v t)) store d in
+    let here = subst (λ (z : List ℕ). IsRecordAnswer o recorded z n first (beside q v t)) (sym one.0) there in
+    same_record o recorded b m first p q u v s t (rack_blocks x image o rack) a (subst (λ (k : ℕ). IsRecordAnswer o recorded b k first (beside q v t)) (sym one.1) here)
+same_answer shape recorded image first p q u v s t (replayed x b o m named rack on a) (no_head none headless_too d) = absurd (headless recorded x (subst (λ (z : Option (List ℕ)). IsShapeOf z recorded x) none named) headless_too)
+same_answer shape recorded image first p q u v s t (replayed x b o m named rack on a) (rack_wrong y w other_named wrong d none cut) =
     absurd (not_wrong_rack x image o w rack (subst (λ (z : List ℕ). IsWrongRack z image w) (sym (one_shape_of shape recorded x y named other_named)) wrong))
-same_answer shape recorded image first p q u v s t (replayed x b o named rack on a) (other_head y r other_named other_rack off d) =
+same_answer shape recorded image first p q u v s t (replayed x b o m named rack on a) (other_head y r other_named other_rack off d) =
     let rack_too : IsRackOf x image r = subst (λ (z : List ℕ). IsRackOf z image r) (sym (one_shape_of shape recorded x y named other_named)) other_rack in
-    absurd (off b (subst (λ (z : Store). IsRecordOn z recorded b) (sym (one_rack x image o r rack rack_too)) on))
-same_answer shape recorded image first p q u v s t (no_head none headless_here a) (replayed y c r other_named other_rack other_on d) = absurd (headless recorded y (subst (λ (z : Option (List ℕ)). IsShapeOf z recorded y) none other_named) headless_here)
+    absurd (off b m (subst (λ (z : Store). IsRecordOn z recorded b m) (sym (one_rack x image o r rack rack_too)) on))
+same_answer shape recorded image first p q u v s t (no_head none headless_here a) (replayed y c r n other_named other_rack other_on d) = absurd (headless recorded y (subst (λ (z : Option (List ℕ)). IsShapeOf z recorded y) none other_named) headless_here)
 same_answer shape recorded image first p q u v s t (no_head none headless_here a) (no_head none_too headless_too d) = same_heads p q u v s t a d
 same_answer shape recorded image first p q u v s t (no_head none headless_here a) (rack_wrong y w other_named wrong d none_too cut) = absurd (headless recorded y (subst (λ (z : Option (List ℕ)). IsShapeOf z recorded y) none other_named) headless_here)
 same_answer shape recorded image first p q u v s t (no_head none headless_here a) (other_head y r other_named other_rack off d) = absurd (headless recorded y (subst (λ (z : Option (List ℕ)). IsShapeOf z recorded y) none other_named) headless_here)
-same_answer shape recorded image first p q u v s t (rack_wrong x w named wrong a none cut) (replayed y c r other_named other_rack other_on d) =
+same_answer shape recorded image first p q u v s t (rack_wrong x w named wrong a none cut) (replayed y c r n other_named other_rack other_on d) =
     absurd (not_wrong_rack y image r w other_rack (subst (λ (z : List ℕ). IsWrongRack z image w) (one_shape_of shape recorded x y named other_named) wrong))
 same_answer shape recorded image first p q u v s t (rack_wrong x w named wrong a none cut) (no_head none_too headless_too d) = absurd (headless recorded x (subst (λ (z : Option (List ℕ)). IsShapeOf z recorded x) none_too named) headless_too)
 same_answer shape recorded image first p q u v s t (rack_wrong x w named wrong a none cut) (rack_wrong y z other_named too b absent whole) =
@@ -148,9 +156,9 @@ same_answer shape recorded image first p q u v s t (rack_wrong x w named wrong a
     }
 same_answer shape recorded image first p q u v s t (rack_wrong x w named wrong a none cut) (other_head y r other_named other_rack off d) =
     absurd (not_wrong_rack y image r w other_rack (subst (λ (z : List ℕ). IsWrongRack z image w) (one_shape_of shape recorded x y named other_named) wrong))
-same_answer shape recorded image first p q u v s t (other_head x o named rack off a) (replayed y c r other_named other_rack other_on d) =
+same_answer shape recorded image first p q u v s t (other_head x o named rack off a) (replayed y c r n other_named other_rack other_on d) =
     let rack_too : IsRackOf x image r = subst (λ (z : List ℕ). IsRackOf z image r) (sym (one_shape_of shape recorded x y named other_named)) other_rack in
-    absurd (off c (subst (λ (z : Store). IsRecordOn z recorded c) (one_rack x image o r rack rack_too) other_on))
+    absurd (off c n (subst (λ (z : Store). IsRecordOn z recorded c n) (one_rack x image o r rack rack_too) other_on))
 same_answer shape recorded image first p q u v s t (other_head x o named rack off a) (no_head none headless_too d) = absurd (headless recorded x (subst (λ (z : Option (List ℕ)). IsShapeOf z recorded x) none named) headless_too)
 same_answer shape recorded image first p q u v s t (other_head x o named rack off a) (rack_wrong y w other_named wrong d none cut) =
     absurd (not_wrong_rack x image o w rack (subst (λ (z : List ℕ). IsWrongRack z image w) (sym (one_shape_of shape recorded x y named other_named)) wrong))

@@ -10,24 +10,24 @@ use Rattle.record_replay.specs.Replays.{IsRecordFault, IsRemade}
 -- entries that are made again differ in plans alone, and lead to the same words, with one rest
 abbrev pub OneRemade : Type 0
 OneRemade =
-    (opening : Store) (text : List ℕ) (first : Option ℕ) (es fs : List Entry) (a b : Machine)
-    (rest left : List ℕ) → HasAllBlocks opening → IsRemade text opening first es a rest
-    → IsRemade text opening first fs b left
+    (limit : ℕ) (opening : Store) (text : List ℕ) (first : Option ℕ) (es fs : List Entry)
+    (a b : Machine) (rest left : List ℕ) → HasAllBlocks opening
+    → IsRemade limit text opening first es a rest → IsRemade limit text opening first fs b left
     → (map told_entry es ≡ map told_entry fs) × (a.store ≡ b.store) × (rest ≡ left)
 
 -- where they are made again there is no fault
 abbrev pub NeverBoth : Type 0
 NeverBoth =
-    (opening : Store) (text : List ℕ) (first : Option ℕ) (es : List Entry) (end : Machine)
-    (left : List ℕ) (fault : RecordFault) (rest : List ℕ) (due : Option (List ℕ))
-    → HasAllBlocks opening → IsRemade text opening first es end left
-    → IsRecordFault text opening first fault rest due → ⊥
+    (limit : ℕ) (opening : Store) (text : List ℕ) (first : Option ℕ) (es : List Entry)
+    (end : Machine) (left : List ℕ) (fault : RecordFault) (rest : List ℕ)
+    (due : Option (List ℕ)) → HasAllBlocks opening → IsRemade limit text opening first es end left
+    → IsRecordFault limit text opening first fault rest due → ⊥
 
 -- else there is one fault, in one place, and one line is due there
 abbrev pub OneFault : Type 0
 OneFault =
-    (opening : Store) (text : List ℕ) (first : Option ℕ) (one other : RecordFault)
+    (limit : ℕ) (opening : Store) (text : List ℕ) (first : Option ℕ) (one other : RecordFault)
     (rest left : List ℕ) (due line : Option (List ℕ)) → HasAllBlocks opening
-    → IsRecordFault text opening first one rest due
-    → IsRecordFault text opening first other left line
+    → IsRecordFault limit text opening first one rest due
+    → IsRecordFault limit text opening first other left line
     → (one ≡ other) × (rest ≡ left) × (due ≡ line)

@@ -8,7 +8,7 @@ use Rattle.module_memory.specs.Store.{Store}
 use Rattle.batch_book.specs.declared.entry.Entry.{Entry}
 use Rattle.batch_book.specs.Machine.{Machine}
 use Rattle.book_record.specs.Fronts.{end_line}
-use Rattle.book_record.specs.Heads.{AreNames, BeginsWithNoHead, IsHeadOf, head_of}
+use Rattle.book_record.specs.Heads.{AreNames, BeginsWithNoHead, IsHeadOf, head_of, session_limit}
 use Rattle.record_replay.specs.declared.fault.RecordError.{RecordError}
 use Rattle.record_replay.specs.declared.fault.RecordFault.{RecordFault}
 use Rattle.record_replay.specs.declared.fault.RecordFault.TheVariants as record_fault
@@ -18,6 +18,7 @@ use Rattle.refusals.specs.declared.refusal.Refusal.{Refusal}
 use Rattle.refusals.specs.declared.refusal.Refusal.TheVariants as refusal
 use Rattle.plan_answers.specs.declared.limits.TheConstants.{DONE}
 use Rattle.plan_answers.specs.Refusals.{Printed, Refuses}
+use Rattle.record_replay.specs.declared.answering.Replayed.{Replayed}
 use Rattle.record_replay.specs.declared.answering.Torn.{Torn}
 
 -- ---- the rack
@@ -38,15 +39,18 @@ abbrev pub IsShapeOf : Option (List ℕ) → List ℕ → List ℕ → Type 0
 IsShapeOf (Some shape) recorded text = text ≡ shape
 IsShapeOf None recorded text = (h : HasHead recorded) × (text ≡ shape_text h.shape)
 
--- the record is one on a rack that begins with this store, and this stands behind its head
-pub record IsRecordOn (opening : Store) (recorded body : List ℕ) : Type 0 where
+-- The record is one on a rack that begins with this store, and this stands behind its head, which
+-- says that the numbers of its sessions are below this.
+pub record IsRecordOn (opening : Store) (recorded body : List ℕ) (limit : ℕ) : Type 0 where
   pub names : List (List ℕ)
   pub are : AreNames names (length names)
+  pub limited : limit ≡ session_limit (length names)
   pub head : IsHeadOf opening names recorded body
 
 -- it is none
 abbrev pub IsNoRecordOn : Store → List ℕ → Type 0
-IsNoRecordOn opening recorded = (body : List ℕ) → IsRecordOn opening recorded body → ⊥
+IsNoRecordOn opening recorded =
+    (body : List ℕ) (limit : ℕ) → IsRecordOn opening recorded body limit → ⊥
 
 -- ---- the entries
 
@@ -75,16 +79,17 @@ pub record IsBehindHead (head : ℕ) (error told : RecordError) : Type 0 where
 
 -- The image to which the entries lead, or the refusal of what is first wrong with them. Of that it
 -- is told where, and which line is due there.
-pub data IsRecordAnswer (opening : Store) (recorded body : List ℕ) (first : Option ℕ)
-    (printed : Printed) (told : Option RecordError) (torn : Option Torn) : Type 0 where
+pub data IsRecordAnswer (opening : Store) (recorded body : List ℕ) (limit : ℕ) (first : Option ℕ)
+    (replayed : Replayed) : Type 0 where
   led : (es : List Entry) (end : Machine) (rest : List ℕ)
-      → IsRemade body opening first es end rest → printed.text ≡ image_of end.store
-      → printed.status ≡ DONE → told ≡ None → IsTornSo recorded first (length es) rest torn
-      → IsRecordAnswer opening recorded body first printed told torn
-  record_wrong : (error said : RecordError) → IsRecordError body opening first error
+      → IsRemade limit body opening first es end rest
+      → replayed.answer.text ≡ image_of end.store → replayed.answer.status ≡ DONE
+      → replayed.error ≡ None → IsTornSo recorded first (length es) rest replayed.torn
+      → IsRecordAnswer opening recorded body limit first replayed
+  record_wrong : (error said : RecordError) → IsRecordError limit body opening first error
       → IsBehindHead (length recorded - length body) error said
-      → Refuses (of_record error.fault) printed → told ≡ Some said → torn ≡ None
-      → IsRecordAnswer opening recorded body first printed told torn
+      → Refuses (of_record error.fault) replayed.answer → replayed.error ≡ Some said
+      → replayed.torn ≡ None → IsRecordAnswer opening recorded body limit first replayed
 
 -- ---- the answer
 
@@ -105,9 +110,10 @@ pub record RefusesHead (printed : Printed) (told : Option RecordError)
 pub data IsReplayAnswer (shape : Option (List ℕ)) (recorded : List ℕ) (image : Option (List ℕ))
     (first : Option ℕ) (printed : Printed) (told : Option RecordError)
     (torn : Option Torn) : Type 0 where
-  replayed : (text body : List ℕ) (opening : Store) → IsShapeOf shape recorded text
-      → IsRackOf text image opening → IsRecordOn opening recorded body
-      → IsRecordAnswer opening recorded body first printed told torn
+  replayed : (text body : List ℕ) (opening : Store) (limit : ℕ) → IsShapeOf shape recorded text
+      → IsRackOf text image opening → IsRecordOn opening recorded body limit
+      → IsRecordAnswer opening recorded body limit first
+      (record { answer = printed; error = told; torn = torn })
       → IsReplayAnswer shape recorded image first printed told torn
   no_head : shape ≡ None → BeginsWithNoHead recorded → RefusesHead printed told torn
       → IsReplayAnswer shape recorded image first printed told torn

@@ -1,5 +1,5 @@
 -- What the laws state. Proofs use them; no contract of a call cites them.
-use Rattle.std.specs.Prelude.{◌≡◌, ◌⊎◌, ℕ, ◌^◌, ◌≤◌, Bool, true, false, List, [], ◌∷◌, ◌++◌, length, All, Option, None, Some}
+use Rattle.std.specs.Prelude.{◌≡◌, ◌⊎◌, ℕ, ◌^◌, ◌<◌, ◌≤◌, Bool, true, false, List, [], ◌∷◌, ◌++◌, length, All, Option, None, Some}
 use Rattle.std.specs.List.{flat_map}
 use Rattle.batch.specs.declared.limits.TheConstants.{MAX_DIGITS}
 use Rattle.module_memory.specs.Images.{image_of}
@@ -9,7 +9,7 @@ use Rattle.batch_book.specs.Machine.{Machine, opened}
 use Rattle.batch_book.specs.Recording.{AreAllBut}
 use Rattle.book_record.specs.RecordText.{CanTell, entry_text}
 use Rattle.book_record.specs.Fronts.{end_line}
-use Rattle.book_record.specs.Heads.{AreNames, adler, head_of, whole_text}
+use Rattle.book_record.specs.Heads.{AreNames, adler, head_of, session_limit, whole_text}
 use Rattle.book_record.specs.Streams.{IsWritten}
 use Rattle.rack_answers.specs.Openings.{IsRackOf}
 use Rattle.record_replay.specs.ReplayAnswers.{IsReplayPrinted}
@@ -52,16 +52,18 @@ ServeIsReplayed =
 
 -- ---- a record that is written call by call
 
--- an exchange begins over this book: its history is legal, and a record can tell it
-pub record CanGoOn (was : Account) : Type 0 where
+-- an exchange begins over this book: its history is legal, and a record can tell it whose head names
+-- so many clients
+pub record CanGoOn (clients : ℕ) (was : Account) : Type 0 where
   pub led : IsReplay (opened was.opening) was.history was.machine
   pub told : All CanTell was.history
+  pub sessions : All (λ e. e.session < session_limit clients) was.history
 
--- The entry that nobody was told, where there is such, is one that a record can tell.
-abbrev pub CanTellLost : Account → Type 0
-CanTellLost left =
+-- The entry that nobody was told, where there is such, is one that such a record can tell.
+abbrev pub CanTellLost : ℕ → Account → Type 0
+CanTellLost clients left =
     left.whole ≡ false → (others : List Entry) (last : Entry) → left.history ≡ others ++ last ∷ []
-    → CanTell last
+    → CanTell last × (last.session < session_limit clients)
 
 -- the head and the entries of a record of a book, by clients of these names
 abbrev pub record_so_far : List (List ℕ) → Account → List ℕ
@@ -83,8 +85,9 @@ abbrev pub HostIsReplayed : Type 0
 HostIsReplayed =
     (shape : List ℕ) (image : Option (List ℕ)) (loses : Bool) (was left : Account)
     (g : KnownClients) (ends : List SessionEnd) (printed : Printed) (names : List (List ℕ))
-    (file : List ℕ) → IsRackOf shape image was.opening → CanGoOn was
-    → AreHosted loses was g ends printed left → g.clients ≤ 10 ^ MAX_DIGITS → CanTellLost left
+    (file : List ℕ) → IsRackOf shape image was.opening
+    → CanGoOn (length names) was → AreHosted loses was g ends printed left
+    → g.clients ≤ session_limit (length names) → CanTellLost (length names) left
     → IsRecorded names was left file → IsReplayedTo shape image left file
 
 -- that of one session
@@ -92,6 +95,7 @@ abbrev pub TalkIsReplayed : Type 0
 TalkIsReplayed =
     (shape : List ℕ) (image : Option (List ℕ)) (loses : Bool) (was left : Account)
     (before after : Option (List ℕ)) (told : List ℕ) (printed : Printed) (names : List (List ℕ))
-    (file : List ℕ) → IsRackOf shape image was.opening → CanGoOn was
-    → HasTalked loses was before after told printed left → CanTellLost left
-    → IsRecorded names was left file → IsReplayedTo shape image left file
+    (file : List ℕ) → IsRackOf shape image was.opening
+    → CanGoOn (length names) was → HasTalked loses was before after told printed left
+    → CanTellLost (length names) left → IsRecorded names was left file
+    → IsReplayedTo shape image left file

@@ -9,7 +9,7 @@ ghost use Rattle.record_replay.specs.Replays.{AreFewer};
 ghost use Rattle.record_replay.specs.ReplayAnswers.{IsBehindHead, IsNoRecordOn, IsOnlyTold, IsRecordAnswer, IsRecordOn, IsReplayAnswer, IsReplayPrinted, IsShapeOf, IsTornSo, RefusesHead, of_record};
 
 use crate::{RecordError, RecordFault, replay};
-use book_record::{is_ended, read_head, sum_of};
+use book_record::{is_ended, read_head, session_limit, sum_of};
 use exchange_limits::WorkerCount;
 use module_memory::Rack;
 use plan_answers::Answer;
@@ -97,28 +97,29 @@ fn wanted_shape(
     let Some(head) = read_head(recorded) else {
         return Ok(None);
     };
-    let (shape, _, _) = head;
+    let (shape, ..) = head;
     let (modules, blocks, words) = (shape.modules(), shape.blocks(), shape.words());
     let text = format!(in alloc; "{modules}x{blocks}x{words}")?;
     Ok(Some(text.into_bytes()))
 }
 
-/// What stands behind the head of a record, where it is one on this rack.
-fn body_on<'a>(rack: &Rack, recorded: &'a [u8]) -> Result<Option<&'a [u8]>, AllocError>
+/// What stands behind the head of a record, where it is one on this rack, and below what the numbers
+/// of its sessions are.
+fn body_on<'a>(rack: &Rack, recorded: &'a [u8]) -> Result<Option<(&'a [u8], usize)>, AllocError>
     ensures some { IfOk result (λ body. IfSome body (λ b.
-        IsRecordOn rack.now recorded.entry.now b.now)) }
+        IsRecordOn rack.now recorded.entry.now b.0.now b.1)) }
     ensures none { IfOk result (λ body. IfNone body (IsNoRecordOn rack.now recorded.entry.now)) }
 {
     let own = rack.shape();
     let Some(head) = read_head(recorded) else {
         return Ok(None);
     };
-    let (shape, sum, body) = head;
+    let (shape, sum, clients, body) = head;
     let image = rack.image()?;
     if shape != own || sum != sum_of(image.as_slice()) {
         return Ok(None);
     }
-    Ok(Some(body))
+    Ok(Some((body, session_limit(clients))))
 }
 
 /// The error of what stands behind a head of so many bytes, as it is told of the whole record.
@@ -156,14 +157,14 @@ fn answer_record<R: Threads + Sync>(
     rack: Rack,
     recorded: &[u8],
     body: &[u8],
+    limit: usize,
     first: Option<usize>,
     workers: WorkerCount,
 ) -> Result<Replayed, AllocError>
     requires { length body.now ≤ length recorded.now }
-    ensures { IfOk result (λ replayed. IsRecordAnswer rack recorded.now body.now first
-        replayed.answer replayed.error replayed.torn) }
+    ensures { IfOk result (IsRecordAnswer rack recorded.now body.now limit first) }
 {
-    match replay(rt, alloc, rack, body, first, workers) {
+    match replay(rt, alloc, rack, body, limit, first, workers) {
         Ok(remade) => Ok(Replayed {
             answer: Answer::done(remade.book.rack().image()?),
             error: None,
@@ -198,7 +199,9 @@ fn answer_texts<R: Threads + Sync>(
         Err(refusal) => return unbegun(alloc, refusal),
     };
     match body_on(&rack, recorded)? {
-        Some(body) => answer_record(rt, alloc, rack, recorded, body, first, workers),
+        Some((body, limit)) => {
+            answer_record(rt, alloc, rack, recorded, body, limit, first, workers)
+        }
         None => unheaded(alloc),
     }
 }
@@ -208,8 +211,9 @@ fn answer_texts<R: Threads + Sync>(
 ///
 /// The shape is that which is given, or else that of the record's head. The rack's words are first
 /// those of the image or, where there is none, 0. Shape and image are looked at first. Then the
-/// record's head has to be that of this rack. Then the entries come, one by one: each call is made
-/// again, and its reply's line is compared. A record tells no run that stopped, and no plan of
+/// record's head has to be that of this rack. Then the entries come, one by one: each is one of a
+/// client whom the head names, where it names any; its call is made again, and its reply's line is
+/// compared. A record tells no run that stopped, and no plan of
 /// another batch. One that was torn off is replayed as far as its whole entries go, and
 /// beside the answer it is told how far that is. Planning and runs are given so many workers, and
 /// the answer doesn't depend on their number.

@@ -38,12 +38,12 @@ pub(crate) fn follow<'a, R: Threads + Sync>(
 ) -> Result<&'a [u8], EntryFault<'a>>
     requires number { IsNumber begun.session }
     requires call { CanSay begun.call }
-    ensures ok { (text : List ℕ)
-        → HasBegun text begun.entry.session begun.entry.call begun.entry.replied.now
-        → IfOk result (λ rest. GoesOnBy book.old book.new text rest.now) }
-    ensures fault { (text : List ℕ)
-        → HasBegun text begun.entry.session begun.entry.call begun.entry.replied.now
-        → IfErr result (IsEntryFault book.old.machine text) }
+    ensures ok { (limit : ℕ) → (text : List ℕ)
+        → HasBegun limit text begun.entry.session begun.entry.call begun.entry.replied.now
+        → IfOk result (λ rest. GoesOnBy limit book.old book.new text rest.now) }
+    ensures fault { (limit : ℕ) → (text : List ℕ)
+        → HasBegun limit text begun.entry.session begun.entry.call begun.entry.replied.now
+        → IfErr result (IsEntryFault limit book.old.machine text) }
     ensures opening { book.new.opening ≡ book.old.opening }
 {
     let BegunEntry {

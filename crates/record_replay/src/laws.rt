@@ -11,7 +11,7 @@ ghost use Rattle.record_replay.specs.SessionLaws.{NoStrangers, SessionsAreTold, 
 use crate::fault::{RecordError, RecordFault};
 use crate::replaying::replay;
 use batch_book::{Book, Silent};
-use book_record::{read_head, write_record};
+use book_record::{read_head, session_limit, write_record};
 use exchange_limits::WorkerCount;
 use std::alloc::Global;
 use std::thread::Threads;
@@ -58,11 +58,19 @@ pub fn recorded_then_replayed<R: Threads + Sync>(
     book.history();
     let _shape = book.opening().shape();
     let text = write_record(alloc, book)?;
-    let Some((_, _, entries)) = read_head(text.as_slice()) else {
+    let Some((_, _, clients, entries)) = read_head(text.as_slice()) else {
         unreachable!()
     };
     let opening = book.opening().copy()?;
-    let again = replay(rt, alloc, opening, entries, None, workers)?;
+    let again = replay(
+        rt,
+        alloc,
+        opening,
+        entries,
+        session_limit(clients),
+        None,
+        workers,
+    )?;
     Ok(again.book)
 }
 

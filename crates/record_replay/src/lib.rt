@@ -1,14 +1,15 @@
 //! A record, replayed: each call is made again on a new book, and the line of its reply is
 //! compared.
 //!
-//! [`replay`] makes the entries behind a record's head again, all of them or so many as are wanted. It
-//! gives a book with a legal history of these entries, so one in which no run stopped and no plan
-//! was another batch's, and the rest of the text: the last line of a record, a front of it, or what
-//! is there of entries that were torn off. Then the whole text is a front of the text of a legal
-//! history (`IsRemade`, `IsTornOff` of `specs/Replays.antt`). Else, lack of memory aside, it names
-//! what is first wrong, how many bytes stand before that, and of a reply the line that is due
-//! (`IsRecordError`). A text has one such outcome (`laws::one_outcome`). What is recorded of a book
-//! is replayed to the same words, where a record can tell all its entries
+//! [`replay`] makes the entries behind a record's head again, all of them or so many as are wanted.
+//! Each has to be of a session below a limit, which the head says (`session_limit` of
+//! `book_record`). It gives a book with a legal history of these entries, so one in which no run
+//! stopped and no plan was another batch's, and the rest of the text: the last line of a record, a
+//! front of it, or what is there of entries that were torn off. Then the whole text is a front of
+//! the text of a legal history (`IsRemade`, `IsTornOff` of `specs/Replays.antt`). Else, lack of
+//! memory aside, it names what is first wrong, how many bytes stand before that, and of a reply the
+//! line that is due (`IsRecordError`). A text has one such outcome (`laws::one_outcome`). What is
+//! recorded of a book is replayed to the same words, where a record can tell all its entries
 //! (`laws::recorded_then_replayed`). It can tell all that sessions leave, where no run stopped
 //! (`laws::sessions_are_told`).
 //!
@@ -32,8 +33,8 @@
 //! by the image of the words to which the first entries of the history lead. They are all that any
 //! session was told, and maybe the one that couldn't be written whole (`laws::record_is_answered`,
 //! `IsReplayedTo` of `specs/SessionRecords.antt`). A premise of that comes of no contract: the entry
-//! that nobody was told, where there is such, is one that a record can tell (`CanTellLost`). So it is
-//! with `laws::resumed`, which asks for that of all entries (`CanTell`).
+//! that nobody was told, where there is such, is one that this record can tell (`CanTellLost`). So it
+//! is with `laws::resumed`, which asks for that of all entries (`CanTell`).
 #![tactic(auto)]
 
 mod answering;

@@ -50,12 +50,12 @@ fn wrong_at(fault: RecordFault, text: &[u8], rest: &[u8]) -> RecordError
     }
 }
 
-/// What is wrong with the rest of a record behind so many entries, where no call has begun there;
-/// nothing, where the last line stands there, or a front of it.
-fn wrong_end(entries: usize, text: &[u8], rest: &[u8]) -> Option<RecordError>
-    requires { (rest.now ≡ []) ⊎ HasNoneBegun rest.now }
+/// What is wrong with the rest of a record behind so many entries, where no call by a session below
+/// this has begun there; nothing, where the last line stands there, or a front of it.
+fn wrong_end(limit: usize, entries: usize, text: &[u8], rest: &[u8]) -> Option<RecordError>
+    requires { (rest.now ≡ []) ⊎ HasNoneBegun limit rest.now }
     ensures none { IfNone result (IsUnfinished rest.now × BeginsEnd rest.now) }
-    ensures some { IfSome result (IsWrongEnd entries text.now rest.now) }
+    ensures some { IfSome result (IsWrongEnd limit entries text.now rest.now) }
 {
     if let Some(_) = behind(b"end\n", rest) {
         return None;
@@ -70,22 +70,23 @@ fn wrong_end(entries: usize, text: &[u8], rest: &[u8]) -> Option<RecordError>
 /// record ends there, or something is wrong with its rest.
 fn ended<'a>(
     text: &[u8],
+    limit: usize,
     first: Option<usize>,
     book: Book<Silent>,
     entries: usize,
     rest: &'a [u8],
 ) -> Result<Remade<'a>, Unmade>
-    requires replayed { IsReplayed text.now book.opening book.history book.machine rest.now }
+    requires replayed { IsReplayed limit text.now book.opening book.history book.machine rest.now }
     requires counted { length book.history ≡ entries }
     requires fewer { AreFewer (length book.history) first }
-    requires none { (rest.now ≡ []) ⊎ HasNoneBegun rest.now }
-    ensures remade { IfOk result (λ remade. IsRemade text.now book.opening first
+    requires none { (rest.now ≡ []) ⊎ HasNoneBegun limit rest.now }
+    ensures remade { IfOk result (λ remade. IsRemade limit text.now book.opening first
         remade.book.history remade.book.machine remade.rest.now) }
     ensures opening { IfOk result (λ remade. remade.book.opening ≡ book.opening) }
     ensures counted { IfOk result (λ remade. length remade.book.history ≡ remade.entries) }
-    ensures unmade { IfErr result (IsUnmade text.now book.opening first) }
+    ensures unmade { IfErr result (IsUnmade limit text.now book.opening first) }
 {
-    if let Some(error) = wrong_end(entries, text, rest) {
+    if let Some(error) = wrong_end(limit, entries, text, rest) {
         return Err(Unmade::Wrong(error));
     }
     Ok(Remade {
@@ -102,14 +103,15 @@ fn remake<'a, R: Threads + Sync>(
     alloc: Global,
     rack: Rack,
     text: &'a [u8],
+    limit: usize,
     first: Option<usize>,
     workers: WorkerCount,
 ) -> Result<Remade<'a>, Unmade>
-    ensures remade { IfOk result (λ remade. IsRemade text.entry.now rack first
+    ensures remade { IfOk result (λ remade. IsRemade limit text.entry.now rack first
         remade.book.history remade.book.machine remade.rest.now) }
     ensures opening { IfOk result (λ remade. remade.book.opening ≡ rack) }
     ensures counted { IfOk result (λ remade. length remade.book.history ≡ remade.entries) }
-    ensures unmade { IfErr result (IsUnmade text.entry.now rack first) }
+    ensures unmade { IfErr result (IsUnmade limit text.entry.now rack first) }
 {
     let mut plant: PlainPlant = Plant {
         port: MemoryPort::new(),
@@ -124,8 +126,8 @@ fn remake<'a, R: Threads + Sync>(
     for entries in 0..first.unwrap_or(usize::MAX) {
         // The history is asked for only for its contract, which says that it is legal.
         book.log();
-        let Some(begun) = read_begun(alloc, rest)? else {
-            return ended(text, first, book, entries, rest);
+        let Some(begun) = read_begun(alloc, rest, limit)? else {
+            return ended(text, limit, first, book, entries, rest);
         };
         match follow(rt, alloc, &mut book, &mut plant, begun, workers) {
             Ok(after) => rest = after,
@@ -160,19 +162,20 @@ fn before_torn<'a, R: Threads + Sync>(
     alloc: Global,
     rack: Rack,
     text: &'a [u8],
+    limit: usize,
     first: Option<usize>,
     entries: usize,
     workers: WorkerCount,
 ) -> Result<Remade<'a>, RecordError>
-    requires { IsTornBehind text.now rack first entries }
-    ensures remade { IfOk result (λ remade. IsRemade text.entry.now rack first
+    requires { IsTornBehind limit text.now rack first entries }
+    ensures remade { IfOk result (λ remade. IsRemade limit text.entry.now rack first
         remade.book.history remade.book.machine remade.rest.now) }
     ensures opening { IfOk result (λ remade. remade.book.opening ≡ rack) }
     ensures counted { IfOk result (λ remade. length remade.book.history ≡ remade.entries) }
     ensures wrong { IfErr result (λ error. error.fault ≢ RecordFault.NoMemory
-        → IsRecordError text.entry.now rack first error) }
+        → IsRecordError limit text.entry.now rack first error) }
 {
-    match remake(rt, alloc, rack, text, Some(entries), workers) {
+    match remake(rt, alloc, rack, text, limit, Some(entries), workers) {
         Ok(remade) => Ok(remade),
         Err(Unmade::Wrong(error)) => Err(error),
         Err(Unmade::Torn(..)) => unreachable!(),
@@ -181,10 +184,11 @@ fn before_torn<'a, R: Threads + Sync>(
 
 /// Makes the calls of the entries of a record again, on a new book of this rack, whose port and
 /// wires never fail: so many of them as are wanted, or all. The text is what stands behind the
-/// record's head. Where each reply has the line that the record tells, the book has a legal history
-/// of these entries. The record may end by its last line, or a front of it, or may have been torn
-/// off within an entry that comes; else the error tells what is first wrong, and where. A call that
-/// settles a plan is made with a plan of the session's batch.
+/// record's head, by which the numbers of its sessions are below a limit. Where each reply has the
+/// line that the record tells, the book has a legal history of these entries. The record may end by
+/// its last line, or a front of it, or may have been torn off within an entry that comes; else the
+/// error tells what is first wrong, and where. A call that settles a plan is made with a plan of the
+/// session's batch.
 ///
 /// Planning and runs are given so many workers. It takes memory as the book does, and for a reply
 /// line. Where an entry was torn off it takes twice the time.
@@ -193,21 +197,22 @@ pub fn replay<'a, R: Threads + Sync>(
     alloc: Global,
     rack: Rack,
     text: &'a [u8],
+    limit: usize,
     first: Option<usize>,
     workers: WorkerCount,
 ) -> Result<Remade<'a>, RecordError>
-    ensures remade { IfOk result (λ remade. IsRemade text.entry.now rack first
+    ensures remade { IfOk result (λ remade. IsRemade limit text.entry.now rack first
         remade.book.history remade.book.machine remade.rest.now) }
     ensures opening { IfOk result (λ remade. remade.book.opening ≡ rack) }
     ensures counted { IfOk result (λ remade. length remade.book.history ≡ remade.entries) }
     ensures wrong { IfErr result (λ error. error.fault ≢ RecordFault.NoMemory
-        → IsRecordError text.entry.now rack first error) }
+        → IsRecordError limit text.entry.now rack first error) }
 {
-    match remake(rt, alloc, rack, text, first, workers) {
+    match remake(rt, alloc, rack, text, limit, first, workers) {
         Ok(remade) => Ok(remade),
         Err(Unmade::Wrong(error)) => Err(error),
         Err(Unmade::Torn(entries, rack)) => {
-            before_torn(rt, alloc, rack, text, first, entries, workers)
+            before_torn(rt, alloc, rack, text, limit, first, entries, workers)
         }
     }
 }

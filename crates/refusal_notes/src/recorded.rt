@@ -4,10 +4,11 @@ ghost use Rattle.std.specs.Prelude.{◌≡◌};
 ghost use Rattle.refusal_notes.specs.Lines.{line_behind as the_number};
 ghost use Rattle.refusal_notes.specs.Told.{IsRecordTold};
 
+use crate::lines::{line_at, piece};
 use crate::note::LineNote;
 use crate::told::{Named, Note, Texts};
 use crate::wanted::Wanted;
-use batch::{Batch, BatchFault, Shape, number_before};
+use batch::{Batch, BatchFault, Shape, number_before, number_from_digits};
 use refusals::Refusal;
 
 /// The number of the line before which so many bytes stand, counted from 1.
@@ -25,15 +26,25 @@ pub(crate) fn note_wanting<'a>(texts: Texts<'a>, wanted: Wanted<'a>) -> LineNote
     LineNote::wanting(recorded, line_behind(recorded.text, texts.offset), wanted)
 }
 
-/// What stands behind so many bytes of a text and a session's number.
+/// How many clients the head of a record counts, where that is a head.
+fn clients_of(text: &[u8]) -> usize {
+    let count = piece(line_at(text, 1), b' ', 3).unwrap_or(&[]);
+    number_from_digits(count).unwrap_or(0)
+}
+
+/// What stands behind so many bytes of a record and the number of one of its sessions.
 fn call_behind(text: &[u8], bytes: usize) -> Option<&[u8]> {
-    let (_, call) = number_before(text.get(bytes..)?, b' ')?;
+    let (session, call) = number_before(text.get(bytes..)?, b' ')?;
+    let clients = clients_of(text);
+    if clients > 0 && session >= clients {
+        return None;
+    }
     Some(call)
 }
 
-/// What is told of a record's call that is wrong. Where it hands in a batch whose first line is
-/// right, or announces too many transfers, it is told of that. None where there is no memory for
-/// the batch.
+/// What is told of a record's call that is wrong. Where its session is one of the record's, and it
+/// hands in a batch whose first line is right, or announces too many transfers, it is told of that.
+/// None where there is no memory for the batch.
 pub(crate) fn note_of_call(note: Note<'_>) -> Option<Note<'_>> {
     let (recorded, offset) = (note.texts.recorded, note.texts.offset);
     let text = call_behind(recorded.text, offset).unwrap_or(&[]);

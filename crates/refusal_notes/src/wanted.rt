@@ -20,7 +20,7 @@ const RECORD_HEAD: &str =
 
 /// The call of an entry of a record.
 const CALL: &str =
-    "\"S CALL\", where S is the number of a session, CALL is \"batch N\" and the batch's lines, \"fetch ID\", \"settle ID\", \"run ID\", \"show ID\", \"drop ID\", \"peek M A\" or \"poke M A D\"";
+    "\"S CALL\", where S is the number of a session, below the number of clients if the head names any, CALL is \"batch N\" and the batch's lines, \"fetch ID\", \"settle ID\", \"run ID\", \"show ID\", \"drop ID\", \"peek M A\" or \"poke M A D\"";
 
 /// What names in the lines of a session and in calls stand for, and how lines are written.
 const RULES: &str =

@@ -7,7 +7,7 @@ ghost use Rattle.std.specs.Prelude.{◌≡◌, None};
 use crate::tests::common::{Told, with_wires, zeros};
 use crate::tests::office::FIRST;
 use batch_book::{Book, Call, Silent};
-use book_record::{StreamName, stream_off, stream_on};
+use book_record::{StreamName, session_limit, stream_off, stream_on};
 use exchange_limits::WorkerCount;
 use peek_poke::PlainWires;
 use record_replay::{RecordFault, replay};
@@ -147,7 +147,15 @@ fn is_gone_on_from<R: AllocGlobal + Threads + Sync>(rt: &R, bytes: usize) -> boo
     let (Some(rack), Some(text)) = (zeros(alloc, "2x1x1"), RECORD.get(..bytes)) else {
         return false;
     };
-    let Ok(remade) = replay(rt, alloc, rack, text, None, WorkerCount::ONE) else {
+    let Ok(remade) = replay(
+        rt,
+        alloc,
+        rack,
+        text,
+        session_limit(0),
+        None,
+        WorkerCount::ONE,
+    ) else {
         return false;
     };
     let entries = whole_in(bytes);
@@ -168,7 +176,15 @@ fn a_record_is_gone_on_from_each_byte(rt: HostRuntime) {
 /// left.
 fn first_made<R: AllocGlobal + Threads + Sync>(rt: &R, first: usize) -> Option<(usize, usize)> {
     let rack = zeros(rt.alloc(), "2x1x1")?;
-    match replay(rt, rt.alloc(), rack, RECORD, Some(first), WorkerCount::ONE) {
+    match replay(
+        rt,
+        rt.alloc(),
+        rack,
+        RECORD,
+        session_limit(0),
+        Some(first),
+        WorkerCount::ONE,
+    ) {
         Ok(remade) => Some((remade.entries, remade.rest.len())),
         Err(_) => None,
     }
@@ -189,6 +205,7 @@ fn wrong<R: AllocGlobal + Threads + Sync>(rt: &R, text: &str) -> Option<(RecordF
         rt.alloc(),
         rack,
         text.as_bytes(),
+        session_limit(0),
         None,
         WorkerCount::ONE,
     ) {

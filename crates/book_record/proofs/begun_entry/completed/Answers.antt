@@ -6,4 +6,4 @@ pub returns-in-Some-clause-some : goal.returns-in-Some-clause-some
 returns-in-Some-clause-some c =
     let read = rw c.in-Some.is at c.in_ok-session.ensures.some in
     let text = c.as_slice.ensures.value ∙ c.in_ok-extend_from_slice.ensures.items ∙ ap (λ (l : List ℕ). l ++ c.args.ending.now) c.in_ok-text.ensures.items in
-    begun_by c.args.rest.now c.args.ending.now c.in-Some.field-0-2.now c.in-Some.session c.in-Some.call c.requires read.0 read.1 (sym text ∙ read.2)
+    begun_by c.args.limit c.args.rest.now c.args.ending.now c.in-Some.field-0-2.now c.in-Some.session c.in-Some.call c.requires read.0 read.1 read.2 (sym text ∙ read.3)

@@ -11,11 +11,11 @@ pub returns-then-is_empty-clause-none : goal.returns-then-is_empty-clause-none
 returns-then-is_empty-clause-none c =
     elim c.then-is_empty.branch [
       | then-is_empty-via-then-is_empty w ↦ inl (nil_from_length c.args.rest.now (eqb-true _ _ (sym c.is_empty.ensures ∙ w.if-is_empty.true)))
-      | then-is_empty-via-else-is_empty+then-rest-gt-MAX_ASKED w ↦ inr (too_long c.args.rest.now (omega (arith, w.if-rest-gt-MAX_ASKED.true)) c.requires)
+      | then-is_empty-via-else-is_empty+then-rest-gt-MAX_ASKED w ↦ inr (too_long c.args.limit c.args.rest.now (omega (arith, w.if-rest-gt-MAX_ASKED.true)) c.requires)
     ]
 
 pub returns-clause-none : goal.returns-clause-none
 returns-clause-none c =
     let done : c.loop-at.at ≡ 121 = search rules in
-    inr (none_begun MAX_TRANSFERS c.args.rest.now (omega arith) (λ none. eqb-false _ _ (sym c.is_empty.ensures ∙ c.if-is_empty.false) (ap length none)) c.requires
+    inr (none_begun MAX_TRANSFERS c.args.limit c.args.rest.now (omega arith) (λ none. eqb-false _ _ (sym c.is_empty.ensures ∙ c.if-is_empty.false) (ap length none)) c.requires
     (λ k less. c.loop-at.invariant k (subst (λ (n : ℕ). k < n) (sym done) less)))

@@ -8,4 +8,4 @@ returns-in-None-clause-none c =
 pub returns-in-Some-clause-some : goal.returns-in-Some-clause-some
 returns-in-Some-clause-some c =
     let all = c.in-Some.ensures.some in
-    (c.requires.shape, c.requires.sum, (c.args.names, all.0, all.1, head_read c.args.text.now c.args.rest.now c.in-Some.body.now c.args.shape c.args.sum c.args.names all.0 c.requires.line all.1 all.2))
+    (c.requires.shape, c.requires.sum, (all.0, all.1, head_read c.args.text.now c.args.rest.now c.in-Some.body.now c.args.shape c.args.sum c.args.names all.0 c.requires.line all.1 all.2))

@@ -7,4 +7,4 @@ returns-in-Ok-clause-resumed g c = (record { text = c.in-Some.text.now; rest = c
 
 pub returns-in-Err-clause-unbegun : goal.returns-in-Err-clause-unbegun
 returns-in-Err-clause-unbegun g c =
-    unremade c.args.held.now c.args.head.now c.in-Some.text.now c.args.rack c.in-Err.error c.wrong_behind.result c.in-Some.ensures c.in-Err.ensures.wrong c.wrong_behind.ensures
+    unremade c.args.limit c.args.held.now c.args.head.now c.in-Some.text.now c.args.rack c.in-Err.error c.wrong_behind.result c.in-Some.ensures c.in-Err.ensures.wrong c.wrong_behind.ensures

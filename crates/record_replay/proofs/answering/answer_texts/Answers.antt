@@ -24,16 +24,16 @@ returns-in-Err g c =
     c.unbegun.ensures.answer c.unbegun.ensures.error c.unbegun.ensures.torn (λ r refuses none whole. rack_wrong text c.in-Err.refusal named (c.in-Err.ensures.wrong refuses.0) refuses none whole)
 
 pub answer_record-requires : goal.answer_record-requires
-answer_record-requires g c = (search rules, body_within c.in-Ok.rack c.args.recorded.now c.in-Some-2.body.now (rw c.in-Some-2.is at c.in_ok-body.ensures.some))
+answer_record-requires g c = (search rules, body_within c.in-Ok.rack c.args.recorded.now c.in-Some-2.body.now c.in-Some-2.limit (rw c.in-Some-2.is at c.in_ok-body.ensures.some))
 
 pub returns-in-Some-2 : goal.returns-in-Some-2
 returns-in-Some-2 g c =
     let text = c.as_slice.result.now in
     let body = c.in-Some-2.body.now in
     let named = subst (λ (t : List ℕ). IsShapeOf (bytes_of c.args.shape) c.args.recorded.now t) (sym c.as_slice.ensures.value) (rw c.in-Some.is at c.in_ok-text.ensures.some) in
-    IfOk-weaker c.answer_record.result (λ r. IsRecordAnswer c.in-Ok.rack c.args.recorded.now body c.args.first r.answer r.error r.torn)
+    IfOk-weaker c.answer_record.result (IsRecordAnswer c.in-Ok.rack c.args.recorded.now body c.in-Some-2.limit c.args.first)
     (λ r. IsReplayAnswer (bytes_of c.args.shape) c.args.recorded.now (bytes_of c.args.image) c.args.first r.answer r.error r.torn)
-    (λ r is. replayed text body c.in-Ok.rack named c.in-Ok.ensures.rack (rw c.in-Some-2.is at c.in_ok-body.ensures.some) is) c.answer_record.ensures
+    (λ r is. replayed text body c.in-Ok.rack c.in-Some-2.limit named c.in-Ok.ensures.rack (rw c.in-Some-2.is at c.in_ok-body.ensures.some) is) c.answer_record.ensures
 
 pub returns : goal.returns
 returns g c =

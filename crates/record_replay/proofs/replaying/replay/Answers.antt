@@ -10,4 +10,4 @@ returns-in-Err-Wrong-clause-wrong g c = rw c.in-Err-Wrong.field-0-is at c.in-Err
 pub returns-in-Err-Torn-clause-wrong : goal.returns-in-Err-Torn-clause-wrong
 returns-in-Err-Torn-clause-wrong g c =
     let torn = rw c.in-Err-Torn.field-0-is at c.in-Err-Torn.ensures.unmade in
-    subst (λ (s : Store). IfErr c.before_torn.result (λ error. error.fault ≢ NoMemory → IsRecordError c.args.text.now s c.args.first error)) torn.0 c.before_torn.ensures.wrong
+    subst (λ (s : Store). IfErr c.before_torn.result (λ error. error.fault ≢ NoMemory → IsRecordError c.args.limit c.args.text.now s c.args.first error)) torn.0 c.before_torn.ensures.wrong
