@@ -4,7 +4,7 @@ use Rattle.std.proofs.lemmas.List.{take-append-drop, take_at}
 use Rattle.std.specs.List.{flat_map}
 use Rattle.batch_book.specs.History.{Account, new_account}
 use Rattle.book_record.specs.RecordText.{entry_text}
-use Rattle.kept_sessions.specs.Records.{IsCutFrom, IsCutOff, IsResumed, begun_anew, gone_on, head_for, record_front}
+use Rattle.kept_sessions.specs.Records.{IsCutFrom, IsCutOf, IsResumed, begun_anew, gone_on, head_for, record_front}
 use Rattle.module_memory.specs.Store.{Store}
 use Rattle.record_replay.specs.Replays.{IsRecordError}
 use Rattle.record_replay.specs.declared.fault.RecordError.{RecordError}
@@ -24,9 +24,9 @@ unremade limit held head text opening error (Wrong so) is wrong told = (refl, in
 pub cut_none : (held head missing : List ℕ) (opening : Store) (names : List (List ℕ)) (was : Account) → head ≡ head_for opening names → head ≡ held ++ missing → was ≡ new_account opening → IsCutFrom held (record_front names was) None
 cut_none held head missing opening names was head_is parts new = begun_anew missing (ap (record_front names) new ∙ append-nil (head_for opening names) ∙ sym head_is ∙ parts) refl
 
-pub cut_from : (held front : List ℕ) (kept : ℕ) (cut : Option Cut) → take kept held ≡ front → IsCutOff (take kept held) (drop kept held) cut → IsCutFrom held front cut
+pub cut_from : (held front : List ℕ) (kept : ℕ) (cut : Option Cut) → take kept held ≡ front → IsCutOf (take kept held) (drop kept held) cut → IsCutFrom held front cut
 cut_from held front kept cut is off =
-    gone_on (drop kept held) (sym (take-append-drop kept held) ∙ ap (λ (l : List ℕ). l ++ drop kept held) is) (subst (λ (l : List ℕ). IsCutOff l (drop kept held) cut) is off)
+    gone_on (drop kept held) (sym (take-append-drop kept held) ∙ ap (λ (l : List ℕ). l ++ drop kept held) is) (subst (λ (l : List ℕ). IsCutOf l (drop kept held) cut) is off)
 
 -- what stays of it is what the record tells of the book
 pub resumed_front : (limit : ℕ) (held head : List ℕ) (opening : Store) (names : List (List ℕ)) (was : Account) (kept : ℕ) (made : List ℕ)

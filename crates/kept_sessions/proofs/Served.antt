@@ -14,7 +14,7 @@ use Rattle.named_files.specs.Clients.{ends_of}
 use Rattle.kept_sessions.specs.Live.{IsHostOver, IsLived, IsTalkOver, IsUnserved, left_by}
 use Rattle.kept_sessions.specs.Outcomes.{IsToldBy}
 use Rattle.kept_sessions.specs.Keeping.{AreLiveKept}
-use Rattle.kept_sessions.specs.Records.{BeginsFor, IsCutFor}
+use Rattle.kept_sessions.specs.Records.{BeginsFor, IsCutFromRecord}
 use Rattle.named_files.specs.Streams.{Closed}
 use Rattle.kept_sessions.specs.Answers.{Sessions, hosting, loses, talking}
 use Rattle.kept_sessions.specs.declared.found.Cut.{Cut}
@@ -44,7 +44,7 @@ pub record IsEnding (sessions : Printed → Sessions) (none : Type 0) (was left 
   pub refused : (why : Refusal) → end ≡ Err why → why ≢ NoMemory → (p : Printed) → (sessions p).may_refuse why
 
 lived_of : {C : Type 0} (holds : List ℕ → List ℕ → Type 0) (received : C → Closed) (shared : SharedRack) (names : List Text) (image : Option (List ℕ)) (sessions : Printed → Sessions) (none : Type 0) (end : Result Printed Refusal) (was left : Account) (opening : Store) (r : Result Found NoAnswer) (receipts : Receipts C) (lost : Lost) (cut : Option Cut)
-    → IsRackOf shared.shape image opening → BeginsFor holds shared.record_out opening names was → IsToldBy end r → AreLiveKept holds received shared names (left_by end left) receipts lost → IsEnding sessions none was left end → IsCutFor holds shared.record_out names was cut → IsLived holds received shared names image sessions none (record { end = r; receipts = receipts; lost = lost; cut = cut })
+    → IsRackOf shared.shape image opening → BeginsFor holds shared.record_out opening names was → IsToldBy end r → AreLiveKept holds received shared names (left_by end left) receipts lost → IsEnding sessions none was left end → IsCutFromRecord holds shared.record_out names was cut → IsLived holds received shared names image sessions none (record { end = r; receipts = receipts; lost = lost; cut = cut })
 lived_of holds received shared names image sessions none (Ok p) was left opening (Ok found) receipts lost cut rack begins told keeps ending cut_is =
     record { answer = (Some left, (opening, rack, was, begins, subst (λ (q : Printed). (sessions q).served was left) (sym told) (ending.done p refl)), keeps, (opening, was, begins, cut_is)); missed = tt }
 lived_of holds received shared names image sessions none (Ok p) was left opening (Err e) receipts lost cut rack begins told keeps ending cut_is = absurd told
@@ -54,7 +54,7 @@ lived_of holds received shared names image sessions none (Err why) was left open
     record { answer = tt; missed = (told, ending.so why refl, (keeps.0, keeps.1, refl)) }
 
 pub lived : {C : Type 0} (holds : List ℕ → List ℕ → Type 0) (received : C → Closed) (shared : SharedRack) (names : List Text) (image : Option (List ℕ)) (sessions : Printed → Sessions) (none : Type 0) (end : Result Printed Refusal) (was left : Account) (opening : Store) (kept : Kept C)
-    → IsRackOf shared.shape image opening → BeginsFor holds shared.record_out opening names was → IsToldBy end kept.end → AreLiveKept holds received shared names (left_by end left) kept.receipts kept.lost → IsEnding sessions none was left end → IsCutFor holds shared.record_out names was kept.cut → IsLived holds received shared names image sessions none kept
+    → IsRackOf shared.shape image opening → BeginsFor holds shared.record_out opening names was → IsToldBy end kept.end → AreLiveKept holds received shared names (left_by end left) kept.receipts kept.lost → IsEnding sessions none was left end → IsCutFromRecord holds shared.record_out names was kept.cut → IsLived holds received shared names image sessions none kept
 lived holds received shared names image sessions none end was left opening kept = lived_of holds received shared names image sessions none end was left opening kept.end kept.receipts kept.lost kept.cut
 
 pub none_ended : (before after : List (Ending (List ℕ))) → before ≡ [] → after ≡ before → ends_of after ≡ []

@@ -20,7 +20,7 @@ use Rattle.kept_sessions.specs.Answers.{IsLiveAnswer, IsWrongStart, Sessions}
 use Rattle.kept_sessions.specs.Outcomes.{IsUnbegunFor}
 use Rattle.kept_sessions.specs.Keeping.{AreLiveKept}
 use Rattle.named_files.specs.Outputs.{lost_none}
-use Rattle.kept_sessions.specs.Records.{BeginsFor, IsAsBegun, IsCutFor, record_front}
+use Rattle.kept_sessions.specs.Records.{BeginsFor, IsAsBegun, IsCutFromRecord, record_front}
 use Rattle.named_files.specs.Streams.{Closed}
 use Rattle.kept_sessions.specs.declared.found.Cut.{Cut}
 use Rattle.kept_sessions.specs.declared.live.Kept.{Kept}
@@ -42,7 +42,7 @@ pub record IsStarted {F : Type 0} (holds : Holding) (contents : F → Option (Li
   pub unstopped : AreUnstopped start.book.history
   pub stream : is_some start.stream ≡ is_some record_out
   pub front : HasFront contents names start.book start.stream
-  pub cut : IsCutFor holds record_out names start.book start.cut
+  pub cut : IsCutFromRecord holds record_out names start.book start.cut
 
 -- they don't begin, and the file of their record is left so
 pub record IsUnstarted {C : Type 0} (holds : Holding) (received : C → Closed)
@@ -110,7 +110,7 @@ abbrev pub IsCutTold : Holding → Option RecordFile → List Text → Option Ac
 IsCutTold holds record_out names None cut = Unit {0}
 IsCutTold holds record_out names (Some left) cut =
     (opening : Store) × (was : Account) × BeginsFor holds record_out opening names was
-    × IsCutFor holds record_out names was cut
+    × IsCutFromRecord holds record_out names was cut
 
 -- What is left of sessions, from their beginning to what is told of them: they have ended and were
 -- kept, or none began.

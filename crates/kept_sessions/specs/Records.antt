@@ -50,9 +50,9 @@ BeginsAs resumes held opening names was =
 
 -- What is told of a rest that was cut off behind this front of a record: how many bytes it had, and
 -- the line with which it began, counted from 1. Of the last line nothing is told.
-abbrev pub IsCutOff : List ℕ → List ℕ → Option Cut → Type 0
-IsCutOff front rest None = (rest ≡ []) ⊎ (rest ≡ end_line)
-IsCutOff front rest (Some cut) =
+abbrev pub IsCutOf : List ℕ → List ℕ → Option Cut → Type 0
+IsCutOf front rest None = (rest ≡ []) ⊎ (rest ≡ end_line)
+IsCutOf front rest (Some cut) =
     (rest ≢ []) × (rest ≢ end_line) × (cut.bytes ≡ length rest)
     × (cut.line ≡ count_by (λ byte. byte == line_feed) front + 1)
 
@@ -61,13 +61,13 @@ IsCutOff front rest (Some cut) =
 pub data IsCutFrom (held front : List ℕ) (cut : Option Cut) : Type 0 where
   begun_anew : (missing : List ℕ) → front ≡ held ++ missing → cut ≡ None
       → IsCutFrom held front cut
-  gone_on : (rest : List ℕ) → held ≡ front ++ rest → IsCutOff front rest cut
+  gone_on : (rest : List ℕ) → held ≡ front ++ rest → IsCutOf front rest cut
       → IsCutFrom held front cut
 
 -- the same where sessions began with this book, whose record goes to this file, or to none
-abbrev pub IsCutFor : Holding → Option RecordFile → List Text → Account → Option Cut → Type 0
-IsCutFor holds None names was cut = cut ≡ None
-IsCutFor holds (Some out) names was cut =
+abbrev pub IsCutFromRecord : Holding → Option RecordFile → List Text → Account → Option Cut → Type 0
+IsCutFromRecord holds None names was cut = cut ≡ None
+IsCutFromRecord holds (Some out) names was cut =
     (held : List ℕ) × holds out.name held × IsCutFrom held (record_front names was) cut
 
 -- the book with which sessions begin, where their record goes to this file, or to none

@@ -7,7 +7,7 @@ ghost use Rattle.book_record.specs.Heads.{session_limit};
 ghost use Rattle.record_replay.specs.ReplayAnswers.{of_record};
 ghost use Rattle.named_files.specs.Notes.{IsRefused};
 ghost use Rattle.kept_sessions.specs.Outcomes.{IsUnbegun, IsUnremade};
-ghost use Rattle.kept_sessions.specs.Records.{BeginsAs, IsCutFrom, IsCutOff, IsResumed, head_for, record_front};
+ghost use Rattle.kept_sessions.specs.Records.{BeginsAs, IsCutFrom, IsCutOf, IsResumed, head_for, record_front};
 
 use crate::found::Cut;
 use batch_book::{Book, Silent};
@@ -170,7 +170,7 @@ fn line_behind(front: &[u8]) -> usize
 /// What is told of what stands in a record behind so many bytes: of its last line nothing.
 fn cut_of(held: &[u8], kept: usize) -> Option<Cut>
     requires { kept ≤ length held.now }
-    ensures { IsCutOff (take kept held.now) (drop kept held.now) result }
+    ensures { IsCutOf (take kept held.now) (drop kept held.now) result }
 {
     let (front, rest) = held.split_at(kept);
     if rest.is_empty() {

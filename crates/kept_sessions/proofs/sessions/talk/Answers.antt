@@ -3,7 +3,7 @@ use Rattle.std.proofs.KnownBytes.{Appends-nil}
 use Rattle.std.specs.Prelude.{◌≡◌, [], Some}
 use Rattle.named_files.specs.Contents.{contents_in}
 use Rattle.kept_sessions.specs.Live.{IsTalkOver}
-use Rattle.kept_sessions.specs.Records.{IsCutFor, record_front}
+use Rattle.kept_sessions.specs.Records.{IsCutFromRecord, record_front}
 use Rattle.kept_sessions.specs.Answers.{loses, talking}
 use Rattle.kept_sessions.proofs.Lived.{talk_few}
 use Rattle.kept_sessions.proofs.Started.{legal_begun}
@@ -29,5 +29,5 @@ returns-clause-session g c =
       o.2,
       lived (g.S.System.holds c.args.system.now) g.S.System.received shared [] (contents_in c.args.contents.now).image (talking shared old rest o.0) (o.0 ≡ []) c.talk_from-over.result.end begun.book o.1 s.0 c.end_live.result s.1 s.2.begins c.end_live.ensures.told (c.end_live.ensures.kept s.0 [] begun.book o.1 s.2.begins over (talk_few (loses shared) begun.book (legal_begun (g.S.System.holds c.args.system.now) shared.record_out s.0 [] begun.book s.2.begins) old rest o.0 c.talk_from-over.result.end o.1 ended))
           (talk_ending shared old rest o.0 begun.book o.1 c.talk_from-over.result.end ended)
-          (subst (IsCutFor (g.S.System.holds c.args.system.now) shared.record_out [] begun.book) (sym c.end_live.ensures.cut) s.2.cut),
+          (subst (IsCutFromRecord (g.S.System.holds c.args.system.now) shared.record_out [] begun.book) (sym c.end_live.ensures.cut) s.2.cut),
     )
