@@ -24,6 +24,7 @@ try tools/rows/run.py
 try tools/c/run.sh
 try tools/python/run.py
 try tools/texts/names.py
+try tools/texts/promises.py
 try tools/texts/run.py
 try tools/hosts/run.sh
 try tools/ends/run.sh

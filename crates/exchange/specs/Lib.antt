@@ -5,3 +5,4 @@ pub mod Outcomes
 pub mod Keeping
 pub mod Responses
 pub mod Warnings
+pub mod Promises

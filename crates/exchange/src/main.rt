@@ -1,9 +1,10 @@
 //! The controller of a rack of transputer modules whose links meet in one crossbar switch or two.
 //!
 //! Each command reads the files that its arguments name, and prints one answer. Only `main` names
-//! the system's own streams and arguments: it hands them to [`respond`].
+//! the system's own streams and arguments: it hands them to [`answer`], whose clause is what the
+//! program promises (`specs/Promises.antt`). That is proved of the contract of `respond`.
 //!
-//! [`respond`] prints the answer to the job that the words ask for, by what the files of their
+//! `respond` prints the answer to the job that the words ask for, by what the files of their
 //! names contain and over the ports of their names, or the line that says why there is none; or it
 //! ends as for an error of clap (`IsEndFor` of `specs/Ends.antt`, `IsAnswerTo` of
 //! `specs/Responses.antt`). Where it ends with status 3, a front of that stands there, or of what
@@ -28,6 +29,7 @@ mod jobs;
 mod limits;
 mod overlaps;
 mod peers;
+mod promises;
 mod responding;
 mod texts;
 mod torn;
@@ -37,7 +39,8 @@ mod warned;
 
 use crate::limits::UNWRITTEN;
 use crate::peers::Peers;
-use crate::responding::{Left, respond};
+use crate::promises::answer;
+use crate::responding::Left;
 use named_files::{HostPorts, Unwritten};
 use std::fs::{File, OpenOptions};
 use std::os::fd::{AsRawFd, IntoRawFd};
@@ -52,7 +55,7 @@ fn main(rt: HostRuntime) -> ExitCode {
     }
     let arguments = command_line(&rt);
     let mut peers = Peers::new(rt.alloc(), HostPorts::new(&rt));
-    let Left { code, receipts: _ } = respond(
+    let Left { code, receipts: _ } = answer(
         &rt,
         &rt,
         &mut peers,

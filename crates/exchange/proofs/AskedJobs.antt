@@ -1,0 +1,283 @@
+-- How a job ends that the arguments ask for.
+use Rattle.std.proofs.Common.{◌≡◌, ◌∙◌, ◌++◌, ℕ, List, [], Option, inl, inr, ◌⊎◌, refl, sym, subst, ap, Result, Ok, Err, arith}
+use Rattle.std.specs.Prelude.{IfOk, ⊤}
+use Rattle.std.specs.Io.KnownBytes.{Appends}
+use Rattle.clap.specs.Words.{Text}
+use Rattle.command_words.specs.Jobs.{AskFor, Files, files_of}
+use Rattle.command_words.specs.declared.jobs.ArgumentsFault.TheVariants.{Clap, NoMemory}
+use Rattle.command_words.specs.declared.jobs.Job.{Job}
+use Rattle.command_words.specs.declared.jobs.Job.TheVariants.{C004, Drive, Host, Serve, Talk}
+use Rattle.command_words.specs.declared.jobs.Request.{Request}
+use Rattle.exchange.proofs.OneRequest.{no_fault, one_request}
+use Rattle.drive_answers.specs.Ways.{Ways}
+use Rattle.exchange.proofs.EndStatuses.{IsEither, of_response}
+use Rattle.exchange.proofs.HeldFiles.{held_files}
+use Rattle.exchange.proofs.PromisedCalls.{Comes, HasNone}
+use Rattle.exchange.specs.Ends.{IsCutFor, IsDone, IsDoneInPart, IsEndForArguments, IsPrinted, Keeping, Leaving, Streams, printed_of}
+use Rattle.exchange.specs.Keeping.{AreKeptBut}
+use Rattle.exchange.specs.Promises.{AreHeld, AsksFor, HasDone, Run, front_of, run_of}
+use Rattle.exchange.specs.Responses.{Given, IsAnswerTo, IsJobAnswer, IsOfTexts, IsTextAnswer, IsToldCut, Named, Response}
+use Rattle.exchange.specs.declared.limits.TheConstants.{MISUSED, UNWRITTEN}
+use Rattle.named_files.specs.Contents.{Holding}
+use Rattle.named_files.specs.Notes.{IsToldInPart, unanswered}
+use Rattle.named_files.specs.Outputs.{lost_none, none_opened}
+use Rattle.named_files.specs.Streams.{Closed}
+use Rattle.named_files.specs.declared.lost.Lost.{Lost}
+use Rattle.named_files.specs.declared.outputs.Receipts.{Receipts}
+use Rattle.session_answers.specs.HostAnswers.{SessionEnd}
+use Rattle.named_files.specs.declared.unanswered.Unanswered.{Unanswered}
+use Rattle.named_files.specs.declared.unanswered.Unanswered.TheVariants as why
+use Rattle.plan_answers.specs.Refusals.{Printed}
+use Rattle.plan_answers.specs.declared.limits.TheConstants.{DONE, REFUSED}
+
+-- ---- statuses
+
+pub never_done : (status : ℕ) → status ≡ REFUSED → status ≡ DONE → ⊥
+never_done status refused done = omega (arith, refused, done)
+
+never_unwritten : (status : ℕ) → status ≡ UNWRITTEN → status ≡ DONE → ⊥
+never_unwritten status unwritten done = omega (arith, unwritten, done)
+
+-- ---- what the clause of `respond` says
+
+-- what a run ended with, and what was given to it
+pub record Ended : Type 1 where
+  pub words : List Text
+  pub named : Named
+  pub keeps : Keeping
+  pub none : Type 0
+  pub given : Given
+  pub streams : Streams
+  pub code : ℕ
+
+abbrev pub ended_run : Ended → Run
+ended_run e = run_of e.named.holds e.given.input e.streams.out_before e.streams.out_after e.words e.code
+
+abbrev pub EndsSo : Ended → Type 0
+EndsSo e = IsEndForArguments e.named e.keeps e.none e.words e.given e.streams e.code
+
+-- what is asked for was done, or there was no memory to read the arguments
+pub end_of : (e : Ended) (request : Request) → AskFor e.words request → EndsSo e
+    → IsDone e.named e.keeps e.given request e.streams e.code ⊎ (e.none × IsPrinted e.streams.out_before e.streams.out_after (unanswered why.NoMemory) e.code)
+end_of e request asks (Ok other, has, wrong, ends) =
+    inl (subst (λ (r : Request). IsDone e.named e.keeps e.given r e.streams e.code) (one_request e.words other request has asks) ends)
+end_of e request asks (Err NoMemory, has, wrong, ends) = inr (ends.0, ends.1.0)
+end_of e request asks (Err (Clap error), has, wrong, ends) = absurd (no_fault e.words request error asks wrong)
+
+-- ---- jobs whose files are all that they ask for
+
+-- such an answer was printed of what the files hold, under its status
+pub record IsAnswered (run : Run) (job : Job) : Type 0 where
+  pub files : Files (List ℕ)
+  pub printed : Printed
+  pub held : AreHeld run.holds (files_of job) files
+  pub answer : IsTextAnswer job files printed
+  pub prints : run.prints printed.text
+  pub status : run.status ≡ printed.status
+
+-- there was none
+abbrev pub IsGivenUp : Run → Type 0
+IsGivenUp run = (why : Unanswered) × run.prints (unanswered why).text × (run.status ≡ REFUSED)
+
+text_answer : (holds : Holding) (job : Job) (files : Files (List ℕ)) (given : Given) (response : Response) → IsOfTexts job → IsAnswerTo holds job files given response → (response.told ≡ []) × IsTextAnswer job files response.end
+text_answer holds (Drive batch port port_b source wiring first goes_on workers) files given response texts is = absurd texts
+text_answer holds C004 files given response texts is = absurd texts
+text_answer holds (Serve rack scripts workers) files given response texts is = absurd texts
+text_answer holds (Host rack clients workers) files given response texts is = absurd texts
+text_answer holds (Talk rack) files given response texts is = absurd texts
+text_answer holds job files given response texts is = (is.1.0, is.1.1)
+
+answered : (e : Ended) (request : Request) (response : Response) → AskFor e.words request → IsOfTexts request.job → IsJobAnswer e.named.holds e.given request.job response → IsPrinted e.streams.out_before e.streams.out_after (printed_of response) e.code
+    → IsAnswered (ended_run e) request.job
+answered e request response asks texts is printed =
+    let answer = text_answer e.named.holds request.job is.0 _ response texts is.3 in
+    record {
+      files = is.0;
+      printed = response.end;
+      held = held_files e.words request e.named.holds e.given.input is.0 is.1 asks is.2;
+      answer = answer.1;
+      prints = subst (λ (told : List ℕ). Appends e.streams.out_before e.streams.out_after (told ++ response.end.text)) answer.0 printed.text;
+      status = printed.status;
+    }
+
+done_text : (e : Ended) (request : Request) → AskFor e.words request → IsOfTexts request.job → IsDone e.named e.keeps e.given request e.streams e.code
+    → IsAnswered (ended_run e) request.job ⊎ IsGivenUp (ended_run e)
+done_text e request asks texts (response, inl comes, kept, printed, noted) = inl (answered e request response asks texts comes.1 printed)
+done_text e request asks texts (response, inr none, kept, printed, noted) =
+    let text = subst (λ (told : List ℕ). Appends e.streams.out_before e.streams.out_after (told ++ response.end.text)) none.0 printed.text in
+    inr (none.4.0, subst (λ (p : Printed). Appends e.streams.out_before e.streams.out_after p.text) none.4.1 text, printed.status ∙ ap (λ (p : Printed). p.status) none.4.1)
+
+text_end : (e : Ended) (request : Request) → AskFor e.words request → IsOfTexts request.job → EndsSo e → IsAnswered (ended_run e) request.job ⊎ IsGivenUp (ended_run e)
+text_end e request asks texts ends = elim (end_of e request asks ends) [
+  | inl is ↦ done_text e request asks texts is
+  | inr gives_up ↦ inr (why.NoMemory, gives_up.1.text, gives_up.1.status)
+]
+
+-- whatever job is asked for that needs but texts, it was answered, or there was no answer
+abbrev pub Answers : Run → Type 0
+Answers run = (job : Job) → IsOfTexts job → AsksFor run job → IsAnswered run job ⊎ IsGivenUp run
+
+pub text_ends : (e : Ended) → EndsSo e → Answers (ended_run e)
+text_ends e ends job texts asks = text_end e (record { job = job; is_quiet = asks.0 }) asks.1 texts ends
+
+-- the answer, where it ends with status 0
+pub text_done : (run : Run) (job : Job) → IsOfTexts job → Answers run → HasDone run job → IsAnswered run job
+text_done run job texts all done = elim (all job texts done.0) [
+  | inl is ↦ is
+  | inr gives_up ↦ absurd (never_done run.status gives_up.2 done.1)
+]
+
+-- ---- jobs that have sessions
+
+abbrev pub HasSessions : Job → Type 0
+HasSessions (Serve rack scripts workers) = ⊤
+HasSessions (Host rack clients workers) = ⊤
+HasSessions (Talk rack) = ⊤
+HasSessions job = ⊥
+
+-- what belongs to their files went there, but for this, which is lost
+abbrev pub KeepsSo : {C : Type 0} → Holding → (C → Closed) → Receipts C → List SessionEnd → Lost → Job → Response → Type 0
+KeepsSo holds received receipts ends lost job response = AreKeptBut holds received job response.left receipts lost × (response.ends ≡ ends)
+
+-- what comes of such a job that is asked for, of which this may be lost
+abbrev pub SessionsCome : {C : Type 0} → Named → Given → (C → Closed) → Receipts C → List SessionEnd → (Lost → Type 0) → Run → Type 0
+SessionsCome named given received receipts ends may run =
+    (request : Request) → HasSessions request.job → AskFor run.words request
+    → ((lost : Lost) × may lost × Comes named given received receipts ends run request.job lost) ⊎ HasNone receipts ends run
+
+pub sessions_come : {C : Type 0} (e : Ended) (received : C → Closed) (receipts : Receipts C) (ends : List SessionEnd) → ((job : Job) (response : Response) → e.keeps job response → KeepsSo e.named.holds received receipts ends lost_none job response) → (e.none → (receipts ≡ none_opened) × (ends ≡ []))
+    → EndsSo e → SessionsCome e.named e.given received receipts ends (λ lost. lost ≡ lost_none) (ended_run e)
+sessions_come {C} e received receipts ends so none_so is request has asks = elim (end_of e request asks is) [
+  | inl done ↦ inl (lost_none, refl, record { response = done.0; is = done.1; kept = (so request.job done.0 done.2).0; ends_are = (so request.job done.0 done.2).1; prints = done.3.text; status = done.3.status })
+  | inr gives_up ↦ inr (record { prints = gives_up.1.text; status = gives_up.1.status; image = ap (λ (r : Receipts C). r.image) (none_so gives_up.0).0; none_ended = (none_so gives_up.0).1 })
+]
+
+-- ---- where the arguments ask for nothing
+
+pub asks_nothing : (e : Ended) → EndsSo e → (request : Request) → AskFor e.words request → e.code ≡ MISUSED → ⊥
+asks_nothing e is request asks misused = elim (end_of e request asks is) [
+  | inl done ↦ elim (of_response e.named e.given request.job done.0 done.1) [
+    | inl zero ↦ let status = done.3.status in omega (arith, zero, status, misused)
+    | inr one ↦ let status = done.3.status in omega (arith, one, status, misused)
+  ]
+  | inr gives_up ↦ let status = gives_up.1.status in omega (arith, status, misused)
+]
+
+-- ---- where not all could be written
+
+-- no line stands before such an answer
+none_cut : (job : Job) (files : Files (List ℕ)) (input : Option (List ℕ)) (was opens : Ways) (told : List ℕ) → IsOfTexts job → IsToldCut job files input was opens told → ⊥
+none_cut (Drive batch port port_b source wiring first goes_on workers) files input was opens told texts cut = texts
+none_cut C004 files input was opens told texts cut = texts
+none_cut job files input was opens told texts cut = cut
+
+-- nor before that of sessions
+no_session_cut : (job : Job) (files : Files (List ℕ)) (input : Option (List ℕ)) (was opens : Ways) (told : List ℕ) → HasSessions job → IsToldCut job files input was opens told → ⊥
+no_session_cut (Serve rack scripts workers) files input was opens told has cut = cut
+no_session_cut (Host rack clients workers) files input was opens told has cut = cut
+no_session_cut (Talk rack) files input was opens told has cut = cut
+no_session_cut job files input was opens told has cut = has
+
+module _ {C : Type 0} (received : C → Closed) (receipts : Receipts C) (ends : List SessionEnd) (words : List Text) (named : Named) (left : Leaving) (given : Given) (before after : Option (List ℕ))
+    (so : (job : Job) (response : Response) → left.keeps job response → (lost : Lost) × KeepsSo named.holds received receipts ends lost job response) (none_so : left.none → (receipts ≡ none_opened) × (ends ≡ [])) where
+  abbrev Front : ℕ → Run
+  Front status = front_of named.holds given.input before after words status
+
+  -- what is so of a request where it is that of the arguments
+  record CutSo (request : Request) : Type 0 where
+    status : ℕ
+    either : IsEither status
+    texts : IsOfTexts request.job → AskFor words request → IsAnswered (Front status) request.job ⊎ IsGivenUp (Front status)
+    sessions : HasSessions request.job → ((lost : Lost) × ⊤ × Comes named given received receipts ends (Front status) request.job lost) ⊎ HasNone receipts ends (Front status)
+
+  in_part : (request : Request) → IsDoneInPart named left given request before after → CutSo request
+  in_part request (inl (response, inl comes, keeping, part)) = record {
+    status = response.end.status;
+    either = of_response named given request.job response (inl comes);
+    texts = λ texts asks.
+        let is = comes.1 in
+        let answer = text_answer named.holds request.job is.0 _ response texts is.3 in
+        inl (record {
+          files = is.0;
+          printed = response.end;
+          held = held_files words request named.holds given.input is.0 is.1 asks is.2;
+          answer = answer.1;
+          prints = subst (λ (told : List ℕ). IsToldInPart before after (told ++ response.end.text)) answer.0 part;
+          status = refl;
+        });
+    sessions = λ has. let kept = so request.job response keeping in inl (kept.0, tt, record { response = response; is = inl comes; kept = kept.1.0; ends_are = kept.1.1; prints = part; status = refl });
+  }
+  in_part request (inl (response, inr none, keeping, part)) = record {
+    status = response.end.status;
+    either = of_response named given request.job response (inr none);
+    texts = λ texts asks.
+        inr (
+          none.4.0,
+          subst (λ (p : Printed). IsToldInPart before after p.text) none.4.1 (subst (λ (told : List ℕ). IsToldInPart before after (told ++ response.end.text)) none.0 part),
+          ap (λ (p : Printed). p.status) none.4.1,
+        );
+    sessions = λ has. let kept = so request.job response keeping in inl (kept.0, tt, record { response = response; is = inr none; kept = kept.1.0; ends_are = kept.1.1; prints = part; status = refl });
+  }
+  in_part request (inr (told, cut, keeping, part)) = record {
+    status = REFUSED;
+    either = inr refl;
+    texts = λ texts asks. absurd (none_cut request.job cut.0 cut.1 _ _ told texts cut.3);
+    sessions = λ has. absurd (no_session_cut request.job cut.0 cut.1 _ _ told has cut.3);
+  }
+
+  -- what a front was printed of
+  pub record IsCutSo : Type 0 where
+    pub status : ℕ
+    pub either : IsEither status
+    pub texts : Answers (Front status)
+    pub sessions : SessionsCome named given received receipts ends (λ lost. ⊤) (Front status)
+
+  pub cut_ends : IsCutFor named left words given before after → IsCutSo
+  cut_ends (Ok other, has, wrong, done) =
+      let part = in_part other done in
+      record {
+        status = part.status;
+        either = part.either;
+        texts = λ job texts asks.
+            let same : other ≡ record { job = job; is_quiet = asks.0 } = one_request words other (record { job = job; is_quiet = asks.0 }) has asks.1 in
+            subst (λ (r : Request). IsAnswered (Front part.status) r.job ⊎ IsGivenUp (Front part.status)) same (part.texts (subst (λ (r : Request). IsOfTexts r.job) (sym same) texts) has);
+        sessions = λ request sessions asks.
+            let same = one_request words other request has asks in
+            subst (λ (r : Request). ((lost : Lost) × ⊤ × Comes named given received receipts ends (Front part.status) r.job lost) ⊎ HasNone receipts ends (Front part.status)) same (part.sessions (subst (λ (r : Request). HasSessions r.job) (sym same) sessions));
+      }
+  cut_ends (Err NoMemory, has, wrong, none) = record {
+    status = REFUSED;
+    either = inr refl;
+    texts = λ job texts asks. inr (why.NoMemory, none.1, refl);
+    sessions = λ request sessions asks. inr (record { prints = none.1; status = refl; image = ap (λ (r : Receipts C). r.image) (none_so none.0).0; none_ended = (none_so none.0).1 });
+  }
+  cut_ends (Err (Clap error), has, wrong, none) = record {
+    status = REFUSED;
+    either = inr refl;
+    texts = λ job texts asks. absurd (no_fault words (record { job = job; is_quiet = asks.0 }) error asks.1 wrong);
+    sessions = λ request sessions asks. absurd (no_fault words request error asks wrong);
+  }
+
+-- ---- a promise about a run
+
+pub kept : {X E : Type 0} (C P : X → Type 0) (r : Result X E) (words : X → List Text) (named : Named) (keeps : Keeping) (none : Type 0) (given : Given) (streams : Streams) (code : ℕ)
+    → ((w : X) → EndsSo (record { words = words w; named = named; keeps = keeps; none = none; given = given; streams = streams; code = code }) → P w) → ((w : X) → code ≡ UNWRITTEN → C w → P w)
+    → IfOk r (λ w. ((code ≡ UNWRITTEN) × C w) ⊎ IsEndForArguments named keeps none (words w) given streams code) → IfOk r P
+kept C P (Err error) words named keeps none given streams code so unwritten is = tt
+kept C P (Ok w) words named keeps none given streams code so unwritten (inl cut) = unwritten w cut.0 cut.1
+kept C P (Ok w) words named keeps none given streams code so unwritten (inr ends) = so w ends
+
+-- then all was written
+pub all_written : (e : Ended) → EndsSo e → e.code ≡ UNWRITTEN → ⊥
+all_written e (Ok request, has, wrong, done) unwritten = elim (of_response e.named e.given request.job done.0 done.1) [
+  | inl zero ↦ let status = done.3.status in omega (arith, zero, status, unwritten)
+  | inr one ↦ let status = done.3.status in omega (arith, one, status, unwritten)
+]
+all_written e (Err NoMemory, has, wrong, none) unwritten = let status = none.1.0.status in omega (arith, status, unwritten)
+all_written e (Err (Clap error), has, wrong, none) unwritten =
+    let misused = none.1.1 (λ help. let done = (none.1.0 help).0 in omega (arith, done, unwritten)) in
+    let status = misused.0 in omega (arith, status, unwritten)
+
+-- nothing is promised so where not all could be written
+pub not_done : (run : Run) (job : Job) → run.status ≡ UNWRITTEN → HasDone run job → ⊥
+not_done run job unwritten done = never_unwritten run.status unwritten done.1

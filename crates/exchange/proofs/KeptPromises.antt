@@ -1,0 +1,189 @@
+-- The program keeps its promises.
+use Rattle.std.proofs.Common.{◌≡◌, ◌≢◌, ◌∙◌, ◌++◌, ℕ, Bool, List, [], ◌∷◌, map, Option, Some, None, inl, inr, refl, sym, ap, subst, arith}
+use Rattle.std.specs.Prelude.{IfSome, option_map, option_to_list, ⊤}
+use Rattle.std.specs.List.{AllByRecursion}
+use Rattle.std.proofs.lemmas.List.Elements.{recursion_from_All}
+use Rattle.batch_book.specs.History.{Account}
+use Rattle.clap.specs.Words.{Text}
+use Rattle.command_words.specs.Jobs.{AskFor, Files, MayHaveName, file, file_uses, files_beside, files_of, files_read, input_name, kept_files, recorded_in}
+use Rattle.command_words.specs.declared.jobs.Job.{Job}
+use Rattle.command_words.specs.declared.jobs.Job.TheVariants.{Host, Serve, Talk}
+use Rattle.command_words.specs.declared.jobs.RecordFile.{RecordFile}
+use Rattle.command_words.specs.declared.jobs.SharedRack.{SharedRack}
+use Rattle.command_words.specs.declared.uses.Access.TheVariants.{Read}
+use Rattle.drive_answers.specs.Ways.{Ways}
+use Rattle.exchange.proofs.AskedJobs.{Answers, Ended, EndsSo, KeepsSo, SessionsCome, all_written, asks_nothing, cut_ends, ended_run, sessions_come, text_ends}
+use Rattle.exchange.proofs.HeldFiles.{alone, earlier, held_files, pass}
+use Rattle.exchange.proofs.OneRequest.{one_request}
+use Rattle.exchange.proofs.PromisedSessions.{AreCallsOf}
+use Rattle.exchange.proofs.PromisedCalls.{are_kept, are_part, are_told, before, behind, clients_come, kept_named, none_begun, none_ended, scripts_come, talk_comes}
+use Rattle.exchange.proofs.PromisedDrives.{keeps_drives, keeps_stops, no_drives, no_stops}
+use Rattle.exchange.proofs.PromisedPictures.{keeps_pictures, no_pictures}
+use Rattle.exchange.proofs.PromisedPlans.{keeps_checks, keeps_directions, keeps_plans, no_checks, no_directions, no_plans}
+use Rattle.exchange.proofs.PromisedRefusals.{keeps_refusals, no_refusals}
+use Rattle.exchange.proofs.PromisedReplays.{keeps_replays, no_replays}
+use Rattle.exchange.proofs.PromisedReplies.{keeps_replies, no_replies}
+use Rattle.exchange.proofs.PromisedRuns.{keeps_images, keeps_runs, no_images, no_runs}
+use Rattle.exchange.proofs.PromisedSwitches.{keeps_orders, keeps_switches, no_orders, no_switches}
+use Rattle.exchange.specs.Ends.{IsCutFor, Leaving}
+use Rattle.exchange.specs.Promises.{AreKept, AreKeptInPart, AreToldKept, Calls, HoldsText, KeepsClients, KeepsPromises, KeepsScripts, KeepsTalks, KeepsTexts, Run, clients_of, front_of, kept_by, run_of}
+use Rattle.exchange.specs.Responses.{Given, Named, Response}
+use Rattle.exchange.specs.declared.limits.TheConstants.{UNWRITTEN}
+use Rattle.kept_sessions.specs.Keeping.{AreLiveKept, AreWritten}
+use Rattle.named_files.specs.Clients.{clients_by, ends_of}
+use Rattle.named_files.specs.Contents.{AreContents, Holding}
+use Rattle.named_files.specs.Outputs.{lost_none, none_opened}
+use Rattle.named_files.specs.Streams.{Closed}
+use Rattle.named_files.specs.declared.lost.Lost.{Lost}
+use Rattle.named_files.specs.declared.outputs.Receipts.{Receipts}
+use Rattle.session_answers.specs.declared.ended_session.Ending.{Ending}
+
+-- ---- commands that need nothing but texts
+
+texts : (run : Run) → Answers run → KeepsTexts run
+texts run all = record {
+  plans = keeps_plans run all;
+  checks = keeps_checks run all;
+  runs = keeps_runs run all;
+  images = keeps_images run all;
+  directions = keeps_directions run all;
+  switches = keeps_switches run all;
+  orders = keeps_orders run all;
+  pictures = keeps_pictures run all;
+  replays = keeps_replays run all;
+  refusals = keeps_refusals run all;
+}
+
+-- ---- sessions
+
+-- a record isn't written to standard input
+host_named : (rack : SharedRack) (names : List Text) (workers : ℕ) (words : List Text) (quiet : Bool) → AskFor words (record { job = Host rack names workers; is_quiet = quiet }) → (out : RecordFile) → rack.record_out ≡ Some out → out.name ≢ input_name
+host_named rack names workers words quiet asks out is =
+    let all = recursion_from_All MayHaveName (file_uses (Host rack names workers)) asks.job.files.each in
+    let beside = behind MayHaveName (map (file Read) (files_read (Host rack names workers))) (files_beside (Host rack names workers)) all in
+    kept_named (recorded_in rack) rack.image_out out.name (ap (λ (o : Option RecordFile). option_map (λ (r : RecordFile). r.name) o) is) (before MayHaveName (kept_files rack) _ beside)
+
+talk_named : (rack : SharedRack) (words : List Text) (quiet : Bool) → AskFor words (record { job = Talk rack; is_quiet = quiet }) → (out : RecordFile) → rack.record_out ≡ Some out → out.name ≢ input_name
+talk_named rack words quiet asks out is =
+    let all = recursion_from_All MayHaveName (file_uses (Talk rack)) asks.job.files.each in
+    kept_named (recorded_in rack) rack.image_out out.name (ap (λ (o : Option RecordFile). option_map (λ (r : RecordFile). r.name) o) is) (behind MayHaveName (map (file Read) (files_read (Talk rack))) (files_beside (Talk rack)) all)
+
+names_before : (front back : List Text) → AllByRecursion (λ n. n ≢ input_name) (front ++ back) → AllByRecursion (λ n. n ≢ input_name) front
+names_before [] back all = tt
+names_before (n ∷ front) back all = (all.0, names_before front back all.1)
+
+-- the image isn't standard input, so all of that is left for the client
+talk_reads : (holds : Holding) (input : Option (List ℕ)) (rack : SharedRack) (words : List Text) (quiet : Bool) → AskFor words (record { job = Talk rack; is_quiet = quiet }) → (files : Files (List ℕ)) (rest : Option (List ℕ)) → AreContents holds input (files_of (Talk rack)) files rest → rest ≡ input
+talk_reads holds input rack words quiet asks files rest r =
+    let lone = alone (files_read (Talk rack)) (files_beside (Talk rack)) asks.job.files.apart in
+    let other = names_before (option_to_list rack.image) [] (earlier (option_to_list rack.image ++ []) input_name [] lone refl) in
+    pass holds r.3 [] files.scripts rest tt r.8 ∙ (pass holds r.2 [] (option_to_list files.wiring) r.3 tt r.7
+    ∙ (pass holds r.1 [] (option_to_list files.other) r.2 tt r.6 ∙ (pass holds r.0 [] (option_to_list files.list) r.1 tt r.5 ∙ pass holds input (option_to_list rack.image) (option_to_list files.image) r.0 other r.4)))
+
+known_came : (known : Option (List ℕ)) (came : List ℕ) → IfSome known (λ text. text ≡ came) → IfSome known (λ text. came ≡ text)
+known_came None came is = tt
+known_came (Some text) came is = sym is
+
+module _ {C : Type 0} (received : C → Closed) (receipts : Receipts C) (comes : Text → Option (List ℕ)) (had : Text → List ℕ) (endings : List (Ending (List ℕ))) (named : Named) (given : Given) (known : given.clients ≡ clients_by comes had) (words : List Text) (prints : List ℕ → Type 0) (status : ℕ) (may : Lost → Type 0) where
+  abbrev The : Run
+  The = record { words = words; holds = HoldsText named.holds given.input; prints = prints; status = status }
+
+  module _ (come : SessionsCome named given received receipts (ends_of endings) may The) where
+    scripts_kept : (keeps : SharedRack → List Text → Calls → Type 0) → ((lost : Lost) → may lost → (rack : SharedRack) (book : Account) (calls : Calls) → AreCallsOf calls book → AreWritten received (recorded_in rack) rack.image_out [] book receipts lost → keeps rack [] calls) → KeepsScripts The (kept_by received receipts) keeps
+    scripts_kept keeps keep rack scripts workers asks written = elim (come (record { job = Serve rack scripts workers; is_quiet = asks.0 }) tt asks.1) [
+      | inl c ↦ scripts_come received receipts c.0 The rack scripts (keeps rack []) (keep c.0 c.1 rack) named given (ends_of endings) workers (λ files rest reads. held_files words (record { job = Serve rack scripts workers; is_quiet = asks.0 }) named.holds given.input files rest asks.1 reads) c.2
+      | inr none ↦ inr (none_begun received receipts (ends_of endings) The none)
+    ]
+
+    abbrev LiveKeeps : (SharedRack → List Text → Calls → Type 0) → Type 0
+    LiveKeeps keeps = (lost : Lost) → may lost → (rack : SharedRack) (names : List Text) (book : Account) (calls : Calls) → AreCallsOf calls book → AreLiveKept named.holds received rack names (Some book) receipts lost → keeps rack names calls
+
+    clients_kept : (keeps : SharedRack → List Text → Calls → Type 0) → LiveKeeps keeps → KeepsClients The (kept_by received receipts) (clients_of comes had endings) keeps
+    clients_kept keeps keep rack names workers asks written = elim (come (record { job = Host rack names workers; is_quiet = asks.0 }) tt asks.1) [
+      | inl c ↦ clients_come received receipts c.0 named given The rack names (keeps rack names) (keep c.0 c.1 rack names) (λ out text is holds. (λ input. absurd (host_named rack names workers words asks.0 asks.1 out is input), λ other. holds)) comes had endings workers (ap (λ clients. clients names) known)
+          (λ files rest reads. held_files words (record { job = Host rack names workers; is_quiet = asks.0 }) named.holds given.input files rest asks.1 reads) c.2
+      | inr none ↦ inr (none_begun received receipts (ends_of endings) The none, none_ended endings none.none_ended)
+    ]
+
+    talks_kept : (keeps : SharedRack → List Text → Calls → Type 0) → LiveKeeps keeps → KeepsTalks The (kept_by received receipts) keeps
+    talks_kept keeps keep rack asks written = elim (come (record { job = Talk rack; is_quiet = asks.0 }) tt asks.1) [
+      | inl c ↦ talk_comes received receipts c.0 named given The rack (keeps rack []) (keep c.0 c.1 rack []) (λ out text is holds. (λ input. absurd (talk_named rack words asks.0 asks.1 out is input), λ other. holds)) (ends_of endings)
+          (λ rest files reads came is. (λ same. known_came given.input came (subst (λ (o : Option (List ℕ)). IfSome o (λ text. text ≡ came)) (talk_reads named.holds given.input rack words asks.0 asks.1 files rest reads) is), λ other. absurd (other refl)))
+          (λ files rest reads. held_files words (record { job = Talk rack; is_quiet = asks.0 }) named.holds given.input files rest asks.1 reads) c.2
+      | inr none ↦ inr (none_begun received receipts (ends_of endings) The none)
+    ]
+
+live_whole : {C : Type 0} (received : C → Closed) (receipts : Receipts C) (holds : Holding) (lost : Lost) → lost ≡ lost_none → (rack : SharedRack) (names : List Text) (book : Account) (calls : Calls) → AreCallsOf calls book → AreLiveKept holds received rack names (Some book) receipts lost → AreKept (kept_by received receipts) rack names calls
+live_whole received receipts holds lost same rack names book calls are kept = are_kept received rack names receipts book calls are (subst (λ (l : Lost). AreWritten received (recorded_in rack) rack.image_out names book receipts l) same kept.0)
+
+live_told : {C : Type 0} (received : C → Closed) (receipts : Receipts C) (holds : Holding) (lost : Lost) → ⊤ → (rack : SharedRack) (names : List Text) (book : Account) (calls : Calls) → AreCallsOf calls book → AreLiveKept holds received rack names (Some book) receipts lost → AreToldKept (kept_by received receipts) rack names calls
+live_told received receipts holds lost any rack names book calls are kept = are_told received rack names receipts book calls are lost kept.0 kept.3
+
+-- ---- all promises
+
+pub keeps_promises : {C : Type 0} (e : Ended) (after : Ways) (received : C → Closed) (receipts : Receipts C) (comes : Text → Option (List ℕ)) (had : Text → List ℕ) (endings : List (Ending (List ℕ))) → e.given.clients ≡ clients_by comes had
+    → ((job : Job) (response : Response) → e.keeps job response → response.ports ≡ after) → ((job : Job) (response : Response) → e.keeps job response → KeepsSo e.named.holds received receipts (ends_of endings) lost_none job response)
+    → (e.none → (receipts ≡ none_opened) × (after ≡ e.given.ports) × (ends_of endings ≡ [])) → EndsSo e
+    → KeepsPromises (ended_run e) (front_of e.named.holds e.given.input e.streams.out_before e.streams.out_after e.words) e.given.ports after (kept_by received receipts) (clients_of comes had endings)
+keeps_promises e after received receipts comes had endings known ports so none is =
+    let all = text_ends e is in
+    let come = sessions_come e received receipts (ends_of endings) so (λ n. ((none n).0, (none n).2)) is in
+    record {
+      one = one_request e.words;
+      plans = keeps_plans _ all;
+      checks = keeps_checks _ all;
+      runs = keeps_runs _ all;
+      images = keeps_images _ all;
+      directions = keeps_directions _ all;
+      switches = keeps_switches _ all;
+      orders = keeps_orders _ all;
+      drives = keeps_drives e after ports is;
+      stops = keeps_stops e after ports (λ n. (none n).1) is;
+      replies = keeps_replies e is;
+      pictures = keeps_pictures _ all;
+      scripts = scripts_kept received receipts comes had endings e.named e.given known e.words _ e.code (λ lost. lost ≡ lost_none) come (AreKept (kept_by received receipts))
+          (λ lost same rack book calls are written. are_kept received rack [] receipts book calls are (subst (λ (l : Lost). AreWritten received (recorded_in rack) rack.image_out [] book receipts l) same written));
+      live = clients_kept received receipts comes had endings e.named e.given known e.words _ e.code (λ lost. lost ≡ lost_none) come (AreKept (kept_by received receipts)) (live_whole received receipts e.named.holds);
+      talks = talks_kept received receipts comes had endings e.named e.given known e.words _ e.code (λ lost. lost ≡ lost_none) come (AreKept (kept_by received receipts)) (live_whole received receipts e.named.holds);
+      replays = keeps_replays _ all;
+      refusals = keeps_refusals _ all;
+      misuse = λ misused request asks. asks_nothing e is request asks misused;
+      fronts_too = λ unwritten. absurd (all_written e is unwritten);
+    }
+
+pub keeps_in_part : {C : Type 0} (words : List Text) (named : Named) (left : Leaving) (given : Given) (out_before out_after : Option (List ℕ)) (code : ℕ) (after : Ways) (received : C → Closed) (receipts : Receipts C) (comes : Text → Option (List ℕ)) (had : Text → List ℕ) (endings : List (Ending (List ℕ)))
+    → given.clients ≡ clients_by comes had → ((job : Job) (response : Response) → left.keeps job response → (lost : Lost) × KeepsSo named.holds received receipts (ends_of endings) lost job response) → (left.none → (receipts ≡ none_opened) × (ends_of endings ≡ [])) → code ≡ UNWRITTEN
+    → IsCutFor named left words given out_before out_after
+    → KeepsPromises (run_of named.holds given.input out_before out_after words code) (front_of named.holds given.input out_before out_after words) given.ports after (kept_by received receipts) (clients_of comes had endings)
+keeps_in_part words named left given out_before out_after code after received receipts comes had endings known so none unwritten is =
+    let cut = cut_ends received receipts (ends_of endings) words named left given out_before out_after so none is in
+    record {
+      one = one_request words;
+      plans = no_plans _ unwritten;
+      checks = no_checks _ unwritten;
+      runs = no_runs _ unwritten;
+      images = no_images _ unwritten;
+      directions = no_directions _ unwritten;
+      switches = no_switches _ unwritten;
+      orders = no_orders _ unwritten;
+      drives = no_drives _ _ _ unwritten;
+      stops = no_stops _ _ _ unwritten;
+      replies = no_replies _ unwritten;
+      pictures = no_pictures _ unwritten;
+      scripts = λ rack scripts workers asks written. absurd (written unwritten);
+      live = λ rack names workers asks written. absurd (written unwritten);
+      talks = λ rack asks written. absurd (written unwritten);
+      replays = no_replays _ unwritten;
+      refusals = no_refusals _ unwritten;
+      misuse = λ misused request asks. absurd (omega (arith, misused, unwritten));
+      fronts_too = λ same. (
+        cut.status,
+        record {
+          ends = cut.either;
+          texts = texts _ cut.texts;
+          scripts = scripts_kept received receipts comes had endings named given known words _ cut.status (λ lost. ⊤) cut.sessions (AreKeptInPart (kept_by received receipts)) (λ lost may rack book calls are written. are_part received rack [] receipts book calls are lost written);
+          live = clients_kept received receipts comes had endings named given known words _ cut.status (λ lost. ⊤) cut.sessions (AreToldKept (kept_by received receipts)) (live_told received receipts named.holds);
+          talks = talks_kept received receipts comes had endings named given known words _ cut.status (λ lost. ⊤) cut.sessions (AreToldKept (kept_by received receipts)) (live_told received receipts named.holds);
+        },
+      );
+    }

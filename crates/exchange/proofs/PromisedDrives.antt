@@ -1,0 +1,558 @@
+-- The promise of `drive`.
+use Rattle.std.proofs.Common.{◌≡◌, ◌<◌, ◌≤◌, ◌+◌, ◌∙◌, ◌++◌, ℕ, zero, suc, Bool, true, false, not, List, [], ◌∷◌, length, Option, Some, None, Err, inl, inr, ◌⊎◌, refl, sym, ap, subst, append_assoc, arith}
+use Rattle.std.specs.Prelude.{IfSome, codes, if◌then◌else◌}
+use Rattle.std.specs.Io.KnownBytes.{Appends}
+use Rattle.std.specs.List.{AllByRecursion}
+use Rattle.std.proofs.lemmas.List.{append-nil}
+use Rattle.batch.specs.Batches.{IsBatch}
+use Rattle.batch.specs.Extent.{widest}
+use Rattle.batch.specs.declared.transfer.Transfer.{Transfer}
+use Rattle.board_wiring.proofs.ReadBoards.{joins_all}
+use Rattle.board_wiring.specs.Boards.{IsBoardOf, IsFilled}
+use Rattle.board_wiring.specs.Lacks.{HasWaysOn}
+use Rattle.board_wiring.specs.declared.board.Board.{Board as BoardText}
+use Rattle.c004_commands.specs.Commands.{text}
+use Rattle.c004_commands.specs.declared.command.Command.TheVariants.{Settle}
+use Rattle.clap.specs.Words.{Text}
+use Rattle.command_words.specs.Jobs.{AskFor, Files, files_of, schedule_in}
+use Rattle.command_words.specs.declared.jobs.Job.{Job}
+use Rattle.command_words.specs.declared.jobs.Job.TheVariants.{Drive}
+use Rattle.crossbar.proofs.Conversed.{conversed_bytes}
+use Rattle.crossbar.specs.Pairs.{room_of, switch_of}
+use Rattle.crossbar.specs.Switch.{Switch}
+use Rattle.c004_commands.specs.declared.command.Command.{Command}
+use Rattle.crossbar.specs.Traffic.{Passes, PassesFront, conversed}
+use Rattle.crossbar.specs.Wired.{links_of}
+use Rattle.crossbar.specs.declared.board.BoardWiring.{BoardWiring}
+use Rattle.crossbar.specs.declared.chip.Chip.{Chip}
+use Rattle.crossbar.specs.declared.chip.Chip.TheVariants.{A, B}
+use Rattle.crossbar.specs.declared.chip.Wiring.{Wiring}
+use Rattle.crossbar.specs.declared.chip.Wiring.TheVariants.{Back, Board, Both, Forth}
+use Rattle.crossbar.specs.declared.pair.Pair.{Pair}
+use Rattle.crossbar.specs.declared.traffic.Passing.{Passing}
+use Rattle.drive_answers.specs.Answers as drives
+use Rattle.drive_answers.specs.Answers.{IsDriveAnswer, IsDrivenOver, IsFirstDriveWrong, IsTried, rack_for}
+use Rattle.drive_answers.specs.Endings.{completed_line, fault_words, left_line, stopped_line}
+use Rattle.drive_answers.specs.Ways.{Names, Ways, used}
+use Rattle.exchange.proofs.AskedJobs.{Ended, EndsSo, end_of, ended_run, never_done, not_done}
+use Rattle.exchange.proofs.HeldFiles.{given_text, held_files}
+use Rattle.exchange.proofs.PromisedRefusals.{done_is, gave_up, unwritten_is}
+use Rattle.exchange.proofs.PromisedPlans.{plan_is}
+use Rattle.exchange.proofs.PromisedRuns.{denoted, scheduled}
+use Rattle.exchange.proofs.PromisedSwitches.{HoldsBoard, schedule_of, wired_so}
+use Rattle.exchange.specs.Ends.{IsDone}
+use Rattle.exchange.specs.Promises.{AreHeld, AreNoWays, HasAnswered, HasDriven, HasGivenUp, HasRefusedDrive, HasStopped, HoldsBatch, HoldsGiven, IsFirstWrongOn, IsScheduled, IsWired, KeepsDrives, KeepsStops, Ports, Run, Stands, StoodInTurn, lines_told, SaySchedule, lacking, no_setting, ports_of, switches_of, texts_wrong, wiring_wrong}
+use Rattle.exchange.specs.Responses.{Response, source_in, text_in}
+use Rattle.exchange.specs.declared.limits.TheConstants.{UNWRITTEN}
+use Rattle.link_graph.specs.Schedules.{IsScheduleOf}
+use Rattle.named_files.specs.declared.unanswered.Unanswered.TheVariants as why
+use Rattle.plan_answers.specs.Refusals.{IsRefused, Printed}
+use Rattle.plan_answers.specs.Schedules.{IsScheduleFrom}
+use Rattle.plan_answers.specs.declared.limits.TheConstants.{DONE, REFUSED}
+use Rattle.plan_answers.specs.declared.source.Source.{Source}
+use Rattle.plan_answers.specs.declared.source.Source.TheVariants as source
+use Rattle.refusals.specs.Refusals.{refusal_words}
+use Rattle.refusals.specs.declared.refusal.Refusal.{Refusal}
+use Rattle.switch_driver.proofs.Telling.{replies_tell}
+use Rattle.switch_driver.specs.Driving.{EndsWith, HaveStood, Stood, standing_behind}
+use Rattle.switch_driver.specs.Lines.{Dialogue, TellsLine, stage_line}
+use Rattle.switch_driver.specs.Steps.{Stands as StandsOn, changed, kept, settled_steps, wirings_of}
+use Rattle.switch_driver.specs.declared.driving.Driven.TheVariants.{Completed, Halted, Stopped}
+use Rattle.switch_driver.specs.declared.stage.Halt.{Halt}
+use Rattle.switch_driver.specs.declared.stage.Halt.TheVariants.{Left, Unheard, Untold}
+use Rattle.switch_settings.proofs.Racks.{has_modules}
+use Rattle.switch_settings.proofs.Turning.{ordered_switch}
+use Rattle.switch_settings.specs.Asking.{AreDone, BreakOff, Breaks, IsDone as IsStepDone, Step, ask, hear, miss, settle, turn}
+use Rattle.switch_settings.specs.Pairs.{all_enquiries}
+use Rattle.switch_settings.specs.Racks.{HasModulesOf, is_wide}
+use Rattle.switch_settings.specs.Sending.{pairs_at, turning}
+use Rattle.switch_settings.specs.Settings.{numbers_in, setting_pairs}
+use Rattle.switch_settings.specs.declared.fault.SettingFault.{SettingFault}
+use Rattle.switch_settings.specs.declared.fault.SettingFault.TheVariants.{Port, Switch as Disagrees}
+
+-- ---- traffic that is known
+
+passes_some : (old : List Passing) (new : Option (List Passing)) (more : List Passing) → Passes (Some old) new more → new ≡ Some (old ++ more)
+passes_some old None more p = absurd p
+passes_some old (Some new) more p = ap Some p
+
+-- one step more, where what had passed is known
+passes_on : (known : List Passing) (old new : Option (List Passing)) (more : List Passing) → old ≡ Some known → Passes old new more → new ≡ Some (known ++ more)
+passes_on known old new more same p = passes_some known new more (subst (λ (o : Option (List Passing)). Passes o new more) same p)
+
+-- ---- one setting
+
+-- it stood behind something more
+record Grows (old : List Passing) (new : Option (List Passing)) (P : List Passing → Type 0) : Type 0 where
+  passed : List Passing
+  more : List Passing
+  known : new ≡ Some passed
+  parts : passed ≡ old ++ more
+  is : P passed
+
+-- the two switches, or the one, are those of these pairs
+abbrev AreAnswered : List (Chip × Wiring) → List Pair → List Passing → Type 0
+AreAnswered switches pairs passed = AllByRecursion (λ (one : Chip × Wiring). HasAnswered one.0 (switch_of one.1 pairs) passed) switches
+
+rest2 : (b x y z : List Passing) → b ++ x ++ y ++ z ≡ b ++ (x ++ (y ++ (z ++ [])))
+rest2 b x y z = ap (λ (l : List Passing). b ++ x ++ y ++ l) (sym (append-nil z)) ∙ append_assoc (b ++ x) y (z ++ []) ∙ append_assoc b x (y ++ (z ++ []))
+
+rest3 : (b x y z u : List Passing) → b ++ x ++ y ++ z ++ u ≡ b ++ (x ++ (y ++ (z ++ u)))
+rest3 b x y z u = append_assoc (b ++ x ++ y) z u ∙ append_assoc (b ++ x) y (z ++ u) ∙ append_assoc b x (y ++ (z ++ u))
+
+rest5 : (b v w x y z u : List Passing) → b ++ v ++ w ++ x ++ y ++ z ++ u ≡ b ++ (v ++ (w ++ (x ++ (y ++ (z ++ u)))))
+rest5 b v w x y z u = rest3 (b ++ v ++ w) x y z u ∙ append_assoc (b ++ v) w (x ++ (y ++ (z ++ u))) ∙ append_assoc b v (w ++ (x ++ (y ++ (z ++ u))))
+
+one_done : (wiring : Wiring) (standing : Option (List Pair)) (pairs : List Pair) (old : List Passing) (new : Option (List Passing)) → AreDone standing pairs (settled_steps ((A, wiring) ∷ [])) (Some old) new → Grows old new (AreAnswered ((A, wiring) ∷ []) pairs)
+one_done wiring standing pairs old new d =
+    let t = conversed A (turning wiring standing pairs) [] in
+    let r = d.2.1 in
+    let a = conversed A all_enquiries r.replies in
+    let s = conversed A (Settle ∷ []) [] in
+    let m1 = passes_on old (Some old) d.0 t refl d.1 in
+    let m2 = passes_on (old ++ t) d.0 d.2.0 a m1 r.passed in
+    let m3 = passes_on (old ++ t ++ a) d.2.0 d.2.2.0 s m2 d.2.2.1 in
+    record {
+      passed = old ++ t ++ a ++ s;
+      more = t ++ (a ++ s);
+      known = d.2.2.2 ∙ m3;
+      parts = append_assoc (old ++ t) a s ∙ append_assoc old t (a ++ s);
+      is = (
+        record {
+          before = old ++ t;
+          replies = r.replies;
+          between = [];
+          behind = [];
+          parts = append_assoc (old ++ t) a s ∙ ap (λ (x : List Passing). (old ++ t) ++ (a ++ x)) (sym (append-nil s));
+          all = r.all;
+          agree = r.are;
+          nothing_between = refl;
+          nothing_behind = refl;
+          joins = λ switch same. replies_tell wiring pairs switch r.replies same r.are;
+        },
+        tt,
+      );
+    }
+
+both_done : (standing : Option (List Pair)) (pairs : List Pair) (old : List Passing) (new : Option (List Passing)) → AreDone standing pairs (settled_steps ((A, Forth) ∷ (B, Back) ∷ [])) (Some old) new → Grows old new (AreAnswered ((A, Forth) ∷ (B, Back) ∷ []) pairs)
+both_done standing pairs old new d =
+    let ta = conversed A (turning Forth standing pairs) [] in
+    let tb = conversed B (turning Back standing pairs) [] in
+    let ra = d.2.2.1 in
+    let rb = d.2.2.2.1 in
+    let aa = conversed A all_enquiries ra.replies in
+    let ab = conversed B all_enquiries rb.replies in
+    let sa = conversed A (Settle ∷ []) [] in
+    let sb = conversed B (Settle ∷ []) [] in
+    let m1 = passes_on old (Some old) d.0 ta refl d.1 in
+    let m2 = passes_on (old ++ ta) d.0 d.2.0 tb m1 d.2.1 in
+    let m3 = passes_on (old ++ ta ++ tb) d.2.0 d.2.2.0 aa m2 ra.passed in
+    let m4 = passes_on (old ++ ta ++ tb ++ aa) d.2.2.0 d.2.2.2.0 ab m3 rb.passed in
+    let m5 = passes_on (old ++ ta ++ tb ++ aa ++ ab) d.2.2.2.0 d.2.2.2.2.0 sa m4 d.2.2.2.2.1 in
+    let m6 = passes_on (old ++ ta ++ tb ++ aa ++ ab ++ sa) d.2.2.2.2.0 d.2.2.2.2.2.0 sb m5 d.2.2.2.2.2.1 in
+    record {
+      passed = old ++ ta ++ tb ++ aa ++ ab ++ sa ++ sb;
+      more = ta ++ (tb ++ (aa ++ (ab ++ (sa ++ sb))));
+      known = d.2.2.2.2.2.2 ∙ m6;
+      parts = rest5 old ta tb aa ab sa sb;
+      is = (
+        record {
+          before = old ++ ta ++ tb;
+          replies = ra.replies;
+          between = ab;
+          behind = sb;
+          parts = rest3 (old ++ ta ++ tb) aa ab sa sb;
+          all = ra.all;
+          agree = ra.are;
+          nothing_between = conversed_bytes A B all_enquiries rb.replies;
+          nothing_behind = conversed_bytes A B (Settle ∷ []) [];
+          joins = λ switch same. replies_tell Forth pairs switch ra.replies same ra.are;
+        },
+        (
+          record {
+            before = old ++ ta ++ tb ++ aa;
+            replies = rb.replies;
+            between = sa;
+            behind = [];
+            parts = rest2 (old ++ ta ++ tb ++ aa) ab sa sb;
+            all = rb.all;
+            agree = rb.are;
+            nothing_between = conversed_bytes B A (Settle ∷ []) [];
+            nothing_behind = refl;
+            joins = λ switch same. replies_tell Back pairs switch rb.replies same rb.are;
+          },
+          tt,
+        ),
+      );
+    }
+
+-- the switches of a rack, for its wiring
+setting_done : (board : Option BoardWiring) (batch : List Transfer) (wide : Bool) → is_wide batch ≡ wide → (standing : Option (List Pair)) (pairs : List Pair) (old : List Passing) (new : Option (List Passing)) → AreDone standing pairs (settled_steps (wirings_of (rack_for board batch))) (Some old) new → Grows old new (AreAnswered (switches_of board batch) pairs)
+setting_done (Some w) batch wide is standing pairs old new d = one_done (Board w) standing pairs old new d
+setting_done None batch true is standing pairs old new d = rw is (both_done standing pairs old new (rw is at d))
+setting_done None batch false is standing pairs old new d = rw is (one_done Both standing pairs old new (rw is at d))
+
+-- ---- settings of a schedule
+
+record Given (board : Option BoardWiring) (batch : List Transfer) (settings : List (List ℕ)) : Type 0 where
+  fits : IsBatch batch
+  is : IsScheduleOf batch settings
+  has : IfSome board (λ w. HasModulesOf (length (links_of w)) batch)
+
+module _ (board : Option BoardWiring) (batch : List Transfer) (settings : List (List ℕ)) (g : Given board batch settings) where
+  -- the pairs in order are those of the setting
+  in_order_is : (w : Wiring) → HasModulesOf (room_of w) batch → (k : ℕ) → k < length settings → switch_of w (pairs_at batch settings k) ≡ switch_of w (setting_pairs batch (numbers_in settings k))
+  in_order_is w has k lt = ordered_switch (room_of w) w batch (numbers_in settings k) (record { fits = g.fits; known = g.is.no_other k [] lt; matching = g.is.matchings k [] lt }) has (omega arith)
+
+  turned_one : (chip : Chip) (w : Wiring) (k : ℕ) (pairs : List Pair) (passed : List Passing) → pairs ≡ pairs_at batch settings k → HasModulesOf (room_of w) batch → k < length settings → HasAnswered chip (switch_of w pairs) passed → HasAnswered chip (switch_of w (setting_pairs batch (numbers_in settings k))) passed
+  turned_one chip w k pairs passed same has lt a = subst (λ (s : Switch). HasAnswered chip s passed) (ap (switch_of w) same ∙ in_order_is w has k lt) a
+
+  turned_usual : (wide : Bool) → is_wide batch ≡ wide → (k : ℕ) (pairs : List Pair) (passed : List Passing) → pairs ≡ pairs_at batch settings k → k < length settings
+      → AreAnswered (if wide then (A, Forth) ∷ (B, Back) ∷ [] else (A, Both) ∷ []) pairs passed → AreAnswered (if wide then (A, Forth) ∷ (B, Back) ∷ [] else (A, Both) ∷ []) (setting_pairs batch (numbers_in settings k)) passed
+  turned_usual true wide k pairs passed same lt a = (turned_one A Forth k pairs passed same (has_modules batch true g.fits wide) lt a.0, (turned_one B Back k pairs passed same (has_modules batch true g.fits wide) lt a.1.0, tt))
+  turned_usual false wide k pairs passed same lt a = (turned_one A Both k pairs passed same (has_modules batch false g.fits wide) lt a.0, tt)
+
+  turned_all : (k : ℕ) (pairs : List Pair) (passed : List Passing) → pairs ≡ pairs_at batch settings k → k < length settings → AreAnswered (switches_of board batch) pairs passed → Stands board batch settings k passed
+  turned_all k pairs passed same lt a = by_board board g.has a
+    where
+      by_board : (b : Option BoardWiring) → IfSome b (λ w. HasModulesOf (length (links_of w)) batch) → AreAnswered (switches_of b batch) pairs passed → Stands b batch settings k passed
+      by_board None has a = turned_usual (is_wide batch) refl k pairs passed same lt a
+      by_board (Some w) has a = (turned_one A (Board w) k pairs passed same has lt a.0, tt)
+
+  -- what stood and was told
+  record Told (first count : ℕ) (new : Option (List Passing)) (tells : Dialogue) : Type 0 where
+    passed : List Passing
+    known : new ≡ Some passed
+    stood : StoodInTurn board batch settings first count passed
+    lines : tells.told ≡ lines_told settings first count
+    last : (n : ℕ) → count ≡ suc n → AreAnswered (switches_of board batch) (pairs_at batch settings (first + n)) passed
+
+  one_more : (first n : ℕ) (earlier : List Passing) (new : Option (List Passing)) → first + n < length settings
+      → ((m : ℕ) → n ≡ suc m → AreAnswered (switches_of board batch) (pairs_at batch settings (first + m)) earlier)
+      → StandsOn (rack_for board batch) (standing_behind batch settings first n) (pairs_at batch settings (first + n)) (Some earlier) new
+      → Grows earlier new (AreAnswered (switches_of board batch) (pairs_at batch settings (first + n)))
+  one_more first n earlier new lt before (changed other d) = setting_done board batch (is_wide batch) refl _ _ earlier new d
+  one_more first zero earlier new lt before (kept same nothing) = absurd (let bad : None ≡ Some (pairs_at batch settings (first + 0)) = same in cc)
+  one_more first (suc m) earlier new lt before (kept same nothing) =
+      let pairs : pairs_at batch settings (first + m) ≡ pairs_at batch settings (first + suc m) = (let e : Some (pairs_at batch settings (first + m)) ≡ Some (pairs_at batch settings (first + suc m)) = same in cc) in
+      record {
+        passed = earlier;
+        more = [];
+        known = nothing;
+        parts = sym (append-nil earlier);
+        is = subst (λ (ps : List Pair). AreAnswered (switches_of board batch) ps earlier) pairs (before m refl);
+      }
+
+  have_stood : (waits : Bool) (first count : ℕ) (told tells : Dialogue) (new : Option (List Passing)) → first + count ≤ length settings → told.told ≡ []
+      → HaveStood (TellsLine waits) (rack_for board batch) batch settings first count (Some []) told new tells → Told first count new tells
+  have_stood waits first zero told tells new few none (same, says) = record {
+    passed = [];
+    known = same;
+    stood = refl;
+    lines = ap (λ (d : Dialogue). d.told) says ∙ none;
+    last = λ n is. absurd (omega (arith, is));
+  }
+  have_stood waits first (suc n) told tells new few none (mid, telling, before, stood, hears) =
+      let t = have_stood waits first n told telling mid (omega arith) none before in
+      let grown = one_more first n t.passed new (omega arith) t.last (subst (λ (o : Option (List Passing)). Stood (rack_for board batch) batch settings first n o new) t.known stood) in
+      record {
+        passed = grown.passed;
+        known = grown.known;
+        stood = (t.passed, grown.more, grown.parts, t.stood, turned_all (first + n) (pairs_at batch settings (first + n)) grown.passed refl (omega arith) grown.is);
+        lines = hears.0 ∙ ap (λ (x : List ℕ). x ++ stage_line (first + n) (numbers_in settings (first + n))) t.lines;
+        last = λ m is. subst (λ (j : ℕ). AreAnswered (switches_of board batch) (pairs_at batch settings (first + j)) grown.passed) (omega (arith, is)) grown.is;
+      }
+
+-- ---- a setting that couldn't be set
+
+-- what had passed, and something more
+abbrev IsFront : List Passing → Option (List Passing) → Type 0
+IsFront old new = (more : List Passing) × (new ≡ Some (old ++ more))
+
+front_of : (chip : Chip) (commands : List Command) (known : List Passing) (old new : Option (List Passing)) → old ≡ Some known → PassesFront chip commands old new → IsFront known new
+front_of chip commands known None new same p = absurd (let bad : None ≡ Some known = same in cc)
+front_of chip commands known (Some old) None same p = absurd p
+front_of chip commands known (Some old) (Some new) same p = (p.0, ap Some (p.1 ∙ ap (λ (x : List Passing). x ++ p.0) (let e : old ≡ known = (let h : Some old ≡ Some known = same in cc) in e)))
+
+passed_front : (known : List Passing) (old new : Option (List Passing)) (more : List Passing) → old ≡ Some known → Passes old new more → IsFront known new
+passed_front known old new more same p = (more, passes_on known old new more same p)
+
+breaks_front : (fault : SettingFault) (standing : Option (List Pair)) (pairs : List Pair) (step : Step) (known : List Passing) (old new : Option (List Passing)) → old ≡ Some known → Breaks fault standing pairs step old new → IsFront known new
+breaks_front Port standing pairs (turn chip wiring) known old new same p = front_of chip _ known old new same p
+breaks_front (Disagrees found) standing pairs (turn chip wiring) known old new same p = absurd p
+breaks_front Port standing pairs (hear chip wiring) known old new same p = front_of chip _ known old new same p
+breaks_front (Disagrees found) standing pairs (hear chip wiring) known old new same p = absurd p
+breaks_front Port standing pairs (ask chip wiring) known old new same p = front_of chip _ known old new same p
+breaks_front (Disagrees found) standing pairs (ask chip wiring) known old new same p = passed_front known old new _ same p.passed
+breaks_front Port standing pairs (miss found chip wiring) known old new same p = absurd p
+breaks_front (Disagrees other) standing pairs (miss found chip wiring) known old new same p = absurd p
+breaks_front Port standing pairs (settle chip wiring) known old new same p = front_of chip _ known old new same p
+breaks_front (Disagrees found) standing pairs (settle chip wiring) known old new same p = absurd p
+
+step_front : (standing : Option (List Pair)) (pairs : List Pair) (step : Step) (known : List Passing) (old new : Option (List Passing)) → old ≡ Some known → IsStepDone standing pairs step old new → IsFront known new
+step_front standing pairs (turn chip wiring) known old new same p = passed_front known old new _ same p
+step_front standing pairs (hear chip wiring) known old new same p = passed_front known old new _ same p.passed
+step_front standing pairs (ask chip wiring) known old new same p = passed_front known old new _ same p.passed
+step_front standing pairs (miss found chip wiring) known old new same p = passed_front known old new _ same p.passed
+step_front standing pairs (settle chip wiring) known old new same p = passed_front known old new _ same p
+
+break_front : (fault : SettingFault) (standing : Option (List Pair)) (pairs : List Pair) (steps : List Step) (known : List Passing) (old new : Option (List Passing)) → old ≡ Some known → BreakOff fault standing pairs steps old new → IsFront known new
+break_front fault standing pairs [] known old new same p = absurd p
+break_front fault standing pairs (step ∷ steps) known old new same (inl p) = breaks_front fault standing pairs step known old new same p
+break_front fault standing pairs (step ∷ steps) known old new same (inr (mid, done, p)) =
+    let f = step_front standing pairs step known old mid same done in
+    let g = break_front fault standing pairs steps (known ++ f.0) mid new f.1 p in
+    (f.0 ++ g.0, g.1 ∙ ap Some (append_assoc known f.0 g.0))
+
+-- ---- the answer
+
+driven : (run : Run) (batch : Text) (from : Source Text) (file : Option Text) (first : ℕ) (names : Names) (was opens : Ways) (waits : Bool) (text : List ℕ) (other : Option (List ℕ)) (board : Option BoardText) (filled : Option BoardWiring) (transfers : List Transfer) (settings : List (List ℕ)) (start final : Dialogue) (printed : Printed)
+    → run.holds batch text → HoldsGiven run.holds (schedule_in from) other → HoldsBoard run file board → start.told ≡ [] → run.prints (final.told ++ printed.text) → printed.status ≡ DONE
+    → IsScheduleFrom (source_in from (text_in other)) widest text transfers settings → HasWaysOn board transfers → IsFilled board filled
+    → IsTried (TellsLine waits) (rack_for filled transfers) transfers settings first names was opens start final printed
+    → HasDriven run (record { names = names; before = was; after = opens }) batch from file first
+driven run batch from file first names was opens waits text other board filled transfers settings start final printed held held_schedule held_board none prints status is ways fills (drives.driven (Completed all) many over ends) =
+    let reads = denoted from other widest text transfers settings is in
+    let schedule = scheduled run from other widest text transfers settings held_schedule is in
+    let went = over.went in
+    let fits : IsBatch transfers = record { few = reads.few; within = reads.within } in
+    let g : Given filled transfers settings = record { fits = fits; is = schedule_of run from transfers settings schedule; has = joins_all board filled transfers fills ways } in
+    let all_of : all ≡ length settings = went.0 in
+    let count = went.1.0 in
+    let sum : first + count ≡ length settings = went.1.1 ∙ all_of in
+    let t = have_stood filled transfers settings g waits first count start final over.carried (omega (arith, sum)) none went.1.2 in
+    record {
+      transfers = transfers;
+      settings = settings;
+      board = filled;
+      passed = t.passed;
+      count = count;
+      held = record { text = text; held = held; denotes = reads };
+      schedule = schedule;
+      wired = wired_so run file board transfers filled held_board ways fills;
+      opened = over.ways ∙ ap (λ (c : Option (List Passing)). used names c over.failed was) t.known ∙ ap (λ (n : ℕ). used names (Some t.passed) n was) over.cause;
+      all = sum;
+      stood = t.stood;
+      prints = subst (λ (x : List ℕ). run.prints (x ++ completed_line (length settings))) t.lines
+          (subst (λ (n : ℕ). run.prints (final.told ++ completed_line n)) all_of (subst (λ (x : List ℕ). run.prints (final.told ++ x)) ends.0 prints));
+    }
+driven run batch from file first names was opens waits text other board filled transfers settings start final printed held held_schedule held_board none prints status is ways fills (drives.driven (Stopped k fault) many over ends) = absurd (never_done printed.status ends.1 status)
+driven run batch from file first names was opens waits text other board filled transfers settings start final printed held held_schedule held_board none prints status is ways fills (drives.driven (Halted k Left) many over ends) = absurd (never_done printed.status ends.1 status)
+driven run batch from file first names was opens waits text other board filled transfers settings start final printed held held_schedule held_board none prints status is ways fills (drives.driven (Halted k Unheard) many over ends) = absurd (never_done printed.status ends.1 status)
+driven run batch from file first names was opens waits text other board filled transfers settings start final printed held held_schedule held_board none prints status is ways fills (drives.driven (Halted k Untold) many over ends) = absurd ends
+driven run batch from file first names was opens waits text other board filled transfers settings start final printed held held_schedule held_board none prints status is ways fills (drives.unopened refusal why refuses same left) = absurd (never_done printed.status refuses.1.status status)
+
+-- the board of the wiring's file
+board_held : (run : Run) (file : Option Text) (wiring : Option (List ℕ)) (board : Option BoardText) → HoldsGiven run.holds file wiring → IsBoardOf wiring board → HoldsBoard run file board
+board_held run None None None held of = tt
+board_held run None None (Some board) held of = absurd of
+board_held run None (Some text) board held of = absurd held
+board_held run (Some file) None board held of = absurd held
+board_held run (Some file) (Some text) None held of = absurd of
+board_held run (Some file) (Some text) (Some board) held of = (text, held, of)
+
+answered : (run : Run) (batch : Text) (from : Source Text) (file : Option Text) (first : ℕ) (names : Names) (was opens : Ways) (waits : Bool) (text : List ℕ) (other wiring : Option (List ℕ)) (start final : Dialogue) (printed : Printed)
+    → run.holds batch text → HoldsGiven run.holds (schedule_in from) other → HoldsGiven run.holds file wiring → start.told ≡ [] → run.prints (final.told ++ printed.text) → printed.status ≡ DONE
+    → IsDriveAnswer (TellsLine waits) (source_in from (text_in other)) text wiring first names was opens start final printed
+    → HasDriven run (record { names = names; before = was; after = opens }) batch from file first
+answered run batch from file first names was opens waits text other wiring start final printed held held_schedule held_wiring none prints status (drives.tried board filled transfers settings of is ways fills begins tries) =
+    driven run batch from file first names was opens waits text other board filled transfers settings start final printed held held_schedule (board_held run file wiring board held_wiring of) none prints status is ways fills tries
+answered run batch from file first names was opens waits text other wiring start final printed held held_schedule held_wiring none prints status (drives.wrong refusal wrong refuses same left) = absurd (never_done printed.status refuses.1.status status)
+
+keeps : (e : Ended) (after : Ways) → ((job : Job) (response : Response) → e.keeps job response → response.ports ≡ after)
+    → (batch port : Text) (port_b : Option Text) (from : Source Text) (wiring : Option Text) (first : ℕ) (goes_on : Bool) (workers : ℕ) (quiet : Bool) → AskFor e.words (record { job = Drive batch port port_b from wiring first goes_on workers; is_quiet = quiet })
+    → IsDone e.named e.keeps e.given (record { job = Drive batch port port_b from wiring first goes_on workers; is_quiet = quiet }) e.streams e.code → e.code ≡ DONE
+    → HasDriven (ended_run e) (ports_of port port_b e.given.ports after) batch from wiring first
+keeps e after ports batch port port_b from wiring first goes_on workers quiet asks (response, inl comes, keeping, printed, noted) done =
+    let is = comes.1 in
+    let held = held_files e.words (record { job = Drive batch port port_b from wiring first goes_on workers; is_quiet = quiet }) e.named.holds e.given.input is.0 is.1 asks is.2 in
+    let holds = (ended_run e).holds in
+    let by = is.3.1 in
+    subst (λ (w : Ways). HasDriven (ended_run e) (ports_of port port_b e.given.ports w) batch from wiring first) (ports _ response keeping)
+    (answered (ended_run e) batch from wiring first (record { port = port; port_b = port_b }) e.given.ports response.ports (not goes_on) (text_in is.0.list) is.0.other is.0.wiring
+    (record { told = []; left = is.1 }) (record { told = response.told; left = by.0 }) response.end (given_text holds batch is.0.list held.list) held.other held.wiring refl printed.text (sym printed.status ∙ done) by.1)
+keeps e after ports batch port port_b from wiring first goes_on workers quiet asks (response, inr none, keeping, printed, noted) done = absurd (never_done e.code (printed.status ∙ ap (λ (p : Printed). p.status) none.4.1) done)
+
+pub keeps_drives : (e : Ended) (after : Ways) → ((job : Job) (response : Response) → e.keeps job response → response.ports ≡ after) → EndsSo e → KeepsDrives (ended_run e) e.given.ports after
+keeps_drives e after ports ends batch port port_b from wiring first goes_on workers done = elim (end_of e (record { job = Drive batch port port_b from wiring first goes_on workers; is_quiet = done.0.0 }) done.0.1 ends) [
+  | inl is ↦ keeps e after ports batch port port_b from wiring first goes_on workers done.0.0 done.0.1 is done.1
+  | inr gives_up ↦ absurd (never_done e.code gives_up.1.status done.1)
+]
+
+pub no_drives : (run : Run) (before after : Ways) → run.status ≡ UNWRITTEN → KeepsDrives run before after
+no_drives run before after unwritten batch port port_b from wiring first goes_on workers done = absurd (not_done run _ unwritten done)
+
+-- ---- where it ends early
+
+-- what is so of the texts, however the drive went
+record Read (run : Run) (batch : Text) (from : Source Text) (file : Option Text) (board : Option BoardWiring) (transfers : List Transfer) (settings : List (List ℕ)) : Type 0 where
+  held : HoldsBatch run batch transfers
+  schedule : IsScheduled run from transfers settings
+  wired : IsWired run file transfers board
+  given : Given board transfers settings
+
+read_so : (run : Run) (batch : Text) (from : Source Text) (file : Option Text) (text : List ℕ) (other : Option (List ℕ)) (board : Option BoardText) (filled : Option BoardWiring) (transfers : List Transfer) (settings : List (List ℕ))
+    → run.holds batch text → HoldsGiven run.holds (schedule_in from) other → HoldsBoard run file board → IsScheduleFrom (source_in from (text_in other)) widest text transfers settings → HasWaysOn board transfers → IsFilled board filled → Read run batch from file filled transfers settings
+read_so run batch from file text other board filled transfers settings held held_schedule held_board is ways fills =
+    let reads = denoted from other widest text transfers settings is in
+    let schedule = scheduled run from other widest text transfers settings held_schedule is in
+    record {
+      held = record { text = text; held = held; denotes = reads };
+      schedule = schedule;
+      wired = wired_so run file board transfers filled held_board ways fills;
+      given = record { fits = record { few = reads.few; within = reads.within }; is = schedule_of run from transfers settings schedule; has = joins_all board filled transfers fills ways };
+    }
+
+more_lines : (settings : List (List ℕ)) (first n k : ℕ) → first + n ≡ k → lines_told settings first n ++ stage_line k (numbers_in settings k) ≡ lines_told settings first (n + 1)
+more_lines settings first n k at = let e : suc n ≡ n + 1 = omega arith in subst (λ (m : ℕ). lines_told settings first n ++ stage_line k (numbers_in settings k) ≡ lines_told settings first m) e (ap (λ (m : ℕ). lines_told settings first n ++ stage_line m (numbers_in settings m)) (sym at))
+
+suc_stood : (board : Option BoardWiring) (batch : List Transfer) (settings : List (List ℕ)) (first n : ℕ) (earlier more passed : List Passing) → passed ≡ earlier ++ more → StoodInTurn board batch settings first n earlier → Stands board batch settings (first + n) passed → StoodInTurn board batch settings first (suc n) passed
+suc_stood board batch settings first n earlier more passed parts stood stands = (earlier, more, parts, stood, stands)
+
+stood_more : (board : Option BoardWiring) (batch : List Transfer) (settings : List (List ℕ)) (first n : ℕ) (earlier more passed : List Passing) → passed ≡ earlier ++ more → StoodInTurn board batch settings first n earlier → Stands board batch settings (first + n) passed → StoodInTurn board batch settings first (n + 1) passed
+stood_more board batch settings first n earlier more passed parts stood stands = let e : suc n ≡ n + 1 = omega arith in subst (λ (m : ℕ). StoodInTurn board batch settings first m passed) e (suc_stood board batch settings first n earlier more passed parts stood stands)
+
+-- settings stood, the last one was told, and no other came
+ended_at : (halt : Halt) (waits : Bool) (old : Dialogue) (k : ℕ) (numbers : List ℕ) (new : Dialogue) → (halt ≡ Left) ⊎ (halt ≡ Unheard) → TellsLine waits old k numbers (Err halt) new → new.told ≡ old.told ++ stage_line k numbers
+ended_at Left waits old k numbers new which is = is.0
+ended_at Unheard waits old k numbers new which is = is.0
+ended_at Untold waits old k numbers new (inl which) is = absurd (cc)
+ended_at Untold waits old k numbers new (inr which) is = absurd (cc)
+
+module _ (run : Run) (batch : Text) (from : Source Text) (file : Option Text) (first : ℕ) (names : Names) (was opens : Ways) (waits : Bool) (filled : Option BoardWiring) (transfers : List Transfer) (settings : List (List ℕ)) (start final : Dialogue) (printed : Printed)
+    (r : Read run batch from file filled transfers settings) (none : start.told ≡ []) (prints : run.prints (final.told ++ printed.text)) where
+  stopped_at : (k : ℕ) (fault : SettingFault) → IsDrivenOver (TellsLine waits) (rack_for filled transfers) transfers settings first (Stopped k fault) names was opens start final → printed.text ≡ stopped_line k (fault_words fault)
+      → HasStopped run (record { names = names; before = was; after = opens }) batch from file first
+  stopped_at k fault over line =
+      let went = over.went in
+      let t = have_stood filled transfers settings r.given waits first went.count start final went.mid (omega (arith, went.at, went.within)) none went.before in
+      let f = break_front fault _ _ (settled_steps (wirings_of (rack_for filled transfers))) t.passed went.mid over.carried t.known went.vain.1 in
+      record {
+        transfers = transfers;
+        settings = settings;
+        board = filled;
+        earlier = t.passed;
+        more = f.0;
+        count = went.count;
+        failed = over.failed;
+        line = stopped_line k (fault_words fault);
+        held = r.held;
+        schedule = r.schedule;
+        wired = r.wired;
+        opened = over.ways ∙ ap (λ (c : Option (List Passing)). used names c over.failed was) f.1;
+        stood = t.stood;
+        last = inl (fault, ap (λ (n : ℕ). stopped_line n (fault_words fault)) (sym went.at));
+        prints = subst (λ (x : List ℕ). run.prints (x ++ stopped_line k (fault_words fault))) t.lines (subst (λ (x : List ℕ). run.prints (final.told ++ x)) line prints);
+      }
+
+  left_at : (halt : Halt) (k : ℕ) (line : List ℕ) (carried : Option (List Passing)) (failed : ℕ) → (halt ≡ Left) ⊎ (halt ≡ Unheard) → EndsWith (TellsLine waits) halt (rack_for filled transfers) transfers settings first k (Some []) start carried final
+      → opens ≡ used names carried failed was → printed.text ≡ line → (line ≡ left_line k) ⊎ (line ≡ stopped_line k (codes "input"))
+      → HasStopped run (record { names = names; before = was; after = opens }) batch from file first
+  left_at halt k line carried failed which went ways text is =
+      let t = have_stood filled transfers settings r.given waits first went.count start went.telling went.mid (omega (arith, went.at, went.within)) none went.before in
+      let grown = one_more filled transfers settings r.given first went.count t.passed carried (omega (arith, went.at, went.within)) t.last (subst (λ (o : Option (List Passing)). Stood (rack_for filled transfers) transfers settings first went.count o carried) t.known went.stood) in
+      let told : final.told ≡ lines_told settings first (went.count + 1) = ended_at halt waits went.telling k (numbers_in settings k) final which went.said ∙ ap (λ (x : List ℕ). x ++ stage_line k (numbers_in settings k)) t.lines ∙ more_lines settings first went.count k went.at in
+      record {
+        transfers = transfers;
+        settings = settings;
+        board = filled;
+        earlier = grown.passed;
+        more = [];
+        count = went.count + 1;
+        failed = failed;
+        line = line;
+        held = r.held;
+        schedule = r.schedule;
+        wired = r.wired;
+        opened = ways ∙ ap (λ (c : Option (List Passing)). used names c failed was) (grown.known ∙ ap Some (sym (append-nil grown.passed)));
+        stood = stood_more filled transfers settings first went.count t.passed grown.more grown.passed grown.parts t.stood (turned_all filled transfers settings r.given (first + went.count) (pairs_at transfers settings (first + went.count)) grown.passed refl (omega (arith, went.at, went.within)) grown.is);
+        last = inr (k, omega (arith, went.at), refl, is);
+        prints = subst (λ (x : List ℕ). run.prints (x ++ line)) told (subst (λ (x : List ℕ). run.prints (final.told ++ x)) text prints);
+      }
+
+-- what is first wrong with the texts
+says : (from : Source (List ℕ)) (text : List ℕ) (batch : List Transfer) (settings : List (List ℕ)) → IsScheduleFrom from widest text batch settings → SaySchedule from text batch settings
+says (source.Plan planning) text batch settings is = (is.0, plan_is planning batch settings is.1.0 is.1.1)
+says (source.Text schedule) text batch settings is = is
+
+not_less : (a b : ℕ) → (a < b → ⊥) → b ≤ a
+not_less a b none = omega (arith, none)
+
+not_begun : (first n : ℕ) → ((first ≡ 0) ⊎ (first < n) → ⊥) → (0 < first) × (n ≤ first)
+not_begun zero n other = absurd (other (inl refl))
+not_begun (suc m) n other = (omega arith, not_less (suc m) n (λ less. other (inr less)))
+
+wrong_on : (from : Source (List ℕ)) (text : List ℕ) (wiring : Option (List ℕ)) (first : ℕ) (refusal : Refusal) → IsFirstDriveWrong from text wiring first refusal → IsFirstWrongOn from text wiring first refusal
+wrong_on from text wiring first refusal (drives.wiring_wrong fault wrong is) = wiring_wrong fault wrong is
+wrong_on from text wiring first refusal (drives.lacking board of lacks) = lacking board of lacks
+wrong_on from text wiring first refusal (drives.texts_wrong board of wrong has) = texts_wrong board of wrong has
+wrong_on from text wiring first refusal (drives.no_setting board batch settings of is ways other same) =
+    let begun = not_begun first (length settings) other in no_setting board batch settings of (says from text batch settings is) ways begun.0 begun.1 same
+
+-- the refusal was all that was printed, and no port was opened
+refused_so : (run : Run) (ports : Ports) (batch port : Text) (port_b : Option Text) (from : Source Text) (file : Option Text) (first : ℕ) (goes_on : Bool) (workers : ℕ) (texts : Files (List ℕ)) (refusal : Refusal) (start final : Dialogue) (printed : Printed)
+    → AreHeld run.holds (files_of (Drive batch port port_b from file first goes_on workers)) texts → start.told ≡ [] → final ≡ start → run.prints (final.told ++ printed.text) → IsRefused (refusal_words refusal) printed → ports.after ≡ ports.before
+    → IsFirstWrongOn (source_in from (text_in texts.other)) (text_in texts.list) texts.wiring first refusal ⊎ AreNoWays ports refusal
+    → HasRefusedDrive run ports (Drive batch port port_b from file first goes_on workers) from first
+refused_so run ports batch port port_b from file first goes_on workers texts refusal start final printed held none same prints line left wrong =
+    let told : final.told ≡ [] = ap (λ (d : Dialogue). d.told) same ∙ none in
+    record {
+      texts = texts;
+      refusal = refusal;
+      held = held;
+      wrong = wrong;
+      prints = subst run.prints line.line (subst (λ (x : List ℕ). run.prints (x ++ printed.text)) told prints);
+      unopened = left;
+    }
+
+module _ (run : Run) (batch port : Text) (port_b : Option Text) (from : Source Text) (file : Option Text) (first : ℕ) (goes_on : Bool) (workers : ℕ) (texts : Files (List ℕ)) (was opens : Ways) (start final : Dialogue) (printed : Printed)
+    (held : AreHeld run.holds (files_of (Drive batch port port_b from file first goes_on workers)) texts) (none : start.told ≡ []) (prints : run.prints (final.told ++ printed.text)) (status : printed.status ≡ REFUSED) where
+  abbrev Ended1 : Type 0
+  Ended1 = HasStopped run (ports_of port port_b was opens) batch from file first ⊎ HasRefusedDrive run (ports_of port port_b was opens) (Drive batch port port_b from file first goes_on workers) from first
+
+  tried_so : (board : Option BoardText) (filled : Option BoardWiring) (transfers : List Transfer) (settings : List (List ℕ)) → Read run batch from file filled transfers settings
+      → IsTried (TellsLine (not goes_on)) (rack_for filled transfers) transfers settings first (record { port = port; port_b = port_b }) was opens start final printed → Ended1
+  tried_so board filled transfers settings r (drives.driven (Completed all) many over ends) = absurd (done_is printed.status ends.1 status)
+  tried_so board filled transfers settings r (drives.driven (Stopped k fault) many over ends) =
+      inl (stopped_at run batch from file first (record { port = port; port_b = port_b }) was opens (not goes_on) filled transfers settings start final printed r none prints k fault over ends.0)
+  tried_so board filled transfers settings r (drives.driven (Halted k Left) many over ends) =
+      inl (left_at run batch from file first (record { port = port; port_b = port_b }) was opens (not goes_on) filled transfers settings start final printed r none prints Left k (left_line k) over.carried over.failed (inl refl) over.went over.ways ends.0 (inl refl))
+  tried_so board filled transfers settings r (drives.driven (Halted k Unheard) many over ends) =
+      inl (left_at run batch from file first (record { port = port; port_b = port_b }) was opens (not goes_on) filled transfers settings start final printed r none prints Unheard k (stopped_line k (codes "input")) over.carried over.failed (inr refl) over.went over.ways ends.0 (inr refl))
+  tried_so board filled transfers settings r (drives.driven (Halted k Untold) many over ends) = absurd ends
+  tried_so board filled transfers settings r (drives.unopened refusal why refuses same left) =
+      inr (refused_so run (ports_of port port_b was opens) batch port port_b from file first goes_on workers texts refusal start final printed held none same prints refuses.1 left (inr (_, why)))
+
+  stops_so : IsDriveAnswer (TellsLine (not goes_on)) (source_in from (text_in texts.other)) (text_in texts.list) texts.wiring first (record { port = port; port_b = port_b }) was opens start final printed → Ended1
+  stops_so (drives.tried board filled transfers settings of is ways fills begins tries) =
+      tried_so board filled transfers settings (read_so run batch from file (text_in texts.list) texts.other board filled transfers settings (given_text run.holds batch texts.list held.list) held.other (board_held run file texts.wiring board held.wiring of) is ways fills) tries
+  stops_so (drives.wrong refusal wrong refuses same left) =
+      inr (refused_so run (ports_of port port_b was opens) batch port port_b from file first goes_on workers texts refusal start final printed held none same prints refuses.1 left (inl (wrong_on _ (text_in texts.list) texts.wiring first refusal wrong)))
+
+stops : (e : Ended) (after : Ways) → ((job : Job) (response : Response) → e.keeps job response → response.ports ≡ after)
+    → (batch port : Text) (port_b : Option Text) (from : Source Text) (wiring : Option Text) (first : ℕ) (goes_on : Bool) (workers : ℕ) (quiet : Bool) → AskFor e.words (record { job = Drive batch port port_b from wiring first goes_on workers; is_quiet = quiet })
+    → IsDone e.named e.keeps e.given (record { job = Drive batch port port_b from wiring first goes_on workers; is_quiet = quiet }) e.streams e.code → e.code ≡ REFUSED
+    → HasStopped (ended_run e) (ports_of port port_b e.given.ports after) batch from wiring first
+    ⊎ (HasRefusedDrive (ended_run e) (ports_of port port_b e.given.ports after) (Drive batch port port_b from wiring first goes_on workers) from first ⊎ (HasGivenUp (ended_run e) × (after ≡ e.given.ports)))
+stops e after ports batch port port_b from wiring first goes_on workers quiet asks (response, inl comes, keeping, printed, noted) refused =
+    let is = comes.1 in
+    let held = held_files e.words (record { job = Drive batch port port_b from wiring first goes_on workers; is_quiet = quiet }) e.named.holds e.given.input is.0 is.1 asks is.2 in
+    let by = is.3.1 in
+    let came = stops_so (ended_run e) batch port port_b from wiring first goes_on workers is.0 e.given.ports response.ports (record { told = []; left = is.1 }) (record { told = response.told; left = by.0 }) response.end held refl printed.text (sym printed.status ∙ refused) by.1 in
+    let moved = subst (λ (w : Ways). HasStopped (ended_run e) (ports_of port port_b e.given.ports w) batch from wiring first ⊎ HasRefusedDrive (ended_run e) (ports_of port port_b e.given.ports w) (Drive batch port port_b from wiring first goes_on workers) from first) (ports _ response keeping) came in
+    elim moved [
+      | inl stopped ↦ inl stopped
+      | inr refuses ↦ inr (inl refuses)
+    ]
+stops e after ports batch port port_b from wiring first goes_on workers quiet asks (response, inr none, keeping, printed, noted) refused =
+    let text = subst (λ (told : List ℕ). Appends e.streams.out_before e.streams.out_after (told ++ response.end.text)) none.0 printed.text in
+    inr (inr (gave_up (ended_run e) none.4.0 (subst (λ (p : Printed). Appends e.streams.out_before e.streams.out_after p.text) none.4.1 text), sym (ports _ response keeping) ∙ none.1))
+
+pub keeps_stops : (e : Ended) (after : Ways) → ((job : Job) (response : Response) → e.keeps job response → response.ports ≡ after) → (e.none → after ≡ e.given.ports) → EndsSo e → KeepsStops (ended_run e) e.given.ports after
+keeps_stops e after ports same ends batch port port_b from wiring first goes_on workers asks refused = elim (end_of e (record { job = Drive batch port port_b from wiring first goes_on workers; is_quiet = asks.0 }) asks.1 ends) [
+  | inl is ↦ stops e after ports batch port port_b from wiring first goes_on workers asks.0 asks.1 is refused
+  | inr gives_up ↦ inr (inr (gave_up (ended_run e) why.NoMemory gives_up.1.text, same gives_up.0))
+]
+
+pub no_stops : (run : Run) (before after : Ways) → run.status ≡ UNWRITTEN → KeepsStops run before after
+no_stops run before after unwritten batch port port_b from wiring first goes_on workers asks refused = absurd (unwritten_is run.status unwritten refused)

@@ -1,0 +1,111 @@
+-- The promise of `draw`.
+use Rattle.std.proofs.Common.{◌≡◌, ◌∙◌, ◌++◌, ℕ, List, length, Option, codes, refl, sym, subst, ap, append_assoc}
+use Rattle.batch.specs.Batches.{IsBatch}
+use Rattle.batch.specs.Extent.{widest}
+use Rattle.batch.specs.declared.transfer.Transfer.{Transfer}
+use Rattle.clap.specs.Words.{Text}
+use Rattle.command_words.specs.declared.jobs.Job.TheVariants.{Draw}
+use Rattle.exchange.proofs.AskedJobs.{Answers, never_done, not_done, text_done}
+use Rattle.exchange.proofs.HeldFiles.{given_text}
+use Rattle.exchange.specs.Promises.{HasDrawn, IsTitled, KeepsPictures, Run, StandsIn}
+use Rattle.exchange.specs.Responses.{text_in}
+use Rattle.exchange.specs.declared.limits.TheConstants.{UNWRITTEN}
+use Rattle.link_graph.specs.Certificates.{Naming}
+use Rattle.plan_answers.specs.Drawings.{IsDrawn, drawn, undrawn}
+use Rattle.plan_answers.specs.Refusals.{Printed}
+use Rattle.plan_answers.specs.declared.limits.TheConstants.{DONE}
+use Rattle.schedule_picture.proofs.Fewest.{tells_fewest}
+use Rattle.schedule_picture.proofs.Needed.{needed}
+use Rattle.schedule_picture.proofs.Overlaps.{overlapping}
+use Rattle.schedule_picture.specs.Picture.{caption_part, changes_words, closing_text, columns_text, heading_text, note_text, opening_text, picture_of, rows_text, size_text, style_text, title_part, busiest_words, standing_words, shown_words}
+use Rattle.schedule_picture.specs.Places.{height_of, width_of}
+use Rattle.schedule_picture.specs.RowsText.{headings_text}
+use Rattle.schedule_picture.specs.Verdicts.{IsVerdict}
+use Rattle.schedule_picture.specs.declared.shown.Shown.{Shown}
+use Rattle.schedule_picture.specs.declared.verdict.Verdict.{Verdict}
+
+-- what stands in a front of the text
+pub stands_before : (part text more : List ℕ) → StandsIn part text → StandsIn part (text ++ more)
+stands_before part text more s = (s.0, s.1 ++ more, ap (λ (t : List ℕ). t ++ more) s.2 ∙ append_assoc s.0 (part ++ s.1) more ∙ ap (λ (t : List ℕ). s.0 ++ t) (append_assoc part s.1 more))
+
+title_there : (size heading comma words more end : List ℕ) → StandsIn (heading ++ comma ++ words) (size ++ heading ++ comma ++ (words ++ more) ++ end)
+title_there size heading comma words more end = (size, more ++ end, simp append_assoc refl)
+
+note_is : (settings : ℕ) (verdict : Verdict) (shown : Shown) → note_text settings verdict shown ≡ changes_words verdict.changes verdict.partners verdict.least ++ (codes ", " ++ (busiest_words verdict.busiest ++ (standing_words verdict.standing ++ shown_words settings shown)))
+unfolding note_text
+note_is settings verdict shown =
+    let words = changes_words verdict.changes verdict.partners verdict.least in
+    append_assoc (words ++ codes ", " ++ busiest_words verdict.busiest) (standing_words verdict.standing) (shown_words settings shown)
+    ∙ append_assoc (words ++ codes ", ") (busiest_words verdict.busiest) (standing_words verdict.standing ++ shown_words settings shown)
+    ∙ append_assoc words (codes ", ") (busiest_words verdict.busiest ++ (standing_words verdict.standing ++ shown_words settings shown))
+
+abbrev title_words : List Transfer → ℕ → Verdict → List ℕ
+title_words batch settings verdict = heading_text (length batch) settings verdict.fewest ++ codes ", " ++ changes_words verdict.changes verdict.partners verdict.least
+
+title_so : (batch : List Transfer) (settings : ℕ) (verdict : Verdict) (shown : Shown) → StandsIn (title_words batch settings verdict) (title_part batch settings verdict shown)
+unfolding title_part
+title_so batch settings verdict shown =
+    let size = size_text (width_of shown.count) (height_of batch) in
+    let heading = heading_text (length batch) settings verdict.fewest in
+    let more = codes ", " ++ (busiest_words verdict.busiest ++ (standing_words verdict.standing ++ shown_words settings shown)) in
+    subst (λ (note : List ℕ). StandsIn (title_words batch settings verdict) (size ++ heading ++ codes ", " ++ note ++ codes "</title>\n")) (sym (note_is settings verdict shown))
+    (title_there size heading (codes ", ") (changes_words verdict.changes verdict.partners verdict.least) more (codes "</title>\n"))
+
+opening_so : (batch : List Transfer) (settings : ℕ) (verdict : Verdict) (shown : Shown) → StandsIn (title_words batch settings verdict) (opening_text batch settings verdict shown)
+unfolding opening_text
+opening_so batch settings verdict shown =
+    stands_before _ (title_part batch settings verdict shown ++ style_text) (caption_part batch settings verdict shown)
+    (stands_before _ (title_part batch settings verdict shown) style_text (title_so batch settings verdict shown))
+
+picture_so : (part opening rows headings columns closing : List ℕ) → StandsIn part opening → StandsIn part (opening ++ rows ++ headings ++ columns ++ closing)
+picture_so part opening rows headings columns closing s =
+    stands_before part (opening ++ rows ++ headings ++ columns) closing (stands_before part (opening ++ rows ++ headings) columns (stands_before part (opening ++ rows) headings (stands_before part opening rows s)))
+
+titled : (batch : List Transfer) (settings : List (List ℕ)) (named : Option Naming) (verdict : Verdict) (shown : Shown) → IsBatch batch → IsVerdict batch settings named verdict → IsTitled batch settings (picture_of batch settings verdict shown)
+titled batch settings named verdict shown fits known = record {
+  fewest = verdict.fewest;
+  partners = verdict.partners;
+  least = verdict.least;
+  stands = subst
+      (λ (n : ℕ). StandsIn (heading_text (length batch) (length settings) verdict.fewest ++ codes ", " ++ changes_words n verdict.partners verdict.least) (picture_of batch settings verdict shown))
+      known.counted (picture_so (title_words batch (length settings) verdict) (opening_text batch (length settings) verdict shown) (rows_text batch shown.count verdict.busiest) (headings_text shown.count) (columns_text batch settings shown) (closing_text batch) (opening_so batch (length settings) verdict shown));
+  are_fewest = tells_fewest batch settings named verdict known;
+  needed = λ other is. needed batch settings other named verdict fits known is;
+}
+
+columns_there : (batch : List Transfer) (settings : List (List ℕ)) (verdict : Verdict) (shown : Shown) → StandsIn (columns_text batch settings shown) (picture_of batch settings verdict shown)
+columns_there batch settings verdict shown =
+    let before = opening_text batch (length settings) verdict shown ++ rows_text batch shown.count verdict.busiest ++ headings_text shown.count in
+    (before, closing_text batch, append_assoc before (columns_text batch settings shown) (closing_text batch))
+
+drawn_so : (run : Run) (batch schedule : Text) (chosen : Option Text) (text other : List ℕ) (printed : Printed)
+    → run.holds batch text → run.holds schedule other → run.prints printed.text → printed.status ≡ DONE → IsDrawn widest text other chosen printed → HasDrawn run batch schedule chosen
+drawn_so run batch schedule chosen text other printed held held_schedule prints status (drawn d done) =
+    let reads = d.valid.read.texts.batch_read in
+    record {
+      transfers = d.transfers;
+      settings = d.settings;
+      named = d.valid.read.certificate;
+      range = d.range;
+      shown = d.shown;
+      printed = picture_of d.transfers d.settings d.verdict d.shown;
+      held = record { text = text; held = held; denotes = reads };
+      held_schedule = record { text = other; held = held_schedule; says = d.valid.read.texts.schedule_read };
+      valid = d.valid.read.valid;
+      wanted = d.wanted;
+      are_shown = d.are_shown;
+      titled = titled d.transfers d.settings d.valid.read.certificate d.verdict d.shown (record { few = reads.few; within = reads.within }) d.valid.known;
+      columns = columns_there d.transfers d.settings d.verdict d.shown;
+      apart = overlapping d.transfers d.settings d.shown d.valid.read.valid;
+      prints = subst run.prints d.drawing prints;
+    }
+drawn_so run batch schedule chosen text other printed held held_schedule prints status (undrawn refusal wrong line) = absurd (never_done printed.status line.status status)
+
+pub keeps_pictures : (run : Run) → Answers run → KeepsPictures run
+keeps_pictures run all batch schedule chosen done =
+    let is = text_done run (Draw batch schedule chosen) tt all done in
+    let holds = run.holds in
+    drawn_so run batch schedule chosen (text_in is.files.list) (text_in is.files.other) is.printed (given_text holds batch is.files.list is.held.list) (given_text holds schedule is.files.other is.held.other) is.prints (sym is.status ∙ done.1) is.answer
+
+pub no_pictures : (run : Run) → run.status ≡ UNWRITTEN → KeepsPictures run
+no_pictures run unwritten batch schedule chosen done = absurd (not_done run _ unwritten done)

@@ -1,0 +1,33 @@
+use Rattle.std.proofs.Common.{refl}
+use Rattle.std.specs.Process.{exit_status}
+use Rattle.command_words.specs.Jobs.{texts_of}
+use Rattle.named_files.specs.Clients.{clients_by, ends_of}
+use Rattle.exchange.specs.Ends.{IsCutFor, IsLeft, IsNoneLeft, leaving, streams_of}
+use Rattle.exchange.specs.Promises.{KeepsPromises, clients_of, front_of, kept_by, run_of}
+use Rattle.exchange.specs.Responses.{given_by, named_by}
+use Rattle.exchange.proofs.AskedJobs.{kept}
+use Rattle.exchange.proofs.KeptPromises.{keeps_in_part, keeps_promises}
+use Rattle.exchange.proofs.promises.answer.Goals as goal
+
+pub returns : goal.returns
+returns g c =
+    let holds = g.S.System.holds c.args.system.now in
+    let named = named_by holds (g.S.Places.leads c.args.system.now) in
+    let received = g.S.System.received in
+    let receipts = c.respond.result.receipts in
+    let was = g.P.Ports.ways c.args.peers.now.ports in
+    let ways = g.P.Ports.ways c.respond.new.peers.ports in
+    let comes = g.S.ClientFiles.says c.args.system.now in
+    let had = g.S.ClientFiles.had c.args.system.now in
+    let endings = c.respond.new.peers.endings.items in
+    let input = g.I.Read.remaining c.args.input.now in
+    let before = g.O.Write.contents c.args.out.now in
+    let after = g.O.Write.contents c.respond.new.out in
+    let code = exit_status c.respond.result.code in
+    let given = given_by input was (clients_by comes had) in
+    let left = leaving holds received receipts was ways (ends_of endings) in
+    kept (λ w. IsCutFor named left (texts_of w.items) given before after)
+    (λ w. KeepsPromises (run_of holds input before after (texts_of w.items) code) (front_of holds input before after (texts_of w.items)) was ways (kept_by received receipts) (clients_of comes had endings)) c.args.arguments (λ w. texts_of w.items) named
+    (IsLeft holds received receipts ways (ends_of endings)) (IsNoneLeft receipts was ways (ends_of endings)) given (streams_of before after (g.E.Write.contents c.args.err.now) (g.E.Write.contents c.respond.new.err)) code
+    (λ w ends. keeps_promises _ ways received receipts comes had endings refl (λ job response is. is.1) (λ job response is. (is.0, is.2)) (λ none. none) ends)
+    (λ w unwritten cut. keeps_in_part (texts_of w.items) named left given before after code ways received receipts comes had endings refl (λ job response is. (is.0.0, (is.0.1, is.2))) (λ none. (none.0, none.2)) unwritten cut) c.respond.ensures.arguments

@@ -1,0 +1,1152 @@
+-- What the program promises: for each command, in few definitions, what is so where it is asked for
+-- and ends with status 0, with 1, or with 3. The clause of the function `answer` is
+-- `KeepsPromises`, which stands last. It is proved of the contract of `respond`, which nobody has to
+-- read to know what it says.
+use Rattle.std.specs.Prelude.{false, true, ◌≡◌, ◌≢◌, ◌<◌, ◌≤◌, ◌+◌, ℕ, zero, suc, Bool, List, [], ◌∷◌, ◌++◌, ◌⊎◌, All, Option, Some, None, IfSome, ⊤, codes, if◌then◌else◌, is_some, length, map, option_map, slice_get, slice_index_or, sum_by}
+use Rattle.std.specs.Fmt.{decimal}
+use Rattle.std.specs.Io.KnownBytes.{Appends}
+use Rattle.std.specs.List.{AllByRecursion, flat_map, list_any, range_with_len}
+use Rattle.batch.specs.declared.transfer.Transfer.{Transfer}
+use Rattle.batch.specs.Extent.{Extent, widest}
+use Rattle.batch.specs.Overlap.{IsApart}
+use Rattle.batch.specs.ShapeText.{DenotesShape}
+use Rattle.batch.specs.Text.{Denotes, IsWithin}
+use Rattle.board_wiring.specs.Boards.{KeepsLinks}
+use Rattle.board_wiring.specs.Lacks.{HasWays}
+use Rattle.board_wiring.specs.Text.{Denotes as DenotesWiring}
+use Rattle.board_wiring.specs.declared.wired_module.WiredModule.{WiredModule}
+use Rattle.c004_commands.specs.Commands.{AreCommands}
+use Rattle.c004_commands.specs.declared.command.Command.{Command}
+use Rattle.clap.specs.Words.{Text}
+use Rattle.command_words.specs.Jobs.{AskFor, Files, files_of, input_name, recorded_in}
+use Rattle.command_words.specs.declared.jobs.Job.{Job}
+use Rattle.command_words.specs.declared.jobs.Job.TheVariants.{Apply, C004, Check, Direct, Draw, Drive, Host, Orders, Plan, Replay, Run as RunJob, Serve, Switch as SwitchJob, Talk}
+use Rattle.crossbar.specs.Pairs.{switch_of}
+use Rattle.crossbar.specs.Switch.{Switch, after_all, answers, idle}
+use Rattle.crossbar.specs.declared.board.BoardWiring.{BoardWiring}
+use Rattle.crossbar.specs.declared.chip.Wiring.{Wiring}
+use Rattle.crossbar.specs.declared.chip.Wiring.TheVariants.{Back, Board, Both, Forth}
+use Rattle.link_ends.specs.Answering.{HasRun}
+use Rattle.link_ends.specs.End.{EndState}
+use Rattle.link_graph.specs.Certificates.{IsCertificate, IsCertified, IsShortest, Naming}
+use Rattle.link_graph.specs.ScheduleText.{Says, said}
+use Rattle.link_graph.specs.Schedules.{IsScheduleOf}
+use Rattle.module_memory.specs.Core.{FitsIn, IsPlaced}
+use Rattle.module_memory.specs.Images.{HasImage, image_of}
+use Rattle.module_memory.specs.Mark.{IsMarked}
+use Rattle.module_memory.specs.Store.{IsWhole, Store, zeros_of}
+use Rattle.module_orders.specs.Obeying.{AreObeyed}
+use Rattle.module_orders.specs.Orders.{RackTold, told_to}
+use Rattle.module_orders.specs.OrdersText.{Tells}
+use Rattle.move_directions.specs.declared.moves.Move.{Move}
+use Rattle.move_directions.specs.Directions.{NoneIsShorter}
+use Rattle.move_directions.specs.Moves.{Directs}
+use Rattle.move_directions.specs.Text.{Denotes as DenotesMoves}
+use Rattle.named_files.specs.Contents.{Holding}
+use Rattle.link_graph.specs.declared.link.End.{End}
+use Rattle.plan_answers.specs.Drawings.{AreShown, AreWanted}
+use Rattle.plan_answers.specs.declared.limits.TheConstants.{DONE, REFUSED}
+use Rattle.plan_answers.specs.declared.setting_range.SettingRange.{SettingRange}
+use Rattle.schedule_picture.specs.Laws.{AreFewest, CellsOverlap, IsDrawnAt}
+use Rattle.schedule_picture.specs.Picture.{changes_words, columns_text, heading_text}
+use Rattle.schedule_picture.specs.declared.shown.Shown.{Shown}
+use Rattle.steady_schedule.specs.Changes.{changes}
+use Rattle.plan_answers.specs.declared.source.Planning.{Planning}
+use Rattle.plan_answers.specs.declared.source.Planning.TheVariants.{Plain, Steady}
+use Rattle.plan_answers.specs.declared.source.Source.{Source}
+use Rattle.plan_answers.specs.declared.source.Source.TheVariants as source
+use Rattle.rack_answers.specs.Reports.{report_for}
+use Rattle.rack_answers.specs.Switching.{lines_on}
+use Rattle.steady_schedule.specs.Needs.{ChangesAtNeed}
+use Rattle.switch_settings.specs.Racks.{is_wide}
+use Rattle.switch_settings.specs.Settings.{numbers_in, setting_pairs}
+use Rattle.batch.specs.Faults.{IsFirstFault}
+use Rattle.batch.specs.Overlap.{IsFirstOverlap}
+use Rattle.batch.specs.declared.fault.BatchFault.{BatchFault}
+use Rattle.exchange.specs.Responses.{source_in, text_in}
+use Rattle.move_directions.specs.Faults.{IsFirstFault as IsFirstMovesFault}
+use Rattle.plan_answers.specs.Answers.{IsFirstWrong}
+use Rattle.plan_answers.specs.Directing.{of_moves}
+use Rattle.plan_answers.specs.Drawings.{IsBadSettingsText, IsOutside}
+use Rattle.plan_answers.specs.Validities.{IsInvalid, IsScheduleRead}
+use Rattle.board_wiring.specs.Boards.{IsBoardOf, IsMiswired}
+use Rattle.board_wiring.specs.Lacks.{HasWaysOn, IsLackOf, LacksNothing}
+use Rattle.board_wiring.specs.Sources.{of_wiring}
+use Rattle.board_wiring.specs.declared.board.Board.{Board as BoardText}
+use Rattle.board_wiring.specs.declared.fault.WiringFault.{WiringFault}
+use Rattle.plan_answers.specs.Schedules.{AreRight, IsWrongFrom}
+use Rattle.rack_answers.specs.Answers.{IsFirstRunWrong}
+use Rattle.rack_answers.specs.Openings.{IsRightImage}
+use Rattle.refusals.specs.Refusals.{refusal_line}
+use Rattle.refusals.specs.Sources.{of_batch}
+use Rattle.refusals.specs.declared.refusal.Refusal.{Refusal}
+use Rattle.refusals.specs.declared.refusal.Refusal.TheVariants.{NoSetting, Overlap, Settings}
+use Rattle.c004_commands.specs.declared.command.Command.TheVariants.{Settle}
+use Rattle.c004_commands.specs.declared.port.TheConstants.{PORTS}
+use Rattle.crossbar.specs.Traffic.{bytes_to, conversed}
+use Rattle.crossbar.specs.declared.chip.Chip.{Chip}
+use Rattle.crossbar.specs.declared.chip.Chip.TheVariants.{A, B}
+use Rattle.crossbar.specs.declared.traffic.Passing.{Passing}
+use Rattle.drive_answers.specs.Endings.{completed_line, fault_words, left_line, stopped_line}
+use Rattle.drive_answers.specs.Ways.{IsUnopened, Names, Ways, used}
+use Rattle.switch_driver.specs.Laws.{JoinsAs}
+use Rattle.switch_driver.specs.Lines.{stage_line}
+use Rattle.switch_settings.specs.declared.fault.SettingFault.{SettingFault}
+use Rattle.switch_settings.specs.Answers.{AllAgree}
+use Rattle.switch_settings.specs.Pairs.{all_enquiries}
+use Rattle.batch_book.specs.History.{IsReplay}
+use Rattle.batch_book.specs.Machine.{Machine, opened}
+use Rattle.batch_book.specs.Seats.{own}
+use Rattle.batch_book.specs.declared.entry.Entry.{Entry}
+use Rattle.client_session.specs.Sessions.{EndByBye, added_entries, lines_of}
+use Rattle.client_session.specs.Turns.{AreRising, IsTurn, Turn as Turned, turn_text}
+use Rattle.command_words.specs.declared.jobs.Request.{Request}
+use Rattle.command_words.specs.declared.jobs.SharedRack.{SharedRack}
+use Rattle.session_answers.specs.Frames.{end_line as line_of_end, end_text, heading}
+use Rattle.session_answers.specs.Histories.{status_at}
+use Rattle.session_answers.specs.HostAnswers.{ending_line, has_failed}
+use Rattle.session_answers.specs.declared.ended_session.Ending.{Ending}
+use Rattle.session_answers.specs.declared.ended_session.Ending.TheVariants.{Served, Unopened}
+use Rattle.client_session.specs.declared.fault.ServeFault.{ServeFault}
+use Rattle.client_session.specs.declared.fault.ServeFault.TheVariants.{Record, Write}
+use Rattle.command_words.specs.declared.jobs.RecordFile.{RecordFile}
+use Rattle.named_files.specs.Streams.{Closed, IsFrontOf}
+use Rattle.named_files.specs.declared.outputs.Receipts.{Receipts}
+use Rattle.kept_sessions.specs.Records.{head_for}
+use Rattle.book_record.specs.Fronts.{end_line}
+use Rattle.book_record.specs.RecordText.{entry_text}
+use Rattle.book_record.specs.Heads.{IsHeadOf}
+use Rattle.record_replay.specs.Replays.{IsRemade}
+use Rattle.exchange.specs.declared.limits.TheConstants.{MISUSED, UNWRITTEN}
+use Rattle.named_files.specs.Notes.{IsToldInPart}
+
+-- ---- a run of the program
+
+-- What a run of the program was given, and what it left: its arguments, which texts the files of
+-- names hold, that a text was printed and nothing else, and the status that it ended with.
+pub record Run : Type 1 where
+  pub words : List Text
+  pub holds : Text → List ℕ → Type 0
+  pub prints : List ℕ → Type 0
+  pub status : ℕ
+
+-- The file of this name holds the text. `-` is standard input, whose bytes are known or not.
+abbrev pub HoldsText : Holding → Option (List ℕ) → Text → List ℕ → Type 0
+HoldsText holds input name text =
+    (name ≡ input_name → IfSome input (λ known. text ≡ known))
+    × (name ≢ input_name → holds name text)
+
+-- the run of a program that has these files and this standard input, where this stood on standard
+-- output before and after, with its arguments and its status
+abbrev pub run_of : Holding → (input before after : Option (List ℕ)) → List Text → ℕ → Run
+run_of holds input before after words status =
+    record {
+      words = words;
+      holds = HoldsText holds input;
+      prints = Appends before after;
+      status = status;
+    }
+
+-- the same where a front of the text was printed, or all
+abbrev pub front_of : Holding → (input before after : Option (List ℕ)) → List Text → ℕ → Run
+front_of holds input before after words status =
+    record {
+      words = words;
+      holds = HoldsText holds input;
+      prints = IsToldInPart before after;
+      status = status;
+    }
+
+-- the arguments ask for this job
+abbrev pub AsksFor : Run → Job → Type 0
+AsksFor run job = (quiet : Bool) × AskFor run.words (record { job = job; is_quiet = quiet })
+
+-- they do, and the run ended with status 0
+abbrev pub HasDone : Run → Job → Type 0
+HasDone run job = AsksFor run job × (run.status ≡ DONE)
+
+-- the arguments ask for one thing at most
+abbrev pub AskForOne : List Text → Type 0
+AskForOne words = (one other : Request) → AskFor words one → AskFor words other → one ≡ other
+
+-- ---- batches and schedules in files
+
+-- the file holds the text of a batch
+pub record HoldsBatch (run : Run) (file : Text) (batch : List Transfer) : Type 0 where
+  pub text : List ℕ
+  pub held : run.holds file text
+  pub denotes : Denotes widest text batch
+
+-- the file holds the text of settings, and of what is named with them, if anything is
+pub record HoldsSettings (run : Run) (file : Text) (settings : List (List ℕ))
+    (named : Option Naming) : Type 0 where
+  pub text : List ℕ
+  pub held : run.holds file text
+  pub says : Says text (said settings named)
+
+-- the settings are a schedule of the batch, of which none is shorter; where it is to be steady, it
+-- changes the switch only at need
+pub record IsPlanOf (planning : Planning) (batch : List Transfer) (settings : List (List ℕ))
+    : Type 0 where
+  pub shortest : IsShortest batch settings
+  pub at_need : planning ≡ Steady → ChangesAtNeed batch settings
+
+-- they are such a plan, or those that the user's own file says, which are a schedule of the batch
+abbrev pub IsScheduled : Run → Source Text → List Transfer → List (List ℕ) → Type 0
+IsScheduled run (source.Plan planning) batch settings = IsPlanOf planning batch settings
+IsScheduled run (source.Text file) batch settings =
+    IsScheduleOf batch settings × ((named : Option Naming) × HoldsSettings run file settings named)
+
+-- a file that may be named holds this text, where it is named
+abbrev pub HoldsGiven : (Text → List ℕ → Type 0) → Option Text → Option (List ℕ) → Type 0
+HoldsGiven holds None None = ⊤
+HoldsGiven holds None (Some text) = ⊥
+HoldsGiven holds (Some name) None = ⊥
+HoldsGiven holds (Some name) (Some text) = holds name text
+
+-- each of these files holds its text
+abbrev pub AreAllHeld : (Text → List ℕ → Type 0) → List Text → List (List ℕ) → Type 0
+AreAllHeld holds [] [] = ⊤
+AreAllHeld holds [] (text ∷ texts) = ⊥
+AreAllHeld holds (name ∷ names) [] = ⊥
+AreAllHeld holds (name ∷ names) (text ∷ texts) = holds name text × AreAllHeld holds names texts
+
+-- the files that a job reads hold these texts
+pub record AreHeld (holds : Text → List ℕ → Type 0) (names : Files Text) (texts : Files (List ℕ))
+    : Type 0 where
+  pub image : HoldsGiven holds names.image texts.image
+  pub list : HoldsGiven holds names.list texts.list
+  pub other : HoldsGiven holds names.other texts.other
+  pub wiring : HoldsGiven holds names.wiring texts.wiring
+  pub scripts : AreAllHeld holds names.scripts texts.scripts
+
+-- printed was the one line of a refusal
+abbrev pub HasPrintedRefusal : Run → Type 0
+HasPrintedRefusal run = (refusal : Refusal) × run.prints (refusal_line refusal)
+
+-- There was no answer: so a run may end at any time.
+abbrev pub HasGivenUp : Run → Type 0
+HasGivenUp run =
+    run.prints (codes "refused no memory\n") ⊎ run.prints (codes "refused file\n")
+
+-- ---- 1 and 2: plans
+
+-- The file held a batch. A plan of it was printed, and nothing else, with a certificate: a link,
+-- and as many transfers that use it as there are settings.
+pub record HasPlanned (run : Run) (file : Text) (planning : Planning) : Type 0 where
+  pub batch : List Transfer
+  pub settings : List (List ℕ)
+  pub named : Naming
+  pub printed : List ℕ
+  pub held : HoldsBatch run file batch
+  pub plan : IsPlanOf planning batch settings
+  pub certificate : IsCertificate batch settings named
+  pub says : Says printed (said settings (Some named))
+  pub prints : run.prints printed
+
+abbrev pub KeepsPlans : Run → Type 0
+KeepsPlans run =
+    (file : Text) (planning : Planning) (workers : ℕ) → HasDone run (Plan file planning workers)
+    → HasPlanned run file planning
+
+-- ---- 3: checks
+
+-- the text says a schedule of the batch with so many settings, none is shorter, and what is named
+-- with it shows that
+pub record IsShown (batch : List Transfer) (text : List ℕ) (count : ℕ) : Type 0 where
+  pub settings : List (List ℕ)
+  pub named : Naming
+  pub says : Says text (said settings (Some named))
+  pub shortest : IsShortest batch settings
+  pub certificate : IsCertificate batch settings named
+  pub counted : count ≡ length settings
+
+-- The files held a batch and the text of such a schedule. `shortest S` was printed, and nothing
+-- else, where S is how many settings that has.
+pub record HasChecked (run : Run) (batch schedule : Text) : Type 0 where
+  pub transfers : List Transfer
+  pub text : List ℕ
+  pub count : ℕ
+  pub held : HoldsBatch run batch transfers
+  pub held_schedule : run.holds schedule text
+  pub shown : IsShown transfers text count
+  pub prints : run.prints (codes "shortest " ++ decimal count ++ codes "\n")
+
+abbrev pub KeepsChecks : Run → Type 0
+KeepsChecks run =
+    (batch schedule : Text) → HasDone run (Check batch schedule) → HasChecked run batch schedule
+
+-- ---- 4: runs
+
+-- the words that a rack begins with: those of the image in this file; or, without one, each word
+-- tells where it stands
+abbrev pub BeginsWith : Run → Option Text → Extent → Store → Type 0
+BeginsWith run None extent opening = IsMarked (zeros_of extent) opening
+BeginsWith run (Some image) extent opening =
+    (bytes : List ℕ) × run.holds image bytes × HasImage extent bytes opening
+
+-- The word is that of a rack's shape, which has the blocks of the batch, and no two transfers of it
+-- write one block. In the words that are left each destination has what its source had before, and
+-- all else is as it was.
+pub record HasMoved (run : Run) (shape : Text) (image : Option Text) (batch : List Transfer)
+    (left : Store) : Type 0 where
+  pub extent : Extent
+  pub opening : Store
+  pub shaped : DenotesShape shape extent
+  pub within : All (IsWithin extent) batch
+  pub apart : IsApart batch
+  pub begins : BeginsWith run image extent opening
+  pub placed : IsPlaced opening batch left
+
+-- The file held a batch, which was moved by a schedule. Printed was the report of that, with the
+-- words that it wrote, and nothing else.
+pub record HasRunBatch (run : Run) (shape batch : Text) (scheduled : Source Text)
+    (image : Option Text) : Type 0 where
+  pub transfers : List Transfer
+  pub settings : List (List ℕ)
+  pub left : Store
+  pub held : HoldsBatch run batch transfers
+  pub schedule : IsScheduled run scheduled transfers settings
+  pub moved : HasMoved run shape image transfers left
+  pub prints : run.prints (report_for scheduled transfers settings left)
+
+-- the same of `apply`: printed was the image of all words that are left
+pub record HasApplied (run : Run) (shape batch image : Text) : Type 0 where
+  pub transfers : List Transfer
+  pub left : Store
+  pub held : HoldsBatch run batch transfers
+  pub moved : HasMoved run shape (Some image) transfers left
+  pub prints : run.prints (image_of left)
+
+abbrev pub KeepsRuns : Run → Type 0
+KeepsRuns run =
+    (shape batch : Text) (scheduled : Source Text) (image : Option Text) (workers : ℕ)
+    → HasDone run (RunJob shape batch scheduled image workers)
+    → HasRunBatch run shape batch scheduled image
+
+abbrev pub KeepsImages : Run → Type 0
+KeepsImages run =
+    (shape batch image : Text) (workers : ℕ) → HasDone run (Apply shape batch image workers)
+    → HasApplied run shape batch image
+
+-- ---- 5: directions
+
+-- The file held the text of moves. Printed was the text of a batch that does them, in their order,
+-- and nothing else. A schedule of this batch that has a certificate, as a plan has, has as few
+-- settings as any schedule of any batch that does the moves.
+pub record HasDirected (run : Run) (file : Text) : Type 0 where
+  pub text : List ℕ
+  pub moves : List Move
+  pub batch : List Transfer
+  pub printed : List ℕ
+  pub held : run.holds file text
+  pub denotes : DenotesMoves text moves
+  pub directs : Directs moves batch
+  pub fewest : (settings : List (List ℕ)) (named : Naming) → IsCertified batch settings named
+      → NoneIsShorter moves (length settings)
+  pub says : Denotes widest printed batch
+  pub prints : run.prints printed
+
+abbrev pub KeepsDirections : Run → Type 0
+KeepsDirections run = (moves : Text) → HasDone run (Direct moves) → HasDirected run moves
+
+-- ---- 6: switches
+
+-- The file held the text of a board's wiring, by which the links that the batch needs are on links
+-- of the board's one switch. They are where that text says.
+pub record IsBoard (run : Run) (file : Text) (batch : List Transfer) (board : BoardWiring)
+    : Type 0 where
+  pub text : List ℕ
+  pub modules : List WiredModule
+  pub held : run.holds file text
+  pub denotes : DenotesWiring text modules
+  pub ways : HasWays modules batch
+  pub kept : All (KeepsLinks board) modules
+
+-- the rack of a batch is wired as usual, or as the file says
+abbrev pub IsWired : Run → Option Text → List Transfer → Option BoardWiring → Type 0
+IsWired run None batch board = board ≡ None
+IsWired run (Some file) batch None = ⊥
+IsWired run (Some file) batch (Some board) = IsBoard run file batch board
+
+-- the switches of such a rack: that of a board; or two, where the batch names a module that one
+-- doesn't join; or one
+abbrev pub wirings : Option BoardWiring → List Transfer → List Wiring
+wirings (Some board) batch = Board board ∷ []
+wirings None batch = if is_wide batch then Forth ∷ Back ∷ [] else Both ∷ []
+
+-- The commands are those of a C004. Whatever the switch was, behind those for the settings up to
+-- each it joins just the pairs of links that this one needs, and is ready.
+pub record Turn (wiring : Wiring) (batch : List Transfer) (settings : List (List ℕ))
+    (commands : ℕ → List Command) : Type 0 where
+  pub are : (k : ℕ) → k < length settings → AreCommands (commands k)
+  pub turn : (switch : Switch) (k : ℕ) → k < length settings
+      → after_all (flat_map commands (range_with_len 0 (k + 1))) switch
+      ≡ switch_of wiring (setting_pairs batch (numbers_in settings k))
+
+-- The file held a batch. Printed were, for each setting of a schedule and nothing else, the bytes
+-- of such commands for each switch.
+pub record HasSwitched (run : Run) (batch : Text) (scheduled : Source Text) (wiring : Option Text)
+    : Type 0 where
+  pub transfers : List Transfer
+  pub settings : List (List ℕ)
+  pub board : Option BoardWiring
+  pub sent : Wiring → ℕ → List Command
+  pub held : HoldsBatch run batch transfers
+  pub schedule : IsScheduled run scheduled transfers settings
+  pub wired : IsWired run wiring transfers board
+  pub turned : AllByRecursion (λ one. Turn one transfers settings (sent one))
+      (wirings board transfers)
+  pub prints : run.prints (flat_map
+      (λ k. lines_on board (is_wide transfers) k (λ one. sent one k))
+      (range_with_len 0 (length settings)))
+
+abbrev pub KeepsSwitches : Run → Type 0
+KeepsSwitches run =
+    (batch : Text) (scheduled : Source Text) (wiring : Option Text) (workers : ℕ)
+    → HasDone run (SwitchJob batch scheduled wiring workers)
+    → HasSwitched run batch scheduled wiring
+
+-- Modules that obey all these orders, setting by setting, in whatever order words pass within one,
+-- leave on any rack with the blocks of the batch what a run leaves.
+abbrev pub ObeyedIsMoved : RackTold → List Transfer → List (List ℕ) → Type 0
+ObeyedIsMoved told batch settings =
+    (opening left : Store) → IsWhole opening → FitsIn opening.shape batch
+    → AreObeyed told batch settings opening left → IsPlaced opening batch left
+
+-- The file held a batch, of which no two transfers write one block. Printed was the text of such
+-- orders for a schedule, and nothing else: those of all modules that have some, or of one alone.
+pub record HasOrdered (run : Run) (batch : Text) (scheduled : Source Text) (only : Option ℕ)
+    : Type 0 where
+  pub transfers : List Transfer
+  pub settings : List (List ℕ)
+  pub orders : RackTold
+  pub printed : List ℕ
+  pub held : HoldsBatch run batch transfers
+  pub apart : IsApart transfers
+  pub schedule : IsScheduled run scheduled transfers settings
+  pub obeyed : ObeyedIsMoved (told_to None orders) transfers settings
+  pub tells : Tells printed (told_to only orders)
+  pub prints : run.prints printed
+
+abbrev pub KeepsOrders : Run → Type 0
+KeepsOrders run =
+    (batch : Text) (scheduled : Source Text) (only : Option ℕ) (workers : ℕ)
+    → HasDone run (Orders batch scheduled only workers) → HasOrdered run batch scheduled only
+
+-- ---- `drive`
+
+-- the names of ports, and what is known of the ways over which they are reached: how often they
+-- were opened, by which names, and what passed
+pub record Ports : Type 0 where
+  pub names : Names
+  pub before : Ways
+  pub after : Ways
+
+abbrev pub ports_of : Text → Option Text → Ways → Ways → Ports
+ports_of port port_b before after =
+    record { names = record { port = port; port_b = port_b }; before = before; after = after }
+
+-- the switches of a rack, and what is wired to each
+abbrev pub switches_of : Option BoardWiring → List Transfer → List (Chip × Wiring)
+switches_of (Some board) batch = (A, Board board) ∷ []
+switches_of None batch =
+    if is_wide batch then (A, Forth) ∷ (B, Back) ∷ [] else (A, Both) ∷ []
+
+-- In what passed the switch was asked all its outputs, and they answered what is wanted. Then it
+-- was sent nothing but the end of the sequence. Whatever it was when it was asked, if it answered
+-- as a C004 does, it joins what is wanted then.
+pub record HasAnswered (chip : Chip) (wanted : Switch) (passed : List Passing) : Type 0 where
+  pub before : List Passing
+  pub replies : List ℕ
+  pub between : List Passing
+  pub behind : List Passing
+  pub parts : passed
+      ≡ before ++ (conversed chip all_enquiries replies
+      ++ (between ++ (conversed chip (Settle ∷ []) [] ++ behind)))
+  pub all : length replies ≡ PORTS
+  pub agree : AllAgree wanted replies
+  pub nothing_between : bytes_to chip between ≡ []
+  pub nothing_behind : bytes_to chip behind ≡ []
+  pub joins : (switch : Switch) → replies ≡ answers all_enquiries switch
+      → JoinsAs (after_all (all_enquiries ++ Settle ∷ []) switch) wanted
+
+-- behind what passed each switch of the rack has answered as the setting calls for
+abbrev pub Stands : Option BoardWiring → List Transfer → List (List ℕ) → ℕ → List Passing → Type 0
+Stands board batch settings k passed =
+    AllByRecursion
+    (λ one. HasAnswered one.0
+    (switch_of one.1 (setting_pairs batch (numbers_in settings k))) passed)
+    (switches_of board batch)
+
+-- So many settings stood, from the first one on. Each stood behind all that had passed for the ones
+-- before it, and maybe more.
+abbrev pub StoodInTurn : Option BoardWiring → List Transfer → List (List ℕ) → (first count : ℕ)
+    → List Passing → Type 0
+StoodInTurn board batch settings first zero passed = passed ≡ []
+StoodInTurn board batch settings first (suc n) passed =
+    (earlier more : List Passing) × (passed ≡ earlier ++ more)
+    × StoodInTurn board batch settings first n earlier
+    × Stands board batch settings (first + n) passed
+
+-- the lines of so many settings, from the first one on
+abbrev pub lines_told : List (List ℕ) → (first count : ℕ) → List ℕ
+lines_told settings first zero = []
+lines_told settings first (suc n) =
+    lines_told settings first n ++ stage_line (first + n) (numbers_in settings (first + n))
+
+-- The file held a batch. The ports of these names were opened, once, and this passed over them.
+-- Behind it all settings of a schedule stood, from the first one on, each with its line.
+pub record HasDriven (run : Run) (ports : Ports) (batch : Text) (scheduled : Source Text)
+    (wiring : Option Text) (first : ℕ) : Type 0 where
+  pub transfers : List Transfer
+  pub settings : List (List ℕ)
+  pub board : Option BoardWiring
+  pub passed : List Passing
+  pub count : ℕ
+  pub held : HoldsBatch run batch transfers
+  pub schedule : IsScheduled run scheduled transfers settings
+  pub wired : IsWired run wiring transfers board
+  pub opened : ports.after ≡ used ports.names (Some passed) 0 ports.before
+  pub all : first + count ≡ length settings
+  pub stood : StoodInTurn board transfers settings first count passed
+  pub prints : run.prints (lines_told settings first count ++ completed_line (length settings))
+
+abbrev pub KeepsDrives : Run → Ways → Ways → Type 0
+KeepsDrives run before after =
+    (batch port : Text) (port_b : Option Text) (scheduled : Source Text) (wiring : Option Text)
+    (first : ℕ) (goes_on : Bool) (workers : ℕ)
+    → HasDone run (Drive batch port port_b scheduled wiring first goes_on workers)
+    → HasDriven run (ports_of port port_b before after) batch scheduled wiring first
+
+-- the texts say a schedule of this batch: a plan of it, or the user's own
+abbrev pub SaySchedule : Source (List ℕ) → List ℕ → List Transfer → List (List ℕ) → Type 0
+SaySchedule (source.Plan planning) text batch settings =
+    Denotes widest text batch × IsPlanOf planning batch settings
+SaySchedule (source.Text schedule) text batch settings =
+    IsScheduleRead widest text schedule batch settings
+
+-- What is first wrong with the texts: a line of the wiring, where one is given; the batch's text;
+-- what the batch needs and the board hasn't; the schedule's text, or the schedule; and last that
+-- this hasn't the setting with which to begin.
+pub data IsFirstWrongOn (from : Source (List ℕ)) (text : List ℕ) (wiring : Option (List ℕ))
+    (first : ℕ) (refusal : Refusal) : Type 0 where
+  wiring_wrong : (fault : WiringFault) → IsMiswired wiring fault → refusal ≡ of_wiring fault
+      → IsFirstWrongOn from text wiring first refusal
+  lacking : (board : Option BoardText) → IsBoardOf wiring board → IsLackOf board text refusal
+      → IsFirstWrongOn from text wiring first refusal
+  texts_wrong : (board : Option BoardText) → IsBoardOf wiring board
+      → IsWrongFrom from widest text refusal → LacksNothing board text
+      → IsFirstWrongOn from text wiring first refusal
+  no_setting : (board : Option BoardText) (batch : List Transfer) (settings : List (List ℕ))
+      → IsBoardOf wiring board → SaySchedule from text batch settings → HasWaysOn board batch
+      → 0 < first → length settings ≤ first → refusal ≡ NoSetting first
+      → IsFirstWrongOn from text wiring first refusal
+
+-- The last line of a drive that ends early, where this setting is next, and this passed behind the
+-- ones that stood. It couldn't be set, as its port failed or an output answered otherwise; or none
+-- was wanted behind the one before, or the line for it couldn't be read, and nothing more passed.
+abbrev pub IsLastLine : ℕ → List Passing → List ℕ → Type 0
+IsLastLine next more line =
+    ((fault : SettingFault) × (line ≡ stopped_line next (fault_words fault)))
+    ⊎ ((k : ℕ) × (next ≡ k + 1) × (more ≡ [])
+    × ((line ≡ left_line k) ⊎ (line ≡ stopped_line k (codes "input"))))
+
+-- The same of a drive that ends early: of what passed a front is that of settings that stood, each
+-- with its line, and behind these lines stands the last one.
+pub record HasStopped (run : Run) (ports : Ports) (batch : Text) (scheduled : Source Text)
+    (wiring : Option Text) (first : ℕ) : Type 0 where
+  pub transfers : List Transfer
+  pub settings : List (List ℕ)
+  pub board : Option BoardWiring
+  pub earlier : List Passing
+  pub more : List Passing
+  pub count : ℕ
+  pub failed : ℕ
+  pub line : List ℕ
+  pub held : HoldsBatch run batch transfers
+  pub schedule : IsScheduled run scheduled transfers settings
+  pub wired : IsWired run wiring transfers board
+  pub opened : ports.after ≡ used ports.names (Some (earlier ++ more)) failed ports.before
+  pub stood : StoodInTurn board transfers settings first count earlier
+  pub last : IsLastLine (first + count) more line
+  pub prints : run.prints (lines_told settings first count ++ line)
+
+-- No port was opened, or handed over: why there are no ways to the switches of the batch's rack.
+abbrev pub AreNoWays : Ports → Refusal → Type 0
+AreNoWays ports refusal = (switches : ℕ) × IsUnopened ports.names switches refusal
+
+-- Printed was the one line of a refusal, of what is first wrong with the texts, or with the ports.
+-- Nothing passed over these.
+pub record HasRefusedDrive (run : Run) (ports : Ports) (job : Job) (scheduled : Source Text)
+    (first : ℕ) : Type 0 where
+  pub texts : Files (List ℕ)
+  pub refusal : Refusal
+  pub held : AreHeld run.holds (files_of job) texts
+  pub wrong : IsFirstWrongOn (source_in scheduled (text_in texts.other)) (text_in texts.list)
+      texts.wiring first refusal
+      ⊎ AreNoWays ports refusal
+  pub prints : run.prints (refusal_line refusal)
+  pub unopened : ports.after ≡ ports.before
+
+abbrev pub KeepsStops : Run → Ways → Ways → Type 0
+KeepsStops run before after =
+    (batch port : Text) (port_b : Option Text) (scheduled : Source Text) (wiring : Option Text)
+    (first : ℕ) (goes_on : Bool) (workers : ℕ)
+    → let job = Drive batch port port_b scheduled wiring first goes_on workers in
+    let ports = ports_of port port_b before after in
+    AsksFor run job → run.status ≡ REFUSED
+    → HasStopped run ports batch scheduled wiring first
+    ⊎ (HasRefusedDrive run ports job scheduled first ⊎ (HasGivenUp run × (after ≡ before)))
+
+-- `c004` was handed what stands on standard input, and replied to it as a switch of the data sheet
+-- does; nothing else was printed.
+pub record HasReplied (run : Run) : Type 0 where
+  pub came : List ℕ
+  pub replies : List ℕ
+  pub told : List ℕ
+  pub left : EndState
+  pub held : run.holds input_name came
+  pub replied : HasRun (record { switch = idle; begun = [] }) came replies told left
+  pub prints : run.prints replies
+
+-- The same of the first part of that, where no more could be read.
+pub record HasRepliedInPart (run : Run) : Type 0 where
+  pub came : List ℕ
+  pub rest : List ℕ
+  pub replies : List ℕ
+  pub told : List ℕ
+  pub left : EndState
+  pub held : run.holds input_name (came ++ rest)
+  pub replied : HasRun (record { switch = idle; begun = [] }) came replies told left
+  pub prints : run.prints replies
+
+abbrev pub KeepsReplies : Run → Type 0
+KeepsReplies run =
+    (HasDone run C004 → HasReplied run)
+    × (AsksFor run C004 → run.status ≡ REFUSED → HasRepliedInPart run ⊎ HasGivenUp run)
+
+-- ---- 7: pictures
+
+-- the part stands somewhere in the text
+abbrev pub StandsIn : (part text : List ℕ) → Type 0
+StandsIn part text = (front rest : List ℕ) × (text ≡ front ++ (part ++ rest))
+
+-- The title begins with `transfers N, settings S` and `, changes C`, each with what is shown of it.
+-- Where it says `the fewest` behind the settings, no schedule has fewer: they are `fewest`.
+-- Where it says so of the changes, they are as many as `partners`, or as `least`, and no schedule
+-- changes the switch less often, or none with as many settings.
+pub record IsTitled (batch : List Transfer) (settings : List (List ℕ)) (text : List ℕ)
+    : Type 0 where
+  pub fewest : ℕ
+  pub partners : ℕ
+  pub least : ℕ
+  pub stands : StandsIn
+      (heading_text (length batch) (length settings) fewest ++ codes ", "
+      ++ changes_words (changes batch settings) partners least) text
+  pub are_fewest : AreFewest batch fewest
+  pub needed : (other : List (List ℕ)) → IsScheduleOf batch other
+      → (partners ≤ changes batch other)
+      × (length other ≡ length settings → least ≤ changes batch other)
+
+-- no two cells have a part in common: those of two transfers that are shown, or of one
+abbrev pub AreCellsApart : List Transfer → List (List ℕ) → Shown → Type 0
+AreCellsApart batch settings shown =
+    (j i : ℕ) (x : Transfer) (e : End) (l k : ℕ) (y : Transfer) (f : End)
+    → IsDrawnAt batch settings shown j i x → IsDrawnAt batch settings shown l k y
+    → CellsOverlap batch j x e l y f → (j ≡ l) × (i ≡ k) × (e ≡ f)
+
+-- The files held a batch and a schedule of it. Printed was a picture with its title, and with a
+-- column for each setting that is shown, in which its transfers have their cells; and nothing else
+-- than that picture.
+pub record HasDrawn (run : Run) (batch schedule : Text) (chosen : Option Text) : Type 0 where
+  pub transfers : List Transfer
+  pub settings : List (List ℕ)
+  pub named : Option Naming
+  pub range : Option SettingRange
+  pub shown : Shown
+  pub printed : List ℕ
+  pub held : HoldsBatch run batch transfers
+  pub held_schedule : HoldsSettings run schedule settings named
+  pub valid : IsScheduleOf transfers settings
+  pub wanted : AreWanted chosen range
+  pub are_shown : AreShown range (length settings) shown
+  pub titled : IsTitled transfers settings printed
+  pub columns : StandsIn (columns_text transfers settings shown) printed
+  pub apart : AreCellsApart transfers settings shown
+  pub prints : run.prints printed
+
+abbrev pub KeepsPictures : Run → Type 0
+KeepsPictures run =
+    (batch schedule : Text) (chosen : Option Text) → HasDone run (Draw batch schedule chosen)
+    → HasDrawn run batch schedule chosen
+
+-- ---- 8: clients
+
+-- the words with which a rack of sessions begins: those of the image in this file; or, without one,
+-- all are 0
+abbrev pub OpensWith : Run → Option Text → Extent → Store → Type 0
+OpensWith run None extent opening = opening ≡ zeros_of extent
+OpensWith run (Some image) extent opening =
+    (bytes : List ℕ) × run.holds image bytes × HasImage extent bytes opening
+
+-- the rack of sessions has this shape, and begins with these words
+pub record BeginsOn (run : Run) (rack : SharedRack) (extent : Extent) (opening : Store)
+    : Type 0 where
+  pub shaped : DenotesShape rack.shape extent
+  pub opens : OpensWith run rack.image extent opening
+
+-- a session: its number; its commands, each with its lines and with what it did; what it was told;
+-- what is left of what came; and the fault that ended it, where one did
+pub record Session : Type 0 where
+  pub number : ℕ
+  pub turns : List Turned
+  pub told : List ℕ
+  pub rest : List ℕ
+  pub fault : Option ServeFault
+
+-- How a session ended, where this of its commands' lines wasn't told, and no command that was told
+-- made these entries. By itself: all was told, and all was read, or `bye` was the last command.
+-- Where it couldn't be told, an end of its last line is missing. Where a call couldn't be recorded,
+-- its command may have made one entry before.
+abbrev pub EndsSo : Option ServeFault → List Turned → (rest untold : List ℕ) → List Entry → Type 0
+EndsSo None turns rest untold unseen =
+    (untold ≡ []) × (unseen ≡ []) × ((rest ≡ []) ⊎ EndByBye turns)
+EndsSo (Some Write) turns rest untold unseen =
+    (unseen ≡ []) × ((before : List Turned) × (last : Turned) × (front : List ℕ)
+    × (turns ≡ before ++ last ∷ []) × (last.did.line ≡ front ++ untold))
+EndsSo (Some Record) turns rest untold unseen = (untold ≡ []) × (length unseen ≤ 1)
+EndsSo (Some fault) turns rest untold unseen = (untold ≡ []) × (unseen ≡ [])
+
+-- It read what came, where that is known, command by command, and did what each asks for. It was
+-- told the lines of what they did, in their order. The entries of this history that have its number
+-- are those that its commands made, in their order. No progress that it was told is behind what it
+-- was told before.
+pub record IsSessionOf (extent : Extent) (history : List Entry) (came : Option (List ℕ))
+    (s : Session) : Type 0 where
+  pub untold : List ℕ
+  pub unseen : List Entry
+  pub read : IfSome came (λ text. text ≡ flat_map turn_text s.turns ++ s.rest)
+  pub each : AllByRecursion (IsTurn extent s.number) s.turns
+  pub lines : lines_of s.turns ≡ s.told ++ untold
+  pub entries : own s.number history ≡ added_entries s.turns ++ unseen
+  pub rising : AreRising s.turns
+  pub ends : EndsSo s.fault s.turns s.rest untold unseen
+
+-- Calls, in one order: the words with which their rack began; those of an earlier record, with which
+-- sessions began; theirs, of which they were told; those of which nobody was told; and what all lead
+-- to.
+pub record Calls : Type 0 where
+  pub opening : Store
+  pub earlier : List Entry
+  pub told : List Entry
+  pub untold : List Entry
+  pub left : Machine
+
+abbrev pub calls_told : Calls → List Entry
+calls_told calls = calls.earlier ++ calls.told
+
+-- Each answer follows from the calls before it. Just the calls of these sessions stand there behind
+-- the earlier ones, and at most one more, of which nobody was told.
+pub record HaveOneOrder (calls : Calls) (sessions : List Session) : Type 0 where
+  pub right : IsReplay (opened calls.opening) (calls_told calls ++ calls.untold) calls.left
+  pub no_other : length calls.told ≡ sum_by (λ s. length (own s.number calls.told)) sessions
+  pub few : length calls.untold ≤ 1
+
+-- what is left of the files that were opened for a record, and for an image
+pub record Kept : Type 0 where
+  pub recorded : Option Closed
+  pub image : Option Closed
+
+abbrev pub kept_by : {C : Type 0} → (C → Closed) → Receipts C → Kept
+kept_by received receipts =
+    record {
+      recorded = option_map received receipts.recorded;
+      image = option_map received receipts.image;
+    }
+
+-- The file that was opened for this name, if there is one, holds the text, and was put in its place.
+-- Without a name none was opened.
+abbrev pub IsKept : Option Text → List ℕ → Option Closed → Type 0
+IsKept None text file = file ≡ None
+IsKept (Some name) text None = ⊥
+IsKept (Some name) text (Some file) = (file.bytes ≡ Some text) × (file.stands ≡ true)
+
+-- a front of the text, and then it wasn't put there; or all of it
+abbrev pub IsKeptInPart : Option Text → List ℕ → Option Closed → Type 0
+IsKeptInPart None text file = file ≡ None
+IsKeptInPart (Some name) text None = ⊥
+IsKeptInPart (Some name) text (Some file) =
+    IsFrontOf text file.bytes × (file.stands ≡ true → file.bytes ≡ Some text)
+
+-- such a file begins with the text
+abbrev pub IsBegun : Option Text → List ℕ → Option Closed → Type 0
+IsBegun None text file = file ≡ None
+IsBegun (Some name) text None = ⊥
+IsBegun (Some name) text (Some file) = (rest : List ℕ) × (file.bytes ≡ Some (text ++ rest))
+
+-- a file that was opened wasn't put in its place
+abbrev pub IsUnput : Option Closed → Type 0
+IsUnput file = IfSome file (λ file. file.stands ≡ false)
+
+-- what a record tells of these entries
+abbrev pub record_of : List Text → Store → List Entry → List ℕ
+record_of names opening entries = head_for opening names ++ flat_map entry_text entries
+
+-- all that a record tells of calls, of clients with these names
+abbrev pub whole_record : List Text → Calls → List ℕ
+whole_record names calls =
+    record_of names calls.opening (calls_told calls ++ calls.untold) ++ end_line
+
+-- Both files are whole, and in their places: the record of all calls, and the image of the words to
+-- which they lead.
+abbrev pub AreKept : Kept → SharedRack → List Text → Calls → Type 0
+AreKept kept rack names calls =
+    IsKept (recorded_in rack) (whole_record names calls) kept.recorded
+    × IsKept rack.image_out (image_of calls.left.store) kept.image
+
+-- both hold fronts of that
+abbrev pub AreKeptInPart : Kept → SharedRack → List Text → Calls → Type 0
+AreKeptInPart kept rack names calls =
+    IsKeptInPart (recorded_in rack) (whole_record names calls) kept.recorded
+    × IsKeptInPart rack.image_out (image_of calls.left.store) kept.image
+
+-- The record of live sessions has all of which somebody was told. The image is as above.
+abbrev pub AreToldKept : Kept → SharedRack → List Text → Calls → Type 0
+AreToldKept kept rack names calls =
+    IsBegun (recorded_in rack) (record_of names calls.opening (calls_told calls)) kept.recorded
+    × IsKeptInPart rack.image_out (image_of calls.left.store) kept.image
+
+-- what a session was told, below its heading; where a fault ended it, a line says so behind that
+abbrev pub told_text : Session → List ℕ
+told_text s = heading s.number ++ (s.told ++ end_text s.told s.fault)
+
+-- The files held scripts, each of which had its session. Their calls have one order. Printed was
+-- what each session was told, in the order of the scripts, and nothing else. The status is 0 where
+-- no fault ended one of them.
+pub record HasServed (run : Run) (rack : SharedRack) (scripts : List Text)
+    (keeps : Calls → Type 0) : Type 0 where
+  pub extent : Extent
+  pub calls : Calls
+  pub texts : List (List ℕ)
+  pub sessions : List Session
+  pub begins : BeginsOn run rack extent calls.opening
+  pub held : AreAllHeld run.holds scripts texts
+  pub numbers : map (λ s. s.number) sessions ≡ range_with_len 0 (length texts)
+  pub each :
+      AllByRecursion (λ s. IsSessionOf extent calls.told (slice_get texts s.number) s) sessions
+  pub order : HaveOneOrder calls sessions
+  pub no_earlier : calls.earlier ≡ []
+  pub whole : calls.untold ≡ []
+  pub status : run.status ≡ status_at (list_any (λ s. is_some s.fault) sessions)
+  pub prints : run.prints (flat_map told_text sessions)
+  pub kept : keeps calls
+
+-- No session began: printed was the one line of a refusal, or there was no answer. No image was put
+-- in its place.
+pub record HasRefusedSessions (run : Run) (kept : Kept) : Type 0 where
+  pub status : run.status ≡ REFUSED
+  pub refuses : HasPrintedRefusal run
+  pub unput : IsUnput kept.image
+
+abbrev pub KeepsScripts : Run → Kept → (SharedRack → List Text → Calls → Type 0) → Type 0
+KeepsScripts run kept keeps =
+    (rack : SharedRack) (scripts : List Text) (workers : ℕ)
+    → AsksFor run (Serve rack scripts workers) → run.status ≢ UNWRITTEN
+    → HasServed run rack scripts (keeps rack []) ⊎ HasRefusedSessions run kept
+
+-- ---- live clients
+
+-- what is known of the files of live clients: what comes from one, where that is known; and what one
+-- held as it was opened to be written; and how the session of each client ended, with what its file
+-- holds then
+pub record Clients : Type 0 where
+  pub comes : Text → Option (List ℕ)
+  pub had : Text → List ℕ
+  pub ends : List (Ending (List ℕ))
+
+abbrev pub clients_of : (Text → Option (List ℕ)) → (Text → List ℕ) → List (Ending (List ℕ))
+    → Clients
+clients_of comes had ends = record { comes = comes; had = had; ends = ends }
+
+-- Sessions begin with no calls, where the file of their record held but a part of its head; or, where
+-- they are to go on, with those that stood there whole.
+abbrev pub FollowsFrom : Bool → (head held : List ℕ) → Calls → Type 0
+FollowsFrom resumes head held calls =
+    ((calls.earlier ≡ []) × ((missing : List ℕ) × (head ≡ held ++ missing)))
+    ⊎ ((resumes ≡ true) × ((text rest : List ℕ) × (end : Machine) × (held ≡ head ++ text)
+    × IsRemade text calls.opening None calls.earlier end rest))
+
+-- the same of the file for a record; without one they begin with none, and all are told
+abbrev pub GoesOnFrom : Run → Option RecordFile → List Text → Calls → Type 0
+GoesOnFrom run None names calls = (calls.earlier ≡ []) × (calls.untold ≡ [])
+GoesOnFrom run (Some out) names calls =
+    (held : List ℕ) × run.holds out.name held
+    × FollowsFrom out.resumes (head_for calls.opening names) held calls
+
+-- a client's session at a host, and how it ended
+pub record Hosted : Type 0 where
+  pub its : Session
+  pub end : Ending (List ℕ)
+
+-- It had a session with what comes from `NAME.in`. What it was told stands in `NAME.out`, behind what
+-- that held. Or these couldn't be opened, and it asked nothing.
+abbrev pub IsHosted : Extent → List Entry → Clients → Text → Session → Ending (List ℕ) → Type 0
+IsHosted extent history clients name s Unopened = own s.number history ≡ []
+IsHosted extent history clients name s (Served fault holds) =
+    IsSessionOf extent history (clients.comes (name ++ codes ".in")) s × (s.fault ≡ fault)
+    × (holds ≡ clients.had (name ++ codes ".out") ++ s.told)
+
+-- the name of a client by its number
+abbrev pub name_at : List Text → ℕ → Text
+name_at names k = slice_index_or names k []
+
+-- `session I NAME`, and how it ended, unless it did by itself
+abbrev pub hosted_text : List Text → Hosted → List ℕ
+hosted_text names h =
+    (codes "session " ++ decimal h.its.number ++ codes " " ++ name_at names h.its.number
+    ++ codes "\n") ++ ending_line h.end
+
+-- Each client had its session. Their calls have one order, behind those with which they began.
+-- Printed was how each ended. The status is 0 where each did by itself.
+pub record HasHosted (run : Run) (rack : SharedRack) (names : List Text) (clients : Clients)
+    (keeps : Calls → Type 0) : Type 0 where
+  pub extent : Extent
+  pub calls : Calls
+  pub sessions : List Hosted
+  pub begins : BeginsOn run rack extent calls.opening
+  pub goes_on : GoesOnFrom run rack.record_out names calls
+  pub numbers : map (λ h. h.its.number) sessions ≡ range_with_len 0 (length names)
+  pub ends : map (λ h. h.end) sessions ≡ clients.ends
+  pub each : AllByRecursion
+      (λ h. IsHosted extent calls.told clients (name_at names h.its.number) h.its h.end) sessions
+  pub order : HaveOneOrder calls (map (λ h. h.its) sessions)
+  pub status : run.status ≡ status_at (list_any has_failed clients.ends)
+  pub prints : run.prints (flat_map (hosted_text names) sessions)
+  pub kept : keeps calls
+
+abbrev pub KeepsClients : Run → Kept → Clients → (SharedRack → List Text → Calls → Type 0)
+    → Type 0
+KeepsClients run kept clients keeps =
+    (rack : SharedRack) (names : List Text) (workers : ℕ) → AsksFor run (Host rack names workers)
+    → run.status ≢ UNWRITTEN
+    → HasHosted run rack names clients (keeps rack names)
+    ⊎ (HasRefusedSessions run kept × (clients.ends ≡ []))
+
+-- The one client had a session with what comes of standard input. Printed was what it was told; and
+-- behind that, where a fault ended it, a line says so.
+pub record HasTalked (run : Run) (rack : SharedRack) (keeps : Calls → Type 0) : Type 0 where
+  pub extent : Extent
+  pub calls : Calls
+  pub its : Session
+  pub came : List ℕ
+  pub begins : BeginsOn run rack extent calls.opening
+  pub goes_on : GoesOnFrom run rack.record_out [] calls
+  pub held : run.holds input_name came
+  pub is : IsSessionOf extent calls.told (Some came) its
+  pub order : HaveOneOrder calls (its ∷ [])
+  pub status : run.status ≡ status_at (is_some its.fault)
+  pub prints : run.prints (its.told ++ line_of_end its.fault)
+  pub kept : keeps calls
+
+abbrev pub KeepsTalks : Run → Kept → (SharedRack → List Text → Calls → Type 0) → Type 0
+KeepsTalks run kept keeps =
+    (rack : SharedRack) → AsksFor run (Talk rack) → run.status ≢ UNWRITTEN
+    → HasTalked run rack (keeps rack []) ⊎ HasRefusedSessions run kept
+
+-- ---- `replay`
+
+-- The file held the record of sessions on a rack that began with these words: a head that says so,
+-- and entries behind it, each a call with its answer, which follows from those before it. These are
+-- as many as are wanted, or all that stand there whole; and then the record ends, or was torn off.
+-- Printed was the image of the words to which they lead, and nothing else.
+pub record HasReplayed (run : Run) (shape : Option Text) (recorded : Text) (image : Option Text)
+    (first : Option ℕ) : Type 0 where
+  pub extent : Extent
+  pub opening : Store
+  pub text : List ℕ
+  pub names : List (List ℕ)
+  pub body : List ℕ
+  pub history : List Entry
+  pub left : Machine
+  pub rest : List ℕ
+  pub held : run.holds recorded text
+  pub shaped : IfSome shape (λ words. DenotesShape words extent)
+  pub opens : OpensWith run image extent opening
+  pub head : IsHeadOf opening names text body
+  pub right : IsRemade body opening first history left rest
+  pub prints : run.prints (image_of left.store)
+
+-- at status 1 no image is printed
+abbrev pub KeepsReplays : Run → Type 0
+KeepsReplays run =
+    (shape : Option Text) (recorded : Text) (image : Option Text) (first : Option ℕ)
+    → (HasDone run (Replay shape recorded image first)
+    → HasReplayed run shape recorded image first)
+    × (AsksFor run (Replay shape recorded image first) → run.status ≡ REFUSED
+    → HasPrintedRefusal run)
+
+-- ---- 9: texts
+
+-- a job needs nothing but its texts
+abbrev pub IsOfTextsAlone : Job → Type 0
+IsOfTextsAlone (Plan file planning workers) = ⊤
+IsOfTextsAlone (Check batch schedule) = ⊤
+IsOfTextsAlone (Draw batch schedule chosen) = ⊤
+IsOfTextsAlone (SwitchJob batch scheduled wiring workers) = ⊤
+IsOfTextsAlone (Orders batch scheduled only workers) = ⊤
+IsOfTextsAlone (Direct moves) = ⊤
+IsOfTextsAlone (Apply shape batch image workers) = ⊤
+IsOfTextsAlone (RunJob shape batch scheduled image workers) = ⊤
+IsOfTextsAlone job = ⊥
+
+-- the first two transfers of the batch that write one block
+abbrev pub IsFirstOverlapIn : Source (List ℕ) → List ℕ → Refusal → Type 0
+IsFirstOverlapIn from text refusal =
+    (batch : List Transfer) × (i j : ℕ) × AreRight from widest text batch
+    × IsFirstOverlap batch i j × (refusal ≡ Overlap i j)
+
+-- What is first wrong with the texts for a picture: the range, the batch or the schedule, or that
+-- this hasn't all settings of the range.
+pub data IsFirstWrongDrawn (text schedule : List ℕ) (chosen : Option Text) (refusal : Refusal)
+    : Type 0 where
+  no_range : IsBadSettingsText chosen → refusal ≡ Settings
+      → IsFirstWrongDrawn text schedule chosen refusal
+  invalid : (range : Option SettingRange) → AreWanted chosen range
+      → IsInvalid widest text schedule refusal → IsFirstWrongDrawn text schedule chosen refusal
+  outside : (range : Option SettingRange) (batch : List Transfer) (settings : List (List ℕ))
+      (k : ℕ) → AreWanted chosen range → IsScheduleRead widest text schedule batch settings
+      → IsOutside range (length settings) k → refusal ≡ NoSetting k
+      → IsFirstWrongDrawn text schedule chosen refusal
+
+-- what is first wrong with the texts of a job
+abbrev pub IsFirstWrongIn : Job → Files (List ℕ) → Refusal → Type 0
+IsFirstWrongIn (Plan file planning workers) texts refusal =
+    (fault : BatchFault) × IsFirstFault widest (text_in texts.list) fault
+    × (refusal ≡ of_batch fault)
+IsFirstWrongIn (Check batch schedule) texts refusal =
+    IsFirstWrong widest (text_in texts.list) (text_in texts.other) refusal
+IsFirstWrongIn (Draw batch schedule chosen) texts refusal =
+    IsFirstWrongDrawn (text_in texts.list) (text_in texts.other) chosen refusal
+IsFirstWrongIn (SwitchJob batch scheduled wiring workers) texts refusal =
+    IsFirstWrongOn (source_in scheduled (text_in texts.other)) (text_in texts.list)
+    texts.wiring 0 refusal
+IsFirstWrongIn (Orders batch scheduled only workers) texts refusal =
+    IsWrongFrom (source_in scheduled (text_in texts.other)) widest (text_in texts.list) refusal
+    ⊎ IsFirstOverlapIn (source_in scheduled (text_in texts.other)) (text_in texts.list) refusal
+IsFirstWrongIn (Direct moves) texts refusal =
+    (fault : BatchFault) × IsFirstMovesFault (text_in texts.list) fault
+    × (refusal ≡ of_moves fault)
+IsFirstWrongIn (Apply shape batch image workers) texts refusal =
+    IsFirstRunWrong (source.Plan Plain) shape (text_in texts.list) (Some (text_in texts.other))
+    refusal
+IsFirstWrongIn (RunJob shape batch scheduled image workers) texts refusal =
+    IsFirstRunWrong (source_in scheduled (text_in texts.other)) shape (text_in texts.list)
+    texts.image refusal
+IsFirstWrongIn job texts refusal = ⊥
+
+-- such a batch can be run on a rack of the shape, with such an image
+pub record CanBeRun (from : Source (List ℕ)) (shape text : List ℕ)
+    (image : Option (List ℕ)) : Type 0 where
+  pub extent : Extent
+  pub batch : List Transfer
+  pub shaped : DenotesShape shape extent
+  pub right : AreRight from extent text batch
+  pub apart : IsApart batch
+  pub fits : IsRightImage extent image
+
+-- the texts of a job are right (for `draw` and `switch` this says nothing)
+abbrev pub AreRightTexts : Job → Files (List ℕ) → Type 0
+AreRightTexts (Plan file planning workers) texts =
+    (batch : List Transfer) × Denotes widest (text_in texts.list) batch
+AreRightTexts (Check batch schedule) texts =
+    (transfers : List Transfer) × (count : ℕ) × Denotes widest (text_in texts.list) transfers
+    × IsShown transfers (text_in texts.other) count
+AreRightTexts (Orders batch scheduled only workers) texts =
+    (transfers : List Transfer)
+    × AreRight (source_in scheduled (text_in texts.other)) widest (text_in texts.list) transfers
+    × IsApart transfers
+AreRightTexts (Direct moves) texts =
+    (list : List Move) × DenotesMoves (text_in texts.list) list
+AreRightTexts (Apply shape batch image workers) texts =
+    CanBeRun (source.Plan Plain) shape (text_in texts.list) (Some (text_in texts.other))
+AreRightTexts (RunJob shape batch scheduled image workers) texts =
+    CanBeRun (source_in scheduled (text_in texts.other)) shape (text_in texts.list) texts.image
+AreRightTexts job texts = ⊥
+
+-- Printed was one line, the refusal of what is first wrong with the texts that the job's files
+-- hold; so they aren't right.
+pub record HasRefused (run : Run) (job : Job) : Type 0 where
+  pub texts : Files (List ℕ)
+  pub refusal : Refusal
+  pub held : AreHeld run.holds (files_of job) texts
+  pub wrong : IsFirstWrongIn job texts refusal
+  pub not_right : AreRightTexts job texts → ⊥
+  pub prints : run.prints (refusal_line refusal)
+
+abbrev pub KeepsRefusals : Run → Type 0
+KeepsRefusals run =
+    (job : Job) → IsOfTextsAlone job → AsksFor run job → run.status ≡ REFUSED
+    → HasRefused run job ⊎ HasGivenUp run
+
+-- ---- where not all could be written
+
+-- all that is promised of commands that need nothing but texts
+pub record KeepsTexts (run : Run) : Type 0 where
+  pub plans : KeepsPlans run
+  pub checks : KeepsChecks run
+  pub runs : KeepsRuns run
+  pub images : KeepsImages run
+  pub directions : KeepsDirections run
+  pub switches : KeepsSwitches run
+  pub orders : KeepsOrders run
+  pub pictures : KeepsPictures run
+  pub replays : KeepsReplays run
+  pub refusals : KeepsRefusals run
+
+-- A front was printed of what a run prints that ends with status 0, or with 1; so it is with the
+-- files of sessions, but that the record of live ones has all of which somebody was told.
+pub record KeepsInPart (run : Run) (kept : Kept) (clients : Clients) : Type 0 where
+  pub ends : (run.status ≡ DONE) ⊎ (run.status ≡ REFUSED)
+  pub texts : KeepsTexts run
+  pub scripts : KeepsScripts run kept (AreKeptInPart kept)
+  pub live : KeepsClients run kept clients (AreToldKept kept)
+  pub talks : KeepsTalks run kept (AreToldKept kept)
+
+-- so it is where not all could be written
+abbrev pub KeepsFronts : (ℕ → Run) → Kept → Clients → ℕ → Type 0
+KeepsFronts fronts kept clients status =
+    status ≡ UNWRITTEN → (other : ℕ) × KeepsInPart (fronts other) kept clients
+
+-- ---- where the arguments ask for nothing
+
+-- status 2 is only for such
+abbrev pub KeepsMisuse : Run → Type 0
+KeepsMisuse run =
+    run.status ≡ MISUSED → (request : Request) → AskFor run.words request → ⊥
+
+-- ---- all promises
+
+-- A run of the program keeps them: it, and where a front was printed; the ways to ports before it and
+-- behind it; the files of a record and of an image; and live clients.
+pub record KeepsPromises (run : Run) (fronts : ℕ → Run) (before after : Ways) (kept : Kept)
+    (clients : Clients) : Type 0 where
+  pub one : AskForOne run.words
+  pub plans : KeepsPlans run
+  pub checks : KeepsChecks run
+  pub runs : KeepsRuns run
+  pub images : KeepsImages run
+  pub directions : KeepsDirections run
+  pub switches : KeepsSwitches run
+  pub orders : KeepsOrders run
+  pub drives : KeepsDrives run before after
+  pub stops : KeepsStops run before after
+  pub replies : KeepsReplies run
+  pub pictures : KeepsPictures run
+  pub scripts : KeepsScripts run kept (AreKept kept)
+  pub live : KeepsClients run kept clients (AreKept kept)
+  pub talks : KeepsTalks run kept (AreKept kept)
+  pub replays : KeepsReplays run
+  pub refusals : KeepsRefusals run
+  pub misuse : KeepsMisuse run
+  pub fronts_too : KeepsFronts fronts kept clients run.status

@@ -1,0 +1,43 @@
+//! The program, by what it promises.
+//!
+//! [`answer`] is all that `main` calls. Its clause is what the program promises, over the
+//! definitions of `specs/Promises.antt`: who reads these has read what it is proved to do.
+
+ghost use Rattle.std.specs.Prelude.{◌≡◌, [], IfOk};
+ghost use Rattle.std.specs.Process.{exit_status};
+ghost use Rattle.command_words.specs.Jobs.{texts_of};
+ghost use Rattle.exchange.specs.Promises.{KeepsPromises, clients_of, front_of, kept_by, run_of};
+
+use crate::peers::Peers;
+use crate::responding::{Left, respond};
+use drive_answers::Ports;
+use named_files::{Runtime, System};
+use std::io;
+use std::io::{Read, Write};
+
+/// Does what the arguments ask for, prints what there is to say of it, and gives the status that
+/// the program ends with.
+///
+/// A file that is `-` is read from `input`. What is printed goes to `out`, and what is told beside
+/// it to `err`.
+pub fn answer<R: Runtime, S: System, P: Ports, I: Read, O: Write, E: Write>(
+    rt: &R,
+    system: &S,
+    peers: &mut Peers<P>,
+    arguments: io::Result<Vec<String>>,
+    input: &mut I,
+    out: &mut O,
+    err: &mut E,
+) -> Left<S::Receipt>
+    requires { peers.old.endings.items ≡ [] }
+    ensures { IfOk arguments (λ w. KeepsPromises
+        (run_of (S.holds system.now) (I.remaining input.old) (O.contents out.old)
+        (O.contents out.new) (texts_of w.items) (exit_status result.code))
+        (front_of (S.holds system.now) (I.remaining input.old) (O.contents out.old)
+        (O.contents out.new) (texts_of w.items))
+        (P.ways peers.old.ports) (P.ways peers.new.ports)
+        (kept_by S.received result.receipts)
+        (clients_of (S.says system.now) (S.had system.now) peers.new.endings.items)) }
+{
+    respond(rt, system, peers, arguments, input, out, err)
+}
