@@ -12,6 +12,7 @@ use Rattle.batch_book.specs.Recording.{AreAllBut}
 use Rattle.batch_book.specs.Seats.{own}
 use Rattle.batch_book.specs.declared.entry.Entry.{Entry}
 use Rattle.book_record.specs.Fronts.{end_line}
+use Rattle.book_record.specs.Heads.{session_limit}
 use Rattle.book_record.specs.RecordText.{entry_text}
 use Rattle.clap.specs.Words.{Text}
 use Rattle.client_session.specs.Turns.{turn_text}
@@ -249,7 +250,7 @@ begun_so run holds (Some out) opening names was by_name (held, holds_so, inr (re
             r.rest,
             was.machine,
             r.held_is ∙ ap (λ (o : Store). head_for o names ++ r.text) at,
-            subst (λ (es : List Entry). IsRemade r.text calls.opening None es was.machine r.rest) (sym earlier) (subst (λ (o : Store). IsRemade r.text o None was.history was.machine r.rest) at r.remade),
+            subst (λ (es : List Entry). IsRemade (session_limit (length names)) r.text calls.opening None es was.machine r.rest) (sym earlier) (subst (λ (o : Store). IsRemade (session_limit (length names)) r.text o None was.history was.machine r.rest) at r.remade),
           ),
         ),
       );

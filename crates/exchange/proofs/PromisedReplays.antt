@@ -17,6 +17,7 @@ use Rattle.plan_answers.specs.Refusals.{Printed}
 use Rattle.plan_answers.specs.declared.limits.TheConstants.{DONE, REFUSED}
 use Rattle.refusals.specs.declared.refusal.Refusal.TheVariants.{RecordHead}
 use Rattle.record_replay.specs.ReplayAnswers.{of_record, IsReplayAnswer, IsShapeOf, led, no_head, other_head, rack_wrong, record_wrong, replayed}
+use Rattle.record_replay.specs.Replays.{IsRemade}
 use Rattle.record_replay.specs.declared.answering.Torn.{Torn}
 use Rattle.record_replay.specs.declared.fault.RecordError.{RecordError}
 
@@ -27,7 +28,7 @@ shaped (Some words) recorded text extent of denotes = subst (λ (t : List ℕ). 
 
 replayed_so : (run : Run) (shape : Option Text) (recorded : Text) (image : Option Text) (first : Option ℕ) (text : List ℕ) (bytes : Option (List ℕ)) (printed : Printed) (told : Option RecordError) (torn : Option Torn)
     → run.holds recorded text → HoldsGiven run.holds image bytes → run.prints printed.text → printed.status ≡ DONE → IsReplayAnswer shape text bytes first printed told torn → HasReplayed run shape recorded image first
-replayed_so run shape recorded image first text bytes printed told torn held held_image prints status (replayed words body opening of rack on (led es end rest remade image_is done none so)) = record {
+replayed_so run shape recorded image first text bytes printed told torn held held_image prints status (replayed words body opening limit of rack on (led es end rest remade image_is done none so)) = record {
   extent = rack.extent;
   opening = opening;
   text = text;
@@ -40,17 +41,17 @@ replayed_so run shape recorded image first text bytes printed told torn held hel
   shaped = shaped shape text words rack.extent of rack.shape_read;
   opens = opens run image bytes rack.extent opening held_image rack.words;
   head = on.head;
-  right = remade;
+  right = subst (λ (n : ℕ). IsRemade n body opening first es end rest) on.limited remade;
   prints = subst run.prints image_is prints;
 }
-replayed_so run shape recorded image first text bytes printed told torn held held_image prints status (replayed words body opening of rack on (record_wrong error said wrong behind refuses so none)) = absurd (never_done printed.status refuses.1.status status)
+replayed_so run shape recorded image first text bytes printed told torn held held_image prints status (replayed words body opening limit of rack on (record_wrong error said wrong behind refuses so none)) = absurd (never_done printed.status refuses.1.status status)
 replayed_so run shape recorded image first text bytes printed told torn held held_image prints status (no_head none begins refuses) = absurd (never_done printed.status refuses.refuses.1.status status)
 replayed_so run shape recorded image first text bytes printed told torn held held_image prints status (rack_wrong words refusal of wrong refuses so none) = absurd (never_done printed.status refuses.1.status status)
 replayed_so run shape recorded image first text bytes printed told torn held held_image prints status (other_head words opening of rack other refuses) = absurd (never_done printed.status refuses.refuses.1.status status)
 
 refused_so : (run : Run) (shape : Option Text) (first : Option ℕ) (text : List ℕ) (bytes : Option (List ℕ)) (printed : Printed) (told : Option RecordError) (torn : Option Torn) → run.prints printed.text → printed.status ≡ REFUSED → IsReplayAnswer shape text bytes first printed told torn → HasPrintedRefusal run
-refused_so run shape first text bytes printed told torn prints status (replayed words body opening of rack on (led es end rest remade image_is done none so)) = absurd (done_is printed.status done status)
-refused_so run shape first text bytes printed told torn prints status (replayed words body opening of rack on (record_wrong error said wrong behind refuses so none)) = (of_record error.fault, subst run.prints refuses.1.line prints)
+refused_so run shape first text bytes printed told torn prints status (replayed words body opening limit of rack on (led es end rest remade image_is done none so)) = absurd (done_is printed.status done status)
+refused_so run shape first text bytes printed told torn prints status (replayed words body opening limit of rack on (record_wrong error said wrong behind refuses so none)) = (of_record error.fault, subst run.prints refuses.1.line prints)
 refused_so run shape first text bytes printed told torn prints status (no_head none begins refuses) = (RecordHead, subst run.prints refuses.refuses.1.line prints)
 refused_so run shape first text bytes printed told torn prints status (rack_wrong words refusal of wrong refuses so none) = (refusal, subst run.prints refuses.1.line prints)
 refused_so run shape first text bytes printed told torn prints status (other_head words opening of rack other refuses) = (RecordHead, subst run.prints refuses.refuses.1.line prints)

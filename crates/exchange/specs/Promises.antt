@@ -115,7 +115,7 @@ use Rattle.named_files.specs.declared.outputs.Receipts.{Receipts}
 use Rattle.kept_sessions.specs.Records.{head_for}
 use Rattle.book_record.specs.Fronts.{end_line}
 use Rattle.book_record.specs.RecordText.{entry_text}
-use Rattle.book_record.specs.Heads.{IsHeadOf}
+use Rattle.book_record.specs.Heads.{IsHeadOf, session_limit}
 use Rattle.record_replay.specs.Replays.{IsRemade}
 use Rattle.exchange.specs.declared.limits.TheConstants.{MISUSED, UNWRITTEN}
 use Rattle.named_files.specs.Notes.{IsToldInPart}
@@ -870,19 +870,20 @@ abbrev pub clients_of : (Text → Option (List ℕ)) → (Text → List ℕ) →
 clients_of comes had ends = record { comes = comes; had = had; ends = ends }
 
 -- Sessions begin with no calls, where the file of their record held but a part of its head; or, where
--- they are to go on, with those that stood there whole.
-abbrev pub FollowsFrom : Bool → (head held : List ℕ) → Calls → Type 0
-FollowsFrom resumes head held calls =
+-- they are to go on, with those that stood there whole, of sessions below the limit.
+abbrev pub FollowsFrom : Bool → (limit : ℕ) → (head held : List ℕ) → Calls → Type 0
+FollowsFrom resumes limit head held calls =
     ((calls.earlier ≡ []) × ((missing : List ℕ) × (head ≡ held ++ missing)))
     ⊎ ((resumes ≡ true) × ((text rest : List ℕ) × (end : Machine) × (held ≡ head ++ text)
-    × IsRemade text calls.opening None calls.earlier end rest))
+    × IsRemade limit text calls.opening None calls.earlier end rest))
 
 -- the same of the file for a record; without one they begin with none, and all are told
 abbrev pub GoesOnFrom : Run → Option RecordFile → List Text → Calls → Type 0
 GoesOnFrom run None names calls = (calls.earlier ≡ []) × (calls.untold ≡ [])
 GoesOnFrom run (Some out) names calls =
     (held : List ℕ) × run.holds out.name held
-    × FollowsFrom out.resumes (head_for calls.opening names) held calls
+    × FollowsFrom out.resumes (session_limit (length names)) (head_for calls.opening names) held
+    calls
 
 -- a client's session at a host, and how it ended
 pub record Hosted : Type 0 where
@@ -974,7 +975,7 @@ pub record HasReplayed (run : Run) (shape : Option Text) (recorded : Text) (imag
   pub shaped : IfSome shape (λ words. DenotesShape words extent)
   pub opens : OpensWith run image extent opening
   pub head : IsHeadOf opening names text body
-  pub right : IsRemade body opening first history left rest
+  pub right : IsRemade (session_limit (length names)) body opening first history left rest
   pub prints : run.prints (image_of left.store)
 
 -- at status 1 no image is printed
