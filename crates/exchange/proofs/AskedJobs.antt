@@ -1,5 +1,5 @@
 -- How a job ends that the arguments ask for.
-use Rattle.std.proofs.Common.{◌≡◌, ◌∙◌, ◌++◌, ℕ, List, [], Option, inl, inr, ◌⊎◌, refl, sym, subst, ap, Result, Ok, Err, arith}
+use Rattle.std.proofs.Common.{◌≡◌, ◌≤◌, ◌∙◌, ◌++◌, ℕ, zero, suc, List, [], Option, inl, inr, ◌⊎◌, refl, sym, subst, ap, Result, Ok, Err, arith}
 use Rattle.std.specs.Prelude.{IfOk, ⊤}
 use Rattle.std.specs.Io.KnownBytes.{Appends}
 use Rattle.clap.specs.Words.{Text}
@@ -267,16 +267,28 @@ kept C P (Err error) words named keeps none given streams code so unwritten is =
 kept C P (Ok w) words named keeps none given streams code so unwritten (inl cut) = unwritten w cut.0 cut.1
 kept C P (Ok w) words named keeps none given streams code so unwritten (inr ends) = so w ends
 
--- then all was written
-pub all_written : (e : Ended) → EndsSo e → e.code ≡ UNWRITTEN → ⊥
-all_written e (Ok request, has, wrong, done) unwritten = elim (of_response e.named e.given request.job done.0 done.1) [
-  | inl zero ↦ let status = done.3.status in omega (arith, zero, status, unwritten)
-  | inr one ↦ let status = done.3.status in omega (arith, one, status, unwritten)
+-- then all was written, and the status is that of an end
+below : (e : Ended) → EndsSo e → UNWRITTEN ≤ e.code → ⊥
+below e (Ok request, has, wrong, done) most = elim (of_response e.named e.given request.job done.0 done.1) [
+  | inl zero ↦ let status = done.3.status in omega (arith, zero, status, most)
+  | inr one ↦ let status = done.3.status in omega (arith, one, status, most)
 ]
-all_written e (Err NoMemory, has, wrong, none) unwritten = let status = none.1.0.status in omega (arith, status, unwritten)
-all_written e (Err (Clap error), has, wrong, none) unwritten =
-    let misused = none.1.1 (λ help. let done = (none.1.0 help).0 in omega (arith, done, unwritten)) in
-    let status = misused.0 in omega (arith, status, unwritten)
+below e (Err NoMemory, has, wrong, none) most = let status = none.1.0.status in omega (arith, status, most)
+below e (Err (Clap error), has, wrong, none) most =
+    let misused = none.1.1 (λ help. let done = (none.1.0 help).0 in omega (arith, done, most)) in
+    let status = misused.0 in omega (arith, status, most)
+
+pub all_written : (e : Ended) → EndsSo e → e.code ≡ UNWRITTEN → ⊥
+all_written e is unwritten = below e is (omega (arith, unwritten))
+
+bounded : (code : ℕ) → (UNWRITTEN ≤ code → ⊥) → code ≤ UNWRITTEN
+bounded zero high = omega arith
+bounded (suc zero) high = omega arith
+bounded (suc (suc zero)) high = omega arith
+bounded (suc (suc (suc n))) high = absurd (high (omega arith))
+
+pub ends_well : (e : Ended) → EndsSo e → e.code ≤ UNWRITTEN
+ends_well e is = bounded e.code (below e is)
 
 -- nothing is promised so where not all could be written
 pub not_done : (run : Run) (job : Job) → run.status ≡ UNWRITTEN → HasDone run job → ⊥

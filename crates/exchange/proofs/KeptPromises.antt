@@ -12,7 +12,7 @@ use Rattle.command_words.specs.declared.jobs.RecordFile.{RecordFile}
 use Rattle.command_words.specs.declared.jobs.SharedRack.{SharedRack}
 use Rattle.command_words.specs.declared.uses.Access.TheVariants.{Read}
 use Rattle.drive_answers.specs.Ways.{Ways}
-use Rattle.exchange.proofs.AskedJobs.{Answers, Ended, EndsSo, KeepsSo, SessionsCome, all_written, asks_nothing, cut_ends, ended_run, sessions_come, text_ends}
+use Rattle.exchange.proofs.AskedJobs.{Answers, Ended, EndsSo, KeepsSo, SessionsCome, all_written, asks_nothing, cut_ends, ended_run, ends_well, sessions_come, text_ends}
 use Rattle.exchange.proofs.HeldFiles.{alone, earlier, held_files, pass}
 use Rattle.exchange.proofs.OneRequest.{one_request}
 use Rattle.exchange.proofs.PromisedSessions.{AreCallsOf}
@@ -130,6 +130,7 @@ keeps_promises e after received receipts comes had endings known ports so none i
     let come = sessions_come e received receipts (ends_of endings) so (λ n. ((none n).0, (none n).2)) is in
     record {
       one = one_request e.words;
+      ends = ends_well e is;
       plans = keeps_plans _ all;
       checks = keeps_checks _ all;
       runs = keeps_runs _ all;
@@ -159,6 +160,7 @@ keeps_in_part words named left given out_before out_after code after received re
     let cut = cut_ends received receipts (ends_of endings) words named left given out_before out_after so none is in
     record {
       one = one_request words;
+      ends = omega (arith, unwritten);
       plans = no_plans _ unwritten;
       checks = no_checks _ unwritten;
       runs = no_runs _ unwritten;

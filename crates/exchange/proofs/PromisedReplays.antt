@@ -40,6 +40,7 @@ replayed_so run shape recorded image first text bytes printed told torn held hel
   held = held;
   shaped = shaped shape text words rack.extent of rack.shape_read;
   opens = opens run image bytes rack.extent opening held_image rack.words;
+  are = on.are;
   head = on.head;
   right = subst (λ (n : ℕ). IsRemade n body opening first es end rest) on.limited remade;
   prints = subst run.prints image_is prints;

@@ -159,6 +159,7 @@ ordered run batch from only text other printed held held_schedule prints status 
       settings = settings;
       orders = orders_of transfers settings;
       printed = orders_text (told_to only (orders_of transfers settings));
+      are = refl;
       held = record { text = text; held = held; denotes = reads };
       apart = apart;
       schedule = schedule;

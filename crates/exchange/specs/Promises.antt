@@ -36,7 +36,7 @@ use Rattle.module_memory.specs.Images.{HasImage, image_of}
 use Rattle.module_memory.specs.Mark.{IsMarked}
 use Rattle.module_memory.specs.Store.{IsWhole, Store, zeros_of}
 use Rattle.module_orders.specs.Obeying.{AreObeyed}
-use Rattle.module_orders.specs.Orders.{RackTold, told_to}
+use Rattle.module_orders.specs.Orders.{RackTold, orders_of, told_to}
 use Rattle.module_orders.specs.OrdersText.{Tells}
 use Rattle.move_directions.specs.declared.moves.Move.{Move}
 use Rattle.move_directions.specs.Directions.{NoneIsShorter}
@@ -115,7 +115,7 @@ use Rattle.named_files.specs.declared.outputs.Receipts.{Receipts}
 use Rattle.kept_sessions.specs.Records.{head_for}
 use Rattle.book_record.specs.Fronts.{end_line}
 use Rattle.book_record.specs.RecordText.{entry_text}
-use Rattle.book_record.specs.Heads.{IsHeadOf, session_limit}
+use Rattle.book_record.specs.Heads.{AreNames, IsHeadOf, session_limit}
 use Rattle.record_replay.specs.Replays.{IsRemade}
 use Rattle.exchange.specs.declared.limits.TheConstants.{MISUSED, UNWRITTEN}
 use Rattle.named_files.specs.Notes.{IsToldInPart}
@@ -414,14 +414,16 @@ ObeyedIsMoved told batch settings =
     (opening left : Store) → IsWhole opening → FitsIn opening.shape batch
     → AreObeyed told batch settings opening left → IsPlaced opening batch left
 
--- The file held a batch, of which no two transfers write one block. Printed was the text of such
+-- The file held a batch, of which no two transfers write one block. Printed was the text of the
 -- orders for a schedule, and nothing else: those of all modules that have some, or of one alone.
+-- Modules that obey them move the batch.
 pub record HasOrdered (run : Run) (batch : Text) (scheduled : Source Text) (only : Option ℕ)
     : Type 0 where
   pub transfers : List Transfer
   pub settings : List (List ℕ)
   pub orders : RackTold
   pub printed : List ℕ
+  pub are : orders ≡ orders_of transfers settings
   pub held : HoldsBatch run batch transfers
   pub apart : IsApart transfers
   pub schedule : IsScheduled run scheduled transfers settings
@@ -974,6 +976,7 @@ pub record HasReplayed (run : Run) (shape : Option Text) (recorded : Text) (imag
   pub held : run.holds recorded text
   pub shaped : IfSome shape (λ words. DenotesShape words extent)
   pub opens : OpensWith run image extent opening
+  pub are : AreNames names (length names)
   pub head : IsHeadOf opening names text body
   pub right : IsRemade (session_limit (length names)) body opening first history left rest
   pub prints : run.prints (image_of left.store)
@@ -1128,11 +1131,13 @@ KeepsMisuse run =
 
 -- ---- all promises
 
--- A run of the program keeps them: it, and where a front was printed; the ways to ports before it and
--- behind it; the files of a record and of an image; and live clients.
+-- A run of the program keeps them, and its status is 3 at most: it, and where a front was printed;
+-- the ways to ports before it and behind it; the files of a record and of an image; and live
+-- clients.
 pub record KeepsPromises (run : Run) (fronts : ℕ → Run) (before after : Ways) (kept : Kept)
     (clients : Clients) : Type 0 where
   pub one : AskForOne run.words
+  pub ends : run.status ≤ UNWRITTEN
   pub plans : KeepsPlans run
   pub checks : KeepsChecks run
   pub runs : KeepsRuns run
