@@ -149,7 +149,7 @@ pub sessions_come : {C : Type 0} (e : Ended) (received : C → Closed) (receipts
     → EndsSo e → SessionsCome e.named e.given received receipts ends (λ lost. lost ≡ lost_none) (ended_run e)
 sessions_come {C} e received receipts ends so none_so is request has asks = elim (end_of e request asks is) [
   | inl done ↦ inl (lost_none, refl, record { response = done.0; is = done.1; kept = (so request.job done.0 done.2).0; ends_are = (so request.job done.0 done.2).1; prints = done.3.text; status = done.3.status })
-  | inr gives_up ↦ inr (record { prints = gives_up.1.text; status = gives_up.1.status; image = ap (λ (r : Receipts C). r.image) (none_so gives_up.0).0; none_ended = (none_so gives_up.0).1 })
+  | inr gives_up ↦ inr (record { prints = gives_up.1.text; status = gives_up.1.status; recorded = ap (λ (r : Receipts C). r.recorded) (none_so gives_up.0).0; image = ap (λ (r : Receipts C). r.image) (none_so gives_up.0).0; none_ended = (none_so gives_up.0).1 })
 ]
 
 -- ---- where the arguments ask for nothing
@@ -249,7 +249,7 @@ module _ {C : Type 0} (received : C → Closed) (receipts : Receipts C) (ends : 
     status = REFUSED;
     either = inr refl;
     texts = λ job texts asks. inr (why.NoMemory, none.1, refl);
-    sessions = λ request sessions asks. inr (record { prints = none.1; status = refl; image = ap (λ (r : Receipts C). r.image) (none_so none.0).0; none_ended = (none_so none.0).1 });
+    sessions = λ request sessions asks. inr (record { prints = none.1; status = refl; recorded = ap (λ (r : Receipts C). r.recorded) (none_so none.0).0; image = ap (λ (r : Receipts C). r.image) (none_so none.0).0; none_ended = (none_so none.0).1 });
   }
   cut_ends (Err (Clap error), has, wrong, none) = record {
     status = REFUSED;

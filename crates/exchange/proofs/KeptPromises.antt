@@ -26,7 +26,7 @@ use Rattle.exchange.proofs.PromisedReplies.{keeps_replies, no_replies}
 use Rattle.exchange.proofs.PromisedRuns.{keeps_images, keeps_runs, no_images, no_runs}
 use Rattle.exchange.proofs.PromisedSwitches.{keeps_orders, keeps_switches, no_orders, no_switches}
 use Rattle.exchange.specs.Ends.{IsCutFor, Leaving}
-use Rattle.exchange.specs.Promises.{AreKept, AreKeptInPart, AreToldKept, Calls, HoldsText, KeepsClients, KeepsPromises, KeepsScripts, KeepsTalks, KeepsTexts, Run, clients_of, front_of, kept_by, run_of}
+use Rattle.exchange.specs.Promises.{AreKept, AreKeptInPart, AreToldKept, Calls, HoldsText, IsAsItWas, IsEmpty, KeepsClients, KeepsPromises, KeepsScripts, KeepsTalks, KeepsTexts, Run, clients_of, front_of, kept_by, run_of}
 use Rattle.exchange.specs.Responses.{Given, Named, Response}
 use Rattle.exchange.specs.declared.limits.TheConstants.{UNWRITTEN}
 use Rattle.kept_sessions.specs.Keeping.{AreLiveKept, AreWritten}
@@ -92,7 +92,7 @@ module _ {C : Type 0} (received : C → Closed) (receipts : Receipts C) (comes :
     scripts_kept : (keeps : SharedRack → List Text → Calls → Type 0) → ((lost : Lost) → may lost → (rack : SharedRack) (book : Account) (calls : Calls) → AreCallsOf calls book → AreWritten received (recorded_in rack) rack.image_out [] book receipts lost → keeps rack [] calls) → KeepsScripts The (kept_by received receipts) keeps
     scripts_kept keeps keep rack scripts workers asks written = elim (come (record { job = Serve rack scripts workers; is_quiet = asks.0 }) tt asks.1) [
       | inl c ↦ scripts_come received receipts c.0 The rack scripts (keeps rack []) (keep c.0 c.1 rack) named given (ends_of endings) workers (λ files rest reads. held_files words (record { job = Serve rack scripts workers; is_quiet = asks.0 }) named.holds given.input files rest asks.1 reads) c.2
-      | inr none ↦ inr (none_begun received receipts (ends_of endings) The none)
+      | inr none ↦ inr (none_begun received receipts (ends_of endings) The IsEmpty tt none)
     ]
 
     abbrev LiveKeeps : (SharedRack → List Text → Calls → Type 0) → Type 0
@@ -102,7 +102,7 @@ module _ {C : Type 0} (received : C → Closed) (receipts : Receipts C) (comes :
     clients_kept keeps keep rack names workers asks written = elim (come (record { job = Host rack names workers; is_quiet = asks.0 }) tt asks.1) [
       | inl c ↦ clients_come received receipts c.0 named given The rack names (keeps rack names) (keep c.0 c.1 rack names) (λ out text is holds. (λ input. absurd (host_named rack names workers words asks.0 asks.1 out is input), λ other. holds)) comes had endings workers (ap (λ clients. clients names) known)
           (λ files rest reads. held_files words (record { job = Host rack names workers; is_quiet = asks.0 }) named.holds given.input files rest asks.1 reads) c.2
-      | inr none ↦ inr (none_begun received receipts (ends_of endings) The none, none_ended endings none.none_ended)
+      | inr none ↦ inr (none_begun received receipts (ends_of endings) The (IsAsItWas The rack.record_out names) tt none, none_ended endings none.none_ended)
     ]
 
     talks_kept : (keeps : SharedRack → List Text → Calls → Type 0) → LiveKeeps keeps → KeepsTalks The (kept_by received receipts) keeps
@@ -110,7 +110,7 @@ module _ {C : Type 0} (received : C → Closed) (receipts : Receipts C) (comes :
       | inl c ↦ talk_comes received receipts c.0 named given The rack (keeps rack []) (keep c.0 c.1 rack []) (λ out text is holds. (λ input. absurd (talk_named rack words asks.0 asks.1 out is input), λ other. holds)) (ends_of endings)
           (λ rest files reads came is. (λ same. known_came given.input came (subst (λ (o : Option (List ℕ)). IfSome o (λ text. text ≡ came)) (talk_reads named.holds given.input rack words asks.0 asks.1 files rest reads) is), λ other. absurd (other refl)))
           (λ files rest reads. held_files words (record { job = Talk rack; is_quiet = asks.0 }) named.holds given.input files rest asks.1 reads) c.2
-      | inr none ↦ inr (none_begun received receipts (ends_of endings) The none)
+      | inr none ↦ inr (none_begun received receipts (ends_of endings) The (IsAsItWas The rack.record_out []) tt none)
     ]
 
 live_whole : {C : Type 0} (received : C → Closed) (receipts : Receipts C) (holds : Holding) (lost : Lost) → lost ≡ lost_none → (rack : SharedRack) (names : List Text) (book : Account) (calls : Calls) → AreCallsOf calls book → AreLiveKept holds received rack names (Some book) receipts lost → AreKept (kept_by received receipts) rack names calls

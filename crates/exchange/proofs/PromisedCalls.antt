@@ -26,11 +26,11 @@ use Rattle.command_words.specs.declared.uses.Access.TheVariants.{Write}
 use Rattle.command_words.specs.declared.uses.FileUse.{FileUse}
 use Rattle.exchange.proofs.PromisedSessions.{AreCallsOf, HasOwn, all_are_told, all_sessions, are_calls, calls_of, in_order, one_session, opens, shape_of}
 use Rattle.exchange.specs.Keeping.{AreKeptBut}
-use Rattle.exchange.specs.Promises.{AreHeld, AreAllHeld, AreKept, AreKeptInPart, AreToldKept, Calls, GoesOnFrom, HasHosted, HasRefusedSessions, HasServed, HasTalked, HoldsGiven, Hosted, IsBegun, IsHosted, IsKept, IsKeptInPart, IsSessionOf, IsUnput, Run, Session, calls_told, clients_of, hosted_text, kept_by, name_at, record_of, whole_record}
+use Rattle.exchange.specs.Promises.{AreHeld, AreAllHeld, AreKept, AreKeptInPart, AreToldKept, Calls, GoesOnFrom, HasHosted, HasRefusedSessions, HasServed, HasTalked, HoldsGiven, Hosted, IsAsItWas, IsBegun, IsEmpty, IsHosted, IsKept, IsKeptInPart, IsSessionOf, IsUnput, Run, Session, calls_told, clients_of, hosted_text, kept_by, name_at, record_of, whole_record}
 use Rattle.exchange.specs.Responses.{Given, IsResponseTo, Named, Response}
 use Rattle.kept_sessions.specs.Answers.{IsLiveAnswer, hosting, loses, talking}
 use Rattle.kept_sessions.specs.Keeping.{AreLiveKept, AreScriptsKept, AreWritten, HasAllTold}
-use Rattle.kept_sessions.specs.Records.{BeginsFor, head_for, whole_record as whole_of}
+use Rattle.kept_sessions.specs.Records.{BeginsFor, IsAsBegun, head_for, whole_record as whole_of}
 use Rattle.module_memory.specs.Images.{image_of}
 use Rattle.module_memory.specs.Store.{Store}
 use Rattle.named_files.specs.Clients.{clients_by, ends_of}
@@ -130,26 +130,48 @@ pub record Comes {C : Type 0} (named : Named) (given : Given) (received : C → 
 pub record HasNone {C : Type 0} (receipts : Receipts C) (ends : List SessionEnd) (run : Run) : Type 0 where
   pub prints : run.prints (refusal_line NoMemory)
   pub status : run.status ≡ REFUSED
+  pub recorded : receipts.recorded ≡ None
   pub image : receipts.image ≡ None
   pub none_ended : ends ≡ []
 
 unput_none : {C : Type 0} (received : C → Closed) (receipts : Receipts C) → receipts.image ≡ None → IsUnput (kept_by received receipts).image
 unput_none received receipts none = subst (λ r. IsUnput (option_map received r)) (sym none) tt
 
-pub none_begun : {C : Type 0} (received : C → Closed) (receipts : Receipts C) (ends : List SessionEnd) (run : Run) → HasNone receipts ends run → HasRefusedSessions run (kept_by received receipts)
-none_begun received receipts ends run none = record { status = none.status; refuses = (NoMemory, none.prints); unput = unput_none received receipts none.image }
+pub none_begun : {C : Type 0} (received : C → Closed) (receipts : Receipts C) (ends : List SessionEnd) (run : Run) (is_left : Option Closed → Type 0) → is_left None → HasNone receipts ends run → HasRefusedSessions run (kept_by received receipts) is_left
+none_begun {C} received receipts ends run is_left none_left none = record {
+  status = none.status;
+  refuses = (NoMemory, none.prints);
+  recorded = subst (λ (r : Option C). is_left (option_map received r)) (sym none.recorded) none_left;
+  unput = unput_none received receipts none.image;
+}
+
+-- what is left of the file for a record then
+is_empty : {C : Type 0} (received : C → Closed) (name : Option Text) (receipt : Option C) → HasNothingGone received name receipt → IsEmpty (option_map received receipt)
+is_empty received name None gone = tt
+is_empty received name (Some receipt) gone = (ap (λ (c : Closed). c.bytes) gone.1, ap (λ (c : Closed). c.stands) gone.1)
+
+as_it_was : {C : Type 0} (holds : Holding) (received : C → Closed) (record_out : Option RecordFile) (names : List Text) (receipt : Option C) (run : Run) → ((out : RecordFile) (text : List ℕ) → record_out ≡ Some out → holds out.name text → run.holds out.name text)
+    → IsAsBegun holds received record_out names receipt → IsAsItWas run record_out names (option_map received receipt)
+as_it_was holds received record_out names None run by_name is = tt
+as_it_was holds received None names (Some receipt) run by_name is = absurd is
+as_it_was holds received (Some out) names (Some receipt) run by_name (held, text, holds_so, so, begins) =
+    (held, text, by_name out held refl holds_so, ap (λ (c : Closed). c.bytes) so, begins)
 
 -- a refusal was printed
-refused_so : {C : Type 0} (received : C → Closed) (receipts : Receipts C) (name : Option Text) (run : Run) (refusal : Refusal) (printed : Printed) → Refuses refusal printed → run.prints printed.text → run.status ≡ printed.status → HasNothingGone received name receipts.image → HasRefusedSessions run (kept_by received receipts)
-refused_so received receipts name run refusal printed refuses prints status gone = record {
+refused_so : {C : Type 0} (received : C → Closed) (receipts : Receipts C) (name : Option Text) (run : Run) (is_left : Option Closed → Type 0) (refusal : Refusal) (printed : Printed) → Refuses refusal printed → run.prints printed.text → run.status ≡ printed.status → is_left (option_map received receipts.recorded) → HasNothingGone received name receipts.image
+    → HasRefusedSessions run (kept_by received receipts) is_left
+refused_so received receipts name run is_left refusal printed refuses prints status left gone = record {
+  recorded = left;
   status = status ∙ refuses.1.status;
   refuses = (refusal, subst run.prints refuses.1.line prints);
   unput = unput received name receipts.image gone;
 }
 
 -- there was no answer
-unanswered_so : {C : Type 0} (received : C → Closed) (receipts : Receipts C) (name : Option Text) (run : Run) (told : List ℕ) (printed : Printed) (why : Unanswered) → told ≡ [] → printed ≡ unanswered why → run.prints (told ++ printed.text) → run.status ≡ printed.status → HasNothingGone received name receipts.image → HasRefusedSessions run (kept_by received receipts)
-unanswered_so received receipts name run told printed why none is prints status gone = record {
+unanswered_so : {C : Type 0} (received : C → Closed) (receipts : Receipts C) (name : Option Text) (run : Run) (is_left : Option Closed → Type 0) (told : List ℕ) (printed : Printed) (why : Unanswered) → told ≡ [] → printed ≡ unanswered why → run.prints (told ++ printed.text) → run.status ≡ printed.status → is_left (option_map received receipts.recorded) → HasNothingGone received name receipts.image
+    → HasRefusedSessions run (kept_by received receipts) is_left
+unanswered_so received receipts name run is_left told printed why none is prints status left gone = record {
+  recorded = left;
   status = status ∙ ap (λ (p : Printed). p.status) is;
   refuses = (refusal_of why, subst (λ (p : Printed). run.prints p.text) is (subst (λ (x : List ℕ). run.prints (x ++ printed.text)) none prints));
   unput = unput received name receipts.image gone;
@@ -161,10 +183,10 @@ module _ {C : Type 0} (received : C → Closed) (receipts : Receipts C) (lost : 
     (keep : (book : Account) (calls : Calls) → AreCallsOf calls book → AreWritten received (recorded_in rack) rack.image_out [] book receipts lost → keeps calls) where
   served_so : (bytes : Option (List ℕ)) (texts : List (List ℕ)) (printed : Printed) (left : Option Account)
       → HoldsGiven run.holds rack.image bytes → AreAllHeld run.holds scripts texts → run.prints printed.text → run.status ≡ printed.status → AreScriptsKept received (recorded_in rack) rack.image_out left receipts lost → IsServeAnswer rack.shape bytes texts printed left
-      → HasServed run rack scripts keeps ⊎ HasRefusedSessions run (kept_by received receipts)
+      → HasServed run rack scripts keeps ⊎ HasRefusedSessions run (kept_by received receipts) IsEmpty
   served_so bytes texts printed left held_image held prints status kept (refused refusal wrong refuses none) =
       let gone = subst (λ (l : Option Account). AreScriptsKept received (recorded_in rack) rack.image_out l receipts lost) none kept in
-      inr (refused_so received receipts rack.image_out run refusal printed refuses prints status gone.1)
+      inr (refused_so received receipts rack.image_out run IsEmpty refusal printed refuses prints status (is_empty received (recorded_in rack) receipts.recorded gone.0) gone.1)
   served_so bytes texts printed left held_image held prints status kept (served opening of_rack (sessions, of, book, is_left, few, closing)) =
       let one = closing.one in
       let b = beginning false (new_account opening) in
@@ -191,17 +213,17 @@ module _ {C : Type 0} (received : C → Closed) (receipts : Receipts C) (lost : 
 
   pub scripts_come : (named : Named) (given : Given) (ends : List SessionEnd) (workers : ℕ)
       → ((files : Files (List ℕ)) (rest : Option (List ℕ)) → AreContents named.holds given.input (files_of (Serve rack scripts workers)) files rest → AreHeld run.holds (files_of (Serve rack scripts workers)) files)
-      → Comes named given received receipts ends run (Serve rack scripts workers) lost → HasServed run rack scripts keeps ⊎ HasRefusedSessions run (kept_by received receipts)
+      → Comes named given received receipts ends run (Serve rack scripts workers) lost → HasServed run rack scripts keeps ⊎ HasRefusedSessions run (kept_by received receipts) IsEmpty
   scripts_come named given ends workers held c = by c.is
     where
-      by : IsResponseTo named given (Serve rack scripts workers) c.response → HasServed run rack scripts keeps ⊎ HasRefusedSessions run (kept_by received receipts)
+      by : IsResponseTo named given (Serve rack scripts workers) c.response → HasServed run rack scripts keeps ⊎ HasRefusedSessions run (kept_by received receipts) IsEmpty
       by (inl comes) =
           let is = comes.1 in
           let h = held is.0 is.1 is.2 in
           served_so is.0.image is.0.scripts c.response.end c.response.left h.image h.scripts (subst (λ (x : List ℕ). run.prints (x ++ c.response.end.text)) is.3.0 c.prints) c.status c.kept is.3.1
       by (inr none) =
           let gone = subst (λ (l : Option Account). AreScriptsKept received (recorded_in rack) rack.image_out l receipts lost) none.3 c.kept in
-          inr (unanswered_so received receipts rack.image_out run c.response.told c.response.end none.4.0 none.0 none.4.1 c.prints c.status gone.1)
+          inr (unanswered_so received receipts rack.image_out run IsEmpty c.response.told c.response.end none.4.0 none.0 none.4.1 c.prints c.status (is_empty received (recorded_in rack) receipts.recorded gone.0) gone.1)
 
 -- ---- live sessions
 
@@ -363,12 +385,12 @@ module _ {C : Type 0} (received : C → Closed) (receipts : Receipts C) (lost : 
 
   module _ (comes : Text → Option (List ℕ)) (had : Text → List ℕ) (endings : List (Ending (List ℕ))) where
     abbrev HostedOr : Type 0
-    HostedOr = HasHosted run rack names (clients_of comes had endings) keeps ⊎ (HasRefusedSessions run (kept_by received receipts) × (endings ≡ []))
+    HostedOr = HasHosted run rack names (clients_of comes had endings) keeps ⊎ (HasRefusedSessions run (kept_by received receipts) (IsAsItWas run rack.record_out names) × (endings ≡ []))
 
     hosted_so : (bytes : Option (List ℕ)) (ends : List SessionEnd) (printed : Printed) (left : Option Account) → ends ≡ ends_of endings → HoldsGiven run.holds rack.image bytes → run.prints printed.text → run.status ≡ printed.status → AreLiveKept named.holds received rack names left receipts lost
         → IsLiveAnswer named.holds rack names bytes (hosting rack (clients_by comes had names) ends printed) printed left → HostedOr
     hosted_so bytes ends printed None same held prints status kept (unserved, (refusal, refuses, why)) =
-        inr (refused_so received receipts rack.image_out run refusal printed refuses prints status kept.1, none_ended endings (sym same ∙ unserved))
+        inr (refused_so received receipts rack.image_out run (IsAsItWas run rack.record_out names) refusal printed refuses prints status (as_it_was named.holds received rack.record_out names receipts.recorded run by_name kept.0) kept.1, none_ended endings (sym same ∙ unserved))
     hosted_so bytes ends printed (Some book) same held prints status kept (opening, of_rack, was, begins, (sessions, ended, of, closing)) =
         let one = closing.one in
         let b = beginning (loses rack) was in
@@ -405,7 +427,7 @@ module _ {C : Type 0} (received : C → Closed) (receipts : Receipts C) (lost : 
             (subst (λ (k : KnownClients). IsLiveAnswer named.holds rack names is.0.image (hosting rack k c.response.ends c.response.end) c.response.end c.response.left) known is.3.1)
         by (inr none) =
             let gone = subst (λ (l : Option Account). AreLiveKept named.holds received rack names l receipts lost) none.3 c.kept in
-            inr (unanswered_so received receipts rack.image_out run c.response.told c.response.end none.4.0 none.0 none.4.1 c.prints c.status gone.1, none_ended endings (sym c.ends_are ∙ none.2))
+            inr (unanswered_so received receipts rack.image_out run (IsAsItWas run rack.record_out names) c.response.told c.response.end none.4.0 none.0 none.4.1 c.prints c.status (as_it_was named.holds received rack.record_out names receipts.recorded run by_name gone.0) gone.1, none_ended endings (sym c.ends_are ∙ none.2))
 
 -- ---- `talk`
 
@@ -413,13 +435,13 @@ module _ {C : Type 0} (received : C → Closed) (receipts : Receipts C) (lost : 
     (keeps : Calls → Type 0) (keep : (book : Account) (calls : Calls) → AreCallsOf calls book → AreLiveKept named.holds received rack [] (Some book) receipts lost → keeps calls)
     (by_name : (out : RecordFile) (text : List ℕ) → rack.record_out ≡ Some out → named.holds out.name text → run.holds out.name text) where
   abbrev TalkedOr : Type 0
-  TalkedOr = HasTalked run rack keeps ⊎ HasRefusedSessions run (kept_by received receipts)
+  TalkedOr = HasTalked run rack keeps ⊎ HasRefusedSessions run (kept_by received receipts) (IsAsItWas run rack.record_out [])
 
   talked_so : (bytes : Option (List ℕ)) (before after : Option (List ℕ)) (told : List ℕ) (printed : Printed) (left : Option Account) → ((came : List ℕ) → IfSome before (λ text. text ≡ came) → run.holds input_name came)
       → HoldsGiven run.holds rack.image bytes → run.prints (told ++ printed.text) → run.status ≡ printed.status → AreLiveKept named.holds received rack [] left receipts lost
       → IsLiveAnswer named.holds rack [] bytes (talking rack before after told printed) printed left → TalkedOr
   talked_so bytes before after told printed None input held prints status kept (untouched, (refusal, refuses, why)) =
-      inr (refused_so received receipts rack.image_out run refusal printed refuses (subst (λ (x : List ℕ). run.prints (x ++ printed.text)) untouched.1 prints) status kept.1)
+      inr (refused_so received receipts rack.image_out run (IsAsItWas run rack.record_out []) refusal printed refuses (subst (λ (x : List ℕ). run.prints (x ++ printed.text)) untouched.1 prints) status (as_it_was named.holds received rack.record_out [] receipts.recorded run by_name kept.0) kept.1)
   talked_so bytes before after told printed (Some book) input held prints status kept (opening, of_rack, was, begins, (t, first, told_is, session, closing)) =
       let one = closing.one in
       let b = beginning (loses rack) was in
@@ -438,6 +460,7 @@ module _ {C : Type 0} (received : C → Closed) (receipts : Receipts C) (lost : 
         begins = record { shaped = of_rack.shape_read; opens = opens run rack.image bytes of_rack.extent was.opening held (subst (λ (o : Store). IsOfImageOrZeros of_rack.extent bytes o) (sym begun.is_opening) of_rack.words) };
         goes_on = begun.goes_on calls refl refl (all_are_told (loses rack) was.opening was.history parts book one);
         held = input came s.1.is.read;
+        number = s.1.number ∙ first;
         is = as_came of_rack.extent one.told before s.0 (subst (λ (e : Extent). IsSessionOf e one.told before s.0) extent_is s.1.is);
         order = in_order (loses rack) was.opening was.history parts book one (s.0 ∷ []) (ap (λ (es : List Entry). 0 + length es) s.1.own_are);
         status = status ∙ closing.status ∙ ap (λ (o : Option ServeFault). status_at (is_some o)) (sym s.1.fault);
@@ -457,4 +480,4 @@ module _ {C : Type 0} (received : C → Closed) (receipts : Receipts C) (lost : 
           talked_so is.0.image is.1 is.3.0 c.response.told c.response.end c.response.left (input is.1 is.0 is.2) h.image c.prints c.status c.kept is.3.1
       by (inr none) =
           let gone = subst (λ (l : Option Account). AreLiveKept named.holds received rack [] l receipts lost) none.3 c.kept in
-          inr (unanswered_so received receipts rack.image_out run c.response.told c.response.end none.4.0 none.0 none.4.1 c.prints c.status gone.1)
+          inr (unanswered_so received receipts rack.image_out run (IsAsItWas run rack.record_out []) c.response.told c.response.end none.4.0 none.0 none.4.1 c.prints c.status (as_it_was named.holds received rack.record_out [] receipts.recorded run by_name gone.0) gone.1)

@@ -2,7 +2,7 @@
 -- and ends with status 0, with 1, or with 3. The clause of the function `answer` is
 -- `KeepsPromises`, which stands last. It is proved of the contract of `respond`, which nobody has to
 -- read to know what it says.
-use Rattle.std.specs.Prelude.{false, true, ◌≡◌, ◌≢◌, ◌<◌, ◌≤◌, ◌+◌, ℕ, zero, suc, Bool, List, [], ◌∷◌, ◌++◌, ◌⊎◌, All, Option, Some, None, IfSome, ⊤, codes, if◌then◌else◌, is_some, length, map, option_map, slice_get, slice_index_or, sum_by}
+use Rattle.std.specs.Prelude.{false, true, ◌≡◌, ◌≢◌, ◌<◌, ◌≤◌, ◌+◌, ℕ, zero, suc, Bool, List, [], ◌∷◌, ◌++◌, ◌⊎◌, All, Option, Some, None, IfSome, MatchOption, ⊤, codes, if◌then◌else◌, is_some, length, map, option_map, slice_get, slice_index_or, sum_by}
 use Rattle.std.specs.Fmt.{decimal}
 use Rattle.std.specs.Io.KnownBytes.{Appends}
 use Rattle.std.specs.List.{AllByRecursion, flat_map, list_any, range_with_len}
@@ -112,7 +112,7 @@ use Rattle.client_session.specs.declared.fault.ServeFault.TheVariants.{Record, W
 use Rattle.command_words.specs.declared.jobs.RecordFile.{RecordFile}
 use Rattle.named_files.specs.Streams.{Closed, IsFrontOf}
 use Rattle.named_files.specs.declared.outputs.Receipts.{Receipts}
-use Rattle.kept_sessions.specs.Records.{head_for}
+use Rattle.kept_sessions.specs.Records.{IsBegun as BeginsRecord, head_for}
 use Rattle.book_record.specs.Fronts.{end_line}
 use Rattle.book_record.specs.RecordText.{entry_text}
 use Rattle.book_record.specs.Heads.{AreNames, IsHeadOf, session_limit}
@@ -844,18 +844,32 @@ pub record HasServed (run : Run) (rack : SharedRack) (scripts : List Text)
   pub prints : run.prints (flat_map told_text sessions)
   pub kept : keeps calls
 
--- No session began: printed was the one line of a refusal, or there was no answer. No image was put
--- in its place.
-pub record HasRefusedSessions (run : Run) (kept : Kept) : Type 0 where
+-- a file that was opened for the record of scripts is empty, and wasn't put in its place
+abbrev pub IsEmpty : Option Closed → Type 0
+IsEmpty file = IfSome file (λ file. (file.bytes ≡ Some []) × (file.stands ≡ false))
+
+-- The file that was opened for the record of live sessions holds what it held; or what a record may
+-- hold with which they began, and of which nobody was told more.
+abbrev pub IsAsItWas : Run → Option RecordFile → List Text → Option Closed → Type 0
+IsAsItWas run record_out names file =
+    IfSome file (λ file. MatchOption record_out ⊥ (λ out. (held text : List ℕ)
+    × run.holds out.name held × (file.bytes ≡ Some text)
+    × ((text ≡ held) ⊎ BeginsRecord out.resumes held names text)))
+
+-- No session began: printed was the one line of a refusal, or there was no answer. The file for a
+-- record was left so, and no image was put in its place.
+pub record HasRefusedSessions (run : Run) (kept : Kept) (is_left : Option Closed → Type 0)
+    : Type 0 where
   pub status : run.status ≡ REFUSED
   pub refuses : HasPrintedRefusal run
+  pub recorded : is_left kept.recorded
   pub unput : IsUnput kept.image
 
 abbrev pub KeepsScripts : Run → Kept → (SharedRack → List Text → Calls → Type 0) → Type 0
 KeepsScripts run kept keeps =
     (rack : SharedRack) (scripts : List Text) (workers : ℕ)
     → AsksFor run (Serve rack scripts workers) → run.status ≢ UNWRITTEN
-    → HasServed run rack scripts (keeps rack []) ⊎ HasRefusedSessions run kept
+    → HasServed run rack scripts (keeps rack []) ⊎ HasRefusedSessions run kept IsEmpty
 
 -- ---- live clients
 
@@ -934,7 +948,7 @@ KeepsClients run kept clients keeps =
     (rack : SharedRack) (names : List Text) (workers : ℕ) → AsksFor run (Host rack names workers)
     → run.status ≢ UNWRITTEN
     → HasHosted run rack names clients (keeps rack names)
-    ⊎ (HasRefusedSessions run kept × (clients.ends ≡ []))
+    ⊎ (HasRefusedSessions run kept (IsAsItWas run rack.record_out names) × (clients.ends ≡ []))
 
 -- The one client had a session with what comes of standard input. Printed was what it was told; and
 -- behind that, where a fault ended it, a line says so.
@@ -946,6 +960,7 @@ pub record HasTalked (run : Run) (rack : SharedRack) (keeps : Calls → Type 0) 
   pub begins : BeginsOn run rack extent calls.opening
   pub goes_on : GoesOnFrom run rack.record_out [] calls
   pub held : run.holds input_name came
+  pub number : its.number ≡ 0
   pub is : IsSessionOf extent calls.told (Some came) its
   pub order : HaveOneOrder calls (its ∷ [])
   pub status : run.status ≡ status_at (is_some its.fault)
@@ -955,7 +970,8 @@ pub record HasTalked (run : Run) (rack : SharedRack) (keeps : Calls → Type 0) 
 abbrev pub KeepsTalks : Run → Kept → (SharedRack → List Text → Calls → Type 0) → Type 0
 KeepsTalks run kept keeps =
     (rack : SharedRack) → AsksFor run (Talk rack) → run.status ≢ UNWRITTEN
-    → HasTalked run rack (keeps rack []) ⊎ HasRefusedSessions run kept
+    → HasTalked run rack (keeps rack [])
+    ⊎ HasRefusedSessions run kept (IsAsItWas run rack.record_out [])
 
 -- ---- `replay`
 
