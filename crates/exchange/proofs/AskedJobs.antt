@@ -157,7 +157,7 @@ sessions_come {C} e received receipts ends so none_so is request has asks = elim
 pub asks_nothing : (e : Ended) → EndsSo e → (request : Request) → AskFor e.words request → e.code ≡ MISUSED → ⊥
 asks_nothing e is request asks misused = elim (end_of e request asks is) [
   | inl done ↦ elim (of_response e.named e.given request.job done.0 done.1) [
-    | inl zero ↦ let status = done.3.status in omega (arith, zero, status, misused)
+    | inl well ↦ let status = done.3.status in omega (arith, well, status, misused)
     | inr one ↦ let status = done.3.status in omega (arith, one, status, misused)
   ]
   | inr gives_up ↦ let status = gives_up.1.status in omega (arith, status, misused)
@@ -270,7 +270,7 @@ kept C P (Ok w) words named keeps none given streams code so unwritten (inr ends
 -- then all was written, and the status is that of an end
 below : (e : Ended) → EndsSo e → UNWRITTEN ≤ e.code → ⊥
 below e (Ok request, has, wrong, done) most = elim (of_response e.named e.given request.job done.0 done.1) [
-  | inl zero ↦ let status = done.3.status in omega (arith, zero, status, most)
+  | inl well ↦ let status = done.3.status in omega (arith, well, status, most)
   | inr one ↦ let status = done.3.status in omega (arith, one, status, most)
 ]
 below e (Err NoMemory, has, wrong, none) most = let status = none.1.0.status in omega (arith, status, most)
