@@ -324,6 +324,15 @@ def cannot_lock():
     yield sorted(os.listdir(".")), ["amy.in", "amy.out", "left", "record"]
 
 
+def is_cut_without_threads():
+    """Where the system has no threads, a torn entry is cut off all the same, and that is said."""
+    write("amy.in")
+    write("record", "record 1x1x1 00040001 1\nclient amy\n0 po")
+    told = "exchange: record: cut off: 4 bytes from line 3 on\nexchange: the system has no thread for each client; try fewer clients\n"
+    yield ended_so("host 1x1x1 amy --record record --resume", REFUSE="T"), ("refused threads\n", told, 1)
+    yield os.path.getsize("record"), 35
+
+
 def is_moved_before_the_lock():
     """A file that another takes the place of between its opening and its lock isn't written, and a new file that is moved then isn't used."""
     write("amy.in")
@@ -382,7 +391,7 @@ def walk():
 
 
 CASES = [
-    numbers, progress, hangs_up, hears_no_more, hears_late, sixteen, comes_late, closes, all_reduce, cannot_lock, is_moved_before_the_lock, walk,
+    numbers, progress, hangs_up, hears_no_more, hears_late, sixteen, comes_late, closes, all_reduce, cannot_lock, is_cut_without_threads, is_moved_before_the_lock, walk,
 ]  # fmt: skip
 
 

@@ -292,6 +292,14 @@ def resume(room, shape, names):
     return status, out + err
 
 
+def said_of_cut(room, whole, rest):
+    """What is said of the rest behind whole entries, which is cut off: nothing where that is nothing, or the line `end`."""
+    if rest in (b"", END):
+        return b""
+    many = b"byte" if len(rest) == 1 else b"bytes"
+    return b"exchange: %s/record: cut off: %d %s from line %d on" % (room.encode(), len(rest), many, whole.count(b"\n") + 1)
+
+
 def try_cuts():
     """A record that is cut at each byte is resumed: its whole entries stay, and nothing else but the last line."""
     draw, shape = random.Random("cuts"), (2, 2, 1)
@@ -307,6 +315,8 @@ def try_cuts():
                 raise Wrong(f"cut at {cut}: status {status}, {told!r}")
             if read(f"{room}/record") != text[:whole] + END:
                 raise Wrong(f"cut at {cut}: the record isn't that of its whole entries")
+            if (off := said_of_cut(room, text[:whole], text[whole:cut])) != b"\n".join(line for line in told.split(b"\n") if b": cut off: " in line):
+                raise Wrong(f"cut at {cut}: {told!r}, and not {off!r}")
             if read(f"{room}/left") != Record(text[:whole]).exchange.image():
                 raise Wrong(f"cut at {cut}: the image is another")
         return len(text) + 1
