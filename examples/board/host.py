@@ -12,7 +12,9 @@ first setting they are told -2, and after the last one -1. docs/BOARD.md says mo
 import contextlib
 import os
 import queue
+import select
 import shutil
+import stat
 import subprocess
 import sys
 import tempfile
@@ -27,13 +29,19 @@ class Cable:
     """The cable, whose bytes are parted by their ways."""
 
     def __init__(self, name):
-        pipes = f"{name}.in", f"{name}.out"
-        if os.path.exists(pipes[0]):
-            self.out, self.back = open(pipes[0], "wb"), open(pipes[1], "rb", 0)
-        else:
-            self.out, self.back = open(name, "wb"), open(name, "rb", 0)
+        there, back = (f"{name}.in", f"{name}.out") if os.path.exists(f"{name}.in") else (name, name)
+        if any(stat.S_ISREG(os.stat(end).st_mode) for end in (there, back)):
+            sys.exit(f"host.py: {name} is a plain file, and no cable")
+        self.out = os.fdopen(os.open(there, os.O_WRONLY | os.O_NOCTTY), "wb")
+        self.back = os.fdopen(os.open(back, os.O_RDONLY | os.O_NOCTTY), "rb", 0)
+        self.drop_what_comes()
         self.answers, self.heard, self.sending = {}, queue.Queue(), threading.Lock()
         threading.Thread(target=self.listen, daemon=True).start()
+
+    def drop_what_comes(self):
+        """Drops what an earlier host left on its way: until half a second long nothing comes."""
+        while select.select([self.back], [], [], 0.5)[0] and self.back.read(4096):
+            pass
 
     def send(self, way, sent):
         """Sends bytes, and before each of them the number of its way."""
@@ -47,8 +55,11 @@ class Cable:
             byte = self.back.read(1)
             if way[0] == MODULES:
                 self.heard.put(byte)
-            else:
+            elif way[0] in self.answers:
                 os.write(self.answers[way[0]], byte)
+            elif way[0] not in (SWITCH, SWITCH_B):
+                print(f"host.py: the cable has lost a byte: {way[0]} is no way", file=sys.stderr)
+                break
         # The cable has ended. So does what `drive` reads, and nobody hears more.
         for answers in self.answers.values():
             os.close(answers)
@@ -120,6 +131,8 @@ def ways(batch):
 
 
 def main():
+    if len(sys.argv) < 3 or sys.argv[1].startswith("-"):
+        sys.exit(__doc__.split("\n\n")[1].strip())
     cable = Cable(sys.argv[1])
     cable.find_modules()
     with tempfile.TemporaryDirectory(prefix="host-") as folder:

@@ -108,6 +108,8 @@ def words_of(arguments):
 
 def main():
     given = words_of(sys.argv[1:])
+    if os.environ.get("EXCHANGE"):
+        os.environ["EXCHANGE"] = os.path.abspath(os.environ["EXCHANGE"])
     batch, image = read(given.batch), read(given.image)
     out, cable, module = given.image_out and os.path.abspath(given.image_out), os.path.abspath(given.cable or ""), module_words(given)
     try:

@@ -31,9 +31,9 @@ use Rattle.crossbar.specs.declared.chip.Wiring.TheVariants.{Back, Board, Both, F
 use Rattle.crossbar.specs.declared.pair.Pair.{Pair}
 use Rattle.crossbar.specs.declared.traffic.Passing.{Passing}
 use Rattle.drive_answers.specs.Answers as drives
-use Rattle.drive_answers.specs.Answers.{IsDriveAnswer, IsDrivenOver, IsFirstDriveWrong, IsTried, rack_for}
+use Rattle.drive_answers.specs.Answers.{IsDriveAnswer, IsDrivenOver, IsFirstDriveWrong, IsTried, rack_for, switches_in}
 use Rattle.drive_answers.specs.Endings.{completed_line, fault_words, left_line, stopped_line}
-use Rattle.drive_answers.specs.Ways.{Names, Ways, used}
+use Rattle.drive_answers.specs.Ways.{IsUnopened, Names, Ways, used}
 use Rattle.exchange.proofs.AskedJobs.{Ended, EndsSo, end_of, ended_run, never_done, not_done}
 use Rattle.exchange.proofs.HeldFiles.{given_text, held_files}
 use Rattle.exchange.proofs.PromisedRefusals.{done_is, gave_up, unwritten_is}
@@ -64,9 +64,10 @@ use Rattle.switch_settings.proofs.Racks.{has_modules}
 use Rattle.switch_settings.proofs.Turning.{ordered_switch}
 use Rattle.switch_settings.specs.Asking.{AreDone, BreakOff, Breaks, IsDone as IsStepDone, Step, ask, hear, miss, settle, turn}
 use Rattle.switch_settings.specs.Pairs.{all_enquiries}
-use Rattle.switch_settings.specs.Racks.{HasModulesOf, is_wide}
+use Rattle.switch_settings.specs.Racks.{HasModulesOf, is_wide, joined_by}
 use Rattle.switch_settings.specs.Sending.{pairs_at, turning}
 use Rattle.switch_settings.specs.Settings.{numbers_in, setting_pairs}
+use Rattle.switch_settings.specs.declared.rack_wiring.RackWiring.TheVariants.{Usual}
 use Rattle.switch_settings.specs.declared.fault.SettingFault.{SettingFault}
 use Rattle.switch_settings.specs.declared.fault.SettingFault.TheVariants.{Port, Switch as Disagrees}
 
@@ -441,7 +442,7 @@ module _ (run : Run) (batch : Text) (from : Source Text) (file : Option Text) (f
         wired = r.wired;
         opened = over.ways ∙ ap (λ (c : Option (List Passing)). used names c over.failed was) f.1;
         stood = t.stood;
-        last = inl (fault, ap (λ (n : ℕ). stopped_line n (fault_words fault)) (sym went.at));
+        last = inl (fault, omega (arith, went.at, went.within), ap (λ (n : ℕ). stopped_line n (fault_words fault)) (sym went.at));
         prints = subst (λ (x : List ℕ). run.prints (x ++ stopped_line k (fault_words fault))) t.lines (subst (λ (x : List ℕ). run.prints (final.told ++ x)) line prints);
       }
 
@@ -466,7 +467,7 @@ module _ (run : Run) (batch : Text) (from : Source Text) (file : Option Text) (f
         wired = r.wired;
         opened = ways ∙ ap (λ (c : Option (List Passing)). used names c failed was) (grown.known ∙ ap Some (sym (append-nil grown.passed)));
         stood = stood_more filled transfers settings first went.count t.passed grown.more grown.passed grown.parts t.stood (turned_all filled transfers settings r.given (first + went.count) (pairs_at transfers settings (first + went.count)) grown.passed refl (omega (arith, went.at, went.within)) grown.is);
-        last = inr (k, omega (arith, went.at), refl, is);
+        last = inr (k, omega (arith, went.at), went.within, omega (arith, went.at), refl, is);
         prints = subst (λ (x : List ℕ). run.prints (x ++ line)) told (subst (λ (x : List ℕ). run.prints (final.told ++ x)) text prints);
       }
 
@@ -489,10 +490,22 @@ wrong_on from text wiring first refusal (drives.texts_wrong board of wrong has) 
 wrong_on from text wiring first refusal (drives.no_setting board batch settings of is ways other same) =
     let begun = not_begun first (length settings) other in no_setting board batch settings of (says from text batch settings is) ways begun.0 begun.1 same
 
+-- so many switches
+abbrev switches_by : Bool → List (Chip × Wiring)
+switches_by wide = if wide then (A, Forth) ∷ (B, Back) ∷ [] else (A, Both) ∷ []
+
+by_width : (wide : Bool) → switches_in (Usual (joined_by wide)) ≡ length (switches_by wide)
+by_width true = refl
+by_width false = refl
+
+many_switches : (filled : Option BoardWiring) (batch : List Transfer) → switches_in (rack_for filled batch) ≡ length (switches_of filled batch)
+many_switches (Some board) batch = refl
+many_switches None batch = by_width (is_wide batch)
+
 -- the refusal was all that was printed, and no port was opened
 refused_so : (run : Run) (ports : Ports) (batch port : Text) (port_b : Option Text) (from : Source Text) (file : Option Text) (first : ℕ) (goes_on : Bool) (workers : ℕ) (texts : Files (List ℕ)) (refusal : Refusal) (start final : Dialogue) (printed : Printed)
     → AreHeld run.holds (files_of (Drive batch port port_b from file first goes_on workers)) texts → start.told ≡ [] → final ≡ start → run.prints (final.told ++ printed.text) → IsRefused (refusal_words refusal) printed → ports.after ≡ ports.before
-    → IsFirstWrongOn (source_in from (text_in texts.other)) (text_in texts.list) texts.wiring first refusal ⊎ AreNoWays ports refusal
+    → IsFirstWrongOn (source_in from (text_in texts.other)) (text_in texts.list) texts.wiring first refusal ⊎ AreNoWays (source_in from (text_in texts.other)) (text_in texts.list) texts.wiring ports refusal
     → HasRefusedDrive run ports (Drive batch port port_b from file first goes_on workers) from first
 refused_so run ports batch port port_b from file first goes_on workers texts refusal start final printed held none same prints line left wrong =
     let told : final.told ≡ [] = ap (λ (d : Dialogue). d.told) same ∙ none in
@@ -511,21 +524,23 @@ module _ (run : Run) (batch port : Text) (port_b : Option Text) (from : Source T
   Ended1 = HasStopped run (ports_of port port_b was opens) batch from file first ⊎ HasRefusedDrive run (ports_of port port_b was opens) (Drive batch port port_b from file first goes_on workers) from first
 
   tried_so : (board : Option BoardText) (filled : Option BoardWiring) (transfers : List Transfer) (settings : List (List ℕ)) → Read run batch from file filled transfers settings
+      → ((refusal : Refusal) → IsUnopened (record { port = port; port_b = port_b }) (switches_in (rack_for filled transfers)) refusal → AreNoWays (source_in from (text_in texts.other)) (text_in texts.list) texts.wiring (ports_of port port_b was opens) refusal)
       → IsTried (TellsLine (not goes_on)) (rack_for filled transfers) transfers settings first (record { port = port; port_b = port_b }) was opens start final printed → Ended1
-  tried_so board filled transfers settings r (drives.driven (Completed all) many over ends) = absurd (done_is printed.status ends.1 status)
-  tried_so board filled transfers settings r (drives.driven (Stopped k fault) many over ends) =
+  tried_so board filled transfers settings r no_ways (drives.driven (Completed all) many over ends) = absurd (done_is printed.status ends.1 status)
+  tried_so board filled transfers settings r no_ways (drives.driven (Stopped k fault) many over ends) =
       inl (stopped_at run batch from file first (record { port = port; port_b = port_b }) was opens (not goes_on) filled transfers settings start final printed r none prints k fault over ends.0)
-  tried_so board filled transfers settings r (drives.driven (Halted k Left) many over ends) =
+  tried_so board filled transfers settings r no_ways (drives.driven (Halted k Left) many over ends) =
       inl (left_at run batch from file first (record { port = port; port_b = port_b }) was opens (not goes_on) filled transfers settings start final printed r none prints Left k (left_line k) over.carried over.failed (inl refl) over.went over.ways ends.0 (inl refl))
-  tried_so board filled transfers settings r (drives.driven (Halted k Unheard) many over ends) =
+  tried_so board filled transfers settings r no_ways (drives.driven (Halted k Unheard) many over ends) =
       inl (left_at run batch from file first (record { port = port; port_b = port_b }) was opens (not goes_on) filled transfers settings start final printed r none prints Unheard k (stopped_line k (codes "input")) over.carried over.failed (inr refl) over.went over.ways ends.0 (inr refl))
-  tried_so board filled transfers settings r (drives.driven (Halted k Untold) many over ends) = absurd ends
-  tried_so board filled transfers settings r (drives.unopened refusal why refuses same left) =
-      inr (refused_so run (ports_of port port_b was opens) batch port port_b from file first goes_on workers texts refusal start final printed held none same prints refuses.1 left (inr (_, why)))
+  tried_so board filled transfers settings r no_ways (drives.driven (Halted k Untold) many over ends) = absurd ends
+  tried_so board filled transfers settings r no_ways (drives.unopened refusal why refuses same left) =
+      inr (refused_so run (ports_of port port_b was opens) batch port port_b from file first goes_on workers texts refusal start final printed held none same prints refuses.1 left (inr (no_ways refusal why)))
 
   stops_so : IsDriveAnswer (TellsLine (not goes_on)) (source_in from (text_in texts.other)) (text_in texts.list) texts.wiring first (record { port = port; port_b = port_b }) was opens start final printed → Ended1
   stops_so (drives.tried board filled transfers settings of is ways fills begins tries) =
-      tried_so board filled transfers settings (read_so run batch from file (text_in texts.list) texts.other board filled transfers settings (given_text run.holds batch texts.list held.list) held.other (board_held run file texts.wiring board held.wiring of) is ways fills) tries
+      tried_so board filled transfers settings (read_so run batch from file (text_in texts.list) texts.other board filled transfers settings (given_text run.holds batch texts.list held.list) held.other (board_held run file texts.wiring board held.wiring of) is ways fills)
+      (λ refusal why. (board, filled, transfers, settings, of, fills, says (source_in from (text_in texts.other)) (text_in texts.list) transfers settings is, subst (λ (n : ℕ). IsUnopened (record { port = port; port_b = port_b }) n refusal) (many_switches filled transfers) why)) tries
   stops_so (drives.wrong refusal wrong refuses same left) =
       inr (refused_so run (ports_of port port_b was opens) batch port port_b from file first goes_on workers texts refusal start final printed held none same prints refuses.1 left (inl (wrong_on _ (text_in texts.list) texts.wiring first refusal wrong)))
 

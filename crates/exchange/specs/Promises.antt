@@ -69,7 +69,7 @@ use Rattle.plan_answers.specs.Answers.{IsFirstWrong}
 use Rattle.plan_answers.specs.Directing.{of_moves}
 use Rattle.plan_answers.specs.Drawings.{IsBadSettingsText, IsOutside}
 use Rattle.plan_answers.specs.Validities.{IsInvalid, IsScheduleRead}
-use Rattle.board_wiring.specs.Boards.{IsBoardOf, IsMiswired}
+use Rattle.board_wiring.specs.Boards.{IsBoardOf, IsFilled, IsMiswired}
 use Rattle.board_wiring.specs.Lacks.{HasWaysOn, IsLackOf, LacksNothing}
 use Rattle.board_wiring.specs.Sources.{of_wiring}
 use Rattle.board_wiring.specs.declared.board.Board.{Board as BoardText}
@@ -545,13 +545,14 @@ pub data IsFirstWrongOn (from : Source (List ℕ)) (text : List ℕ) (wiring : O
       → 0 < first → length settings ≤ first → refusal ≡ NoSetting first
       → IsFirstWrongOn from text wiring first refusal
 
--- The last line of a drive that ends early, where this setting is next, and this passed behind the
--- ones that stood. It couldn't be set, as its port failed or an output answered otherwise; or none
--- was wanted behind the one before, or the line for it couldn't be read, and nothing more passed.
-abbrev pub IsLastLine : ℕ → List Passing → List ℕ → Type 0
-IsLastLine next more line =
-    ((fault : SettingFault) × (line ≡ stopped_line next (fault_words fault)))
-    ⊎ ((k : ℕ) × (next ≡ k + 1) × (more ≡ [])
+-- The last line of a drive that ends early, where this setting of so many is next, and this passed
+-- behind the ones that stood, from the first one on. It couldn't be set, as its port failed or an
+-- output answered otherwise; or none was wanted behind the one before, or the line for it couldn't
+-- be read, and nothing more passed.
+abbrev pub IsLastLine : (first next all : ℕ) → List Passing → List ℕ → Type 0
+IsLastLine first next all more line =
+    ((fault : SettingFault) × (next < all) × (line ≡ stopped_line next (fault_words fault)))
+    ⊎ ((k : ℕ) × (first ≤ k) × (k < all) × (next ≡ k + 1) × (more ≡ [])
     × ((line ≡ left_line k) ⊎ (line ≡ stopped_line k (codes "input"))))
 
 -- The same of a drive that ends early: of what passed a front is that of settings that stood, each
@@ -571,12 +572,17 @@ pub record HasStopped (run : Run) (ports : Ports) (batch : Text) (scheduled : So
   pub wired : IsWired run wiring transfers board
   pub opened : ports.after ≡ used ports.names (Some (earlier ++ more)) failed ports.before
   pub stood : StoodInTurn board transfers settings first count earlier
-  pub last : IsLastLine (first + count) more line
+  pub last : IsLastLine first (first + count) (length settings) more line
   pub prints : run.prints (lines_told settings first count ++ line)
 
--- No port was opened, or handed over: why there are no ways to the switches of the batch's rack.
-abbrev pub AreNoWays : Ports → Refusal → Type 0
-AreNoWays ports refusal = (switches : ℕ) × IsUnopened ports.names switches refusal
+-- No port was opened, or handed over: why there are no ways to the switches of the batch's rack. The
+-- texts say the batch, a schedule of it, and the rack's wiring.
+abbrev pub AreNoWays : Source (List ℕ) → List ℕ → Option (List ℕ) → Ports → Refusal → Type 0
+AreNoWays from text wiring ports refusal =
+    (board : Option BoardText) × (filled : Option BoardWiring) × (batch : List Transfer)
+    × (settings : List (List ℕ)) × IsBoardOf wiring board × IsFilled board filled
+    × SaySchedule from text batch settings
+    × IsUnopened ports.names (length (switches_of filled batch)) refusal
 
 -- Printed was the one line of a refusal, of what is first wrong with the texts, or with the ports.
 -- Nothing passed over these.
@@ -587,7 +593,8 @@ pub record HasRefusedDrive (run : Run) (ports : Ports) (job : Job) (scheduled : 
   pub held : AreHeld run.holds (files_of job) texts
   pub wrong : IsFirstWrongOn (source_in scheduled (text_in texts.other)) (text_in texts.list)
       texts.wiring first refusal
-      ⊎ AreNoWays ports refusal
+      ⊎ AreNoWays (source_in scheduled (text_in texts.other)) (text_in texts.list)
+      texts.wiring ports refusal
   pub prints : run.prints (refusal_line refusal)
   pub unopened : ports.after ≡ ports.before
 
