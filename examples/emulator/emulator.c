@@ -178,7 +178,7 @@ static int take(int in, int out)
 /* At the other end of `drive`: looks at both of its pipes, since neither may wait for the other. */
 static void be_driven(const char *program, const char *plan, const char *orders)
 {
-    char folder[] = "/tmp/emulator-XXXXXX", line[4096];
+    char folder[] = "/tmp/emulator-XXXXXX", line[4096] = "";
     int go_on, lines, status, setting;
 
     char *path = realpath(program, NULL);
@@ -187,8 +187,8 @@ static void be_driven(const char *program, const char *plan, const char *orders)
     keep("schedule", plan);
     pid_t drive = start_drive(path, &go_on, &lines);
     FILE *told = fdopen(lines, "r");
-    /* In the order in which `drive` opens them. */
-    int in = open("board.in", O_RDONLY), out = open("board.out", O_WRONLY);
+    /* Opened to read and to write, neither waits for `drive`, which opens none where it is refused. */
+    int in = open("board.in", O_RDWR), out = open("board.out", O_RDWR);
     must(told != NULL && in >= 0 && out >= 0);
     struct pollfd ways[] = {{in, POLLIN, 0}, {lines, POLLIN, 0}};
     do {
