@@ -7,9 +7,10 @@
 //! [`Batch::read`] gives the batch that a text denotes (`Denotes` of `specs/Text.antt`), or the
 //! text's first fault (`IsFirstFault` of `specs/Faults.antt`). A text has one of each at most, and
 //! never both (`laws::one_reading`). Its numbers have no needless zero (`laws::number_grammar`), and
-//! it is mostly read against the widest shape (`laws::widest_shape`). Lack of memory comes only
-//! where a good line of a transfer stands (`NeedsMemory`). [`Batch::write`] gives the one text. [`read_list`] and
-//! [`write_list`] do so for whatever is [`Listed`] (`specs/Lists.antt`, `specs/ListFaults.antt`).
+//! it is usually read against the widest shape (`laws::widest_shape`). Lack of memory comes only
+//! where a good line of a transfer stands (`NeedsMemory`). [`Batch::write`] gives the one text.
+//! [`read_list`] and [`write_list`] do so for whatever is [`Listed`] (`specs/Lists.antt`,
+//! `specs/ListFaults.antt`).
 //!
 //! [`Shape::new`] and [`Shape::read`] take just the shapes within the limits.
 //! [`Batch::first_overlap`] finds the first two transfers that write one block, and none exactly
