@@ -5,7 +5,8 @@
     relay.py CABLE CONFIG [CONFIG_B] CHAIN    parts the bytes of one cable, which has those of the modules too
 
 CABLE and CONFIG are two named pipes each, CABLE.in towards the switch and CABLE.out back. CHAIN is the number of a socket, which leads to
-the first module. On one cable the number of its way comes before each byte: 0 the switch, 1 the modules, 2 switch B.
+the first module. On one cable the number of its way comes before each byte: 0 the switch, 1 the modules, 2 switch B. Where the cable ends at
+slot 0, CONFIG of the relay there is CABLE of a second one, at the configuration link.
 """
 
 import os
@@ -65,4 +66,7 @@ def main():
 
 
 if __name__ == "__main__":
-    main()
+    try:
+        main()
+    except ConnectionError:
+        sys.exit("relay.py: a link has ended")

@@ -51,7 +51,7 @@ def take(link, count):
     """So many bytes that come over a link."""
     taken = link.recv(count, socket.MSG_WAITALL)
     if len(taken) < count:
-        raise EOFError("module.py: the link has ended")
+        raise EOFError
     return taken
 
 
@@ -78,4 +78,7 @@ def main():
 
 
 if __name__ == "__main__":
-    main()
+    try:
+        main()
+    except (EOFError, ConnectionError):
+        sys.exit("module.py: a link has ended")

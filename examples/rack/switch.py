@@ -2,14 +2,16 @@
 """The switch of a rack: a C004 that is set over its configuration link, and carries what comes over a module's link to wherever that link
 feeds an output as it stands.
 
-    switch.py PORT [PORT] LINK..
+    switch.py [--wiring FILE] PORT [PORT] LINK..
 
 The configuration link of a port is two named pipes, PORT.in and PORT.out. Two ports are those of the switches A and B of a rack with more
-than 16 modules. The links are sockets, by their numbers: those of link 0 and of link 3 of module 0, then of module 1, and so on.
-rack.py starts this program, which ends when nobody sets it any more.
+than 16 modules. The links are sockets, by their numbers: those of link 0 and of link 3 of module 0, then of module 1, and so on. The wiring
+says which links of the switch they are on. rack.py starts this program, which ends when nobody sets it any more.
 """
 
+import argparse
 import os
+import re
 import select
 import socket
 import sys
@@ -32,18 +34,20 @@ class Chip:
         return bool(sent)
 
     def fed_by(self, given):
-        """The outputs that an input feeds. While commands connect, none lets data pass: the last byte of the state says so."""
-        return [] if self.switch.state[-1] else [output for output in range(32) if self.switch.source(output) == given]
+        """The outputs that an input feeds; None is no input. While commands connect, none lets data pass: the last byte of the state says so."""
+        return [] if given is None or self.switch.state[-1] else [output for output in range(32) if self.switch.source(output) == given]
 
 
 class Wires:
     """Which inputs and outputs of the switches the modules' links are on."""
 
-    def __init__(self, chips, links):
+    def __init__(self, chips, links, wiring):
         self.inputs, self.outputs = {}, {}
         for number, link in enumerate(links):
             module, end = divmod(number, 2)
-            if len(chips) == 1:
+            if wiring is not None:
+                given = taken = chips[0], wiring.get((module, end))
+            elif len(chips) == 1:
                 given = taken = chips[0], module + 16 * end
             else:
                 # A leads from the links 0 to the links 3, and B leads back.
@@ -60,11 +64,23 @@ class Wires:
             other.sendall(words)
 
 
+def read_wiring(path):
+    """The links of the switch that modules are on, by the module's number, and by 0 for its link 0 and 1 for its link 3."""
+    with open(path, encoding="utf-8") as file:
+        text = file.read()
+    found = re.findall(r"module (\d+) link 0 (?:at (\d+)|none) link 3 (?:at (\d+)|none)", text)
+    return {(int(module), end): int(at) for module, *ends in found for end, at in enumerate(ends) if at}
+
+
 def main():
-    ports = [word for word in sys.argv[1:] if not word.isdigit()]
-    links = [socket.socket(fileno=int(word)) for word in sys.argv[1 + len(ports) :]]
-    chips = [Chip(port) for port in ports]
-    wires, setting = Wires(chips, links), {chip.read: chip for chip in chips}
+    words = argparse.ArgumentParser()
+    words.add_argument("--wiring")
+    words.add_argument("words", nargs="+")
+    given = words.parse_args()
+    links = [socket.socket(fileno=int(word)) for word in given.words if word.isdigit()]
+    chips = [Chip(word) for word in given.words if not word.isdigit()]
+    wires = Wires(chips, links, given.wiring and read_wiring(given.wiring))
+    setting = {chip.read: chip for chip in chips}
     while setting:
         ready = select.select([*setting, *links], [], [])[0]
         # What sets the switch came before the words that go through it, though it may be seen after them.
@@ -80,4 +96,7 @@ def main():
 
 
 if __name__ == "__main__":
-    main()
+    try:
+        main()
+    except ConnectionError:
+        sys.exit("switch.py: a link has ended")

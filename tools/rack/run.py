@@ -9,8 +9,10 @@
               last is denied
     C         modules are examples/board/module.c, compiled by the tables of orders_to_c.py over channels of inmos/
     tables    those of each module of each pattern, in occam and in C, are made into its orders again
-    ends      a cable may be a terminal; a switch alone and a module alone are handed words in parts, and the switch words that come before it has settled; the two
-              loops of the relay carry the bytes of `drive` and `c004`; and a cable that ends ends the host
+    boards    modules are on other links of the switch, as a wiring says; and the cable ends at slot 0, behind which a second relay is
+    ends      a cable may be a terminal; a switch alone and a module alone are handed words in parts, and the switch words that come before it
+              has settled; the two loops of the relay carry the bytes of `drive` and `c004`; a cable that ends ends the host; and a module that is
+              killed ends the rack, which says so, and its host
 
 What isn't built yet is proved and built first, and all is installed in a folder for the while. Another one is tried where RACK names it.
 """
@@ -49,6 +51,7 @@ RING = "batch 4\npush 0 0 1 0\npush 1 0 2 0\npush 2 0 3 0\npush 3 0 0 0\n"
 WITHIN = "batch 1\npush 1 0 1 3\n"
 ITSELF = "batch 2\npush 0 2 0 2\npush 0 2 1 0\n"
 PULLS = "batch 2\npull 0 1 2 3\npull 2 3 0 1\n"
+BACKWARDS = "batch 3\npull 2 0 0 0\npush 3 0 2 1\npush 3 1 0 1\n"
 # Block b of module m and block m of module b change places, among ten modules.
 TRANSPOSITION = "batch 90\n" + "".join(f"push {m} {b} {b} {m}\n" for m in range(10) for b in range(10) if m != b)
 
@@ -82,7 +85,17 @@ CASES = [
     ("two switches", "17x2x2", read("wide-rack.txt"), []),
     ("no transfers", "2x1x1", "batch 0\n", []),
     ("no ring, links in turn", "3x2x2", read("three-transfers.txt"), ["--in-turn"]),
+    ("a cable to slot 0", "3x2x2", read("three-transfers.txt"), ["--slot-0"]),
+    ("a cable to slot 0, and two switches", "17x2x2", read("wide-rack.txt"), ["--slot-0"]),
+    ("a wiring", "3x2x2", read("three-transfers.txt"), ["--wiring", "wiring"]),
+    ("a wiring, and a cable to slot 0", "4x2x2", BACKWARDS, ["--wiring", "backwards", "--slot-0"]),
 ]
+
+# The wirings of these cases. The second has no link 0 of module 0, no link 3 of module 3, and no module 1.
+WIRINGS = {
+    "wiring": "wiring 3\nmodule 0 link 0 at 4 link 3 at 21\nmodule 1 link 0 at 5 link 3 at 22\nmodule 2 link 0 at 11 link 3 at 0\n",
+    "backwards": "wiring 3\nmodule 0 link 0 none link 3 at 31\nmodule 2 link 0 at 30 link 3 at 29\nmodule 3 link 0 at 1 link 3 none\n",
+}
 
 # What runs with modules in C, each with the words or the schedule by which it goes.
 IN_C = [
@@ -95,6 +108,18 @@ IN_C = [
 
 # What hangs with links in turn.
 RINGS = [("a ring", "4x1x16", RING), ("a transfer within a module", "2x4x2", WITHIN)]
+
+# Programs of modules of a rack: one obeys its orders, and one is killed once it is told of setting 0.
+OBEYS = """#!/bin/sh
+exec {python} {examples}/rack/module.py {m} 3x2x2 batch schedule "$@"
+"""
+IS_KILLED = """#!{python}
+import os, signal, socket, sys
+link = socket.socket(fileno=int(sys.argv[3]))
+link.sendall(link.recv(2, socket.MSG_WAITALL))
+link.recv(2, socket.MSG_WAITALL)
+os.kill(os.getpid(), signal.SIGKILL)
+"""
 
 # What joins link 0 of module 0 and link 3 of module 1. Behind that a switch isn't ready until SETTLE comes.
 JOIN, SETTLE = b"\4\1\0\x11", b"\3"
@@ -126,6 +151,8 @@ class Racks:
         size = 4 * math.prod(map(int, shape.split("x")))
         Path("batch").write_text(batch)
         Path("image").write_bytes(random.Random(seed).randbytes(size))
+        for name, wiring in WIRINGS.items():
+            Path(name).write_text(wiring)
         if isinstance(schedule, str):
             Path("schedule").write_text(schedule)
             schedule = ["--schedule", "schedule"]
@@ -302,6 +329,31 @@ class Racks:
         for name in "cable.in", "cable.out":
             os.unlink(name)
 
+    def says_who_is_killed(self, what, *options):
+        """Notes whether a rack whose last module is killed says so, and ends, and its host too."""
+        words = [*self.write(what, "3x2x2", read("three-transfers.txt"), []), "--modules", "modules", *options]
+        os.makedirs("modules", exist_ok=True)
+        for m, program in enumerate((OBEYS, OBEYS, IS_KILLED)):
+            Path(f"modules/{m}").unlink(missing_ok=True)
+            Path(f"modules/{m}").write_text(program.format(python=sys.executable, examples=EXAMPLES, m=m))
+            os.chmod(f"modules/{m}", 0o755)
+        for name in "cable.in", "cable.out":
+            os.mkfifo(name)
+        run, host_status = self.start(words), 1
+        try:
+            if options:
+                host_words = [sys.executable, f"{EXAMPLES}/board/host.py", "cable", "batch"]
+                driven = subprocess.run(host_words, stdout=subprocess.PIPE, stderr=subprocess.STDOUT, env=self.env, timeout=LIMIT, check=False)
+                host_status = driven.returncode
+            told = run.communicate(timeout=LIMIT)[0].decode()
+        except subprocess.TimeoutExpired:
+            stop(run)
+            told = "it hangs"
+        is_well = told.endswith("rack.py: module 2 was killed by SIGKILL\n") and run.returncode == host_status == 1
+        expect(what, is_well, f"{told} {run.returncode} {host_status}")
+        for name in "cable.in", "cable.out":
+            os.unlink(name)
+
 
 def tables_of(language, orders):
     """The tables that are made of a module's orders."""
@@ -397,11 +449,14 @@ def try_all(racks, count):
     racks.carries("words in parts", JOIN + SETTLE, whole, b"")
     racks.carries("words before the switch has settled", JOIN, b"", b"switch.py: words come over a link that isn't joined\n")
     racks.receives("a block in parts", PARTS, [], b"\0", b"\0\0\xff\xff", whole, 0)
-    racks.receives("a part of a block", PARTS[:1], [], b"", b"", b"EOFError: module.py: the link has ended", 1)
+    racks.receives("a part of a block", PARTS[:1], [], b"", b"", b"module.py: a link has ended", 1)
     racks.is_relayed("the relay alone")
     racks.is_moved_over_a_pty("a terminal", *CASES[1][1:])
+    racks.refuses("a link that isn't on the switch", "refused no link 0", "3x2x2", "batch 1\npush 0 0 2 0\n", ["--wiring", "backwards"])
     racks.ends("a cable that ends")
-    tried = len(CASES) + len(RINGS) + 9 + count + try_board(racks)
+    racks.says_who_is_killed("a module is killed")
+    racks.says_who_is_killed("a module is killed, with a host apart", "--cable", "cable")
+    tried = len(CASES) + len(RINGS) + 12 + count + try_board(racks)
     print(f"rack of processes: {tried} tried, {len(wrong)} wrong")
 
 
