@@ -53,10 +53,13 @@ gather 644 "$work/manual" share/man/man1/exchange.1
 gather 644 "$work/completions" share/bash-completion/completions/exchange
 gather 644 "$work/exchange.pc" lib/pkgconfig/exchange.pc
 
-# The pages that these name, and the files of their examples, as they are in a clone.
+# The pages that these name, without links to what isn't here, and the files of their examples, as they are in a clone.
 (cd "$top" && find README.md CHANGES.md CONTRIBUTING.md docs/*.md rows/help examples -type f) >"$work/pages"
 while read -r page; do
     gather "$([ -x "$top/$page" ] && echo 755 || echo 644)" "$top/$page" "share/doc/exchange/$page"
+    if [[ $page == *.md ]]; then
+        "$here/pages.py" document "$top" "$page" "$work/pages" >"$work/all/share/doc/exchange/$page"
+    fi
 done <"$work/pages"
 
 # The module for Python: where python3 looks below the prefix, or would look if the folder were there, and else where modules usually are.

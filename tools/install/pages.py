@@ -1,11 +1,13 @@
 #!/usr/bin/env python3
-"""Makes a page of the program's helps, and prints it.
+"""Makes a page that is installed, and prints it.
 
     pages.py manual PROGRAM DOCS    a page for `man`: what `PROGRAM --help` and each `PROGRAM COMMAND --help` say, line by line; the files
                                     of their examples are those below DOCS
     pages.py completions PROGRAM    what bash completes: commands, and the options of each; other words are names of files
+    pages.py document TOP NAME LIST the document of this name below TOP, without links to what isn't in the list: of these the words are left
 """
 
+import os
 import re
 import subprocess
 import sys
@@ -84,5 +86,19 @@ complete -o bashdefault -o default -F _exchange exchange
 """
 
 
+def document(top, name, listed_in):
+    with open(f"{top}/{name}", encoding="utf-8") as file, open(listed_in, encoding="utf-8") as names:
+        text, listed_names = file.read(), names.read().splitlines()
+
+    def kept(link):
+        path = os.path.normpath(os.path.join(os.path.dirname(name), link[2].partition("#")[0]))
+        is_there = "://" in link[2] or link[2].startswith("#") or any(it == path or it.startswith(f"{path}/") for it in listed_names)
+        return link[0] if is_there else link[1]
+
+    # What is shown between two lines of marks has no links.
+    parts = re.split(r"(?ms)(^```.*?^```$)", text)
+    return "".join(part if k % 2 else re.sub(r"\[([^\]]+)\]\(([^)\s]+)\)", kept, part) for k, part in enumerate(parts))
+
+
 if __name__ == "__main__":
-    print({"manual": manual, "completions": completions}[sys.argv[1]](*sys.argv[2:]), end="")
+    print({"manual": manual, "completions": completions, "document": document}[sys.argv[1]](*sys.argv[2:]), end="")

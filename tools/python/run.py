@@ -223,8 +223,11 @@ def is_called_by_name(helps):
 
 
 def try_named(rack):
-    """What is installed names no page and no file of a clone that isn't installed too."""
+    """What is installed names no page and no file of a clone that isn't installed too, and no link of a page leads nowhere."""
     docs = f"{rack}/share/doc/exchange"
+    links = [(page, link) for page in Path(docs).rglob("*.md") for link in re.findall(r"\]\(([^)\s#:]+)[)#]", page.read_text())]
+    dead = [f"{page}: {link}" for page, link in links if not (page.parent / link).exists()]
+    expect(f"the {len(links)} links of pages", len(links) > 100 and not dead, dead)
     for path in [f"{rack}/include/exchange.h", str(next(Path(rack).rglob("exchange.py")))]:
         named = re.findall(r"\b(?:docs/)?[A-Z]+\.md\b", Path(path).read_text())
         missing = [page for page in named if not os.path.exists(f"{docs}/{page}")]
