@@ -34,10 +34,13 @@ def numbers_for(kind, lines, number, entries):
 
 
 def mended_text(kind, text, number, told):
-    """The text with what is told to be wanted in a line, or with the right number of entries, or without what stands behind the last."""
+    """The text with what is told to be wanted in a line, or with the right number of entries, or without what comes after the last line, or
+    with a line feed at its end."""
     lines, entries = text.split(b"\n"), len(re.findall(rb"(?m)^" + notes.KINDS[kind][1], text))
     if told.endswith("; nothing may follow\n"):
         return b"".join(line + b"\n" for line in lines[: number - 1])
+    if told.endswith(" has no line feed at its end\n"):
+        return text + b"\n"
     if told.endswith((f", and line 1 says {notes.announced(text)}\n", " has at most 4096\n")):
         number, right = 1, FIRST[kind]
     else:

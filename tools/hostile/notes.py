@@ -52,7 +52,7 @@ SENT = ["batch N", "plan N", "run N", "show N", "drop N", "peek N H", "poke N H 
 # What is told of a line of a session, and of a word, behind its quote.
 QUOTES = {
     "line": 'isn\'t a line of a session: "batch N" and the batch\'s lines, "plan ID", "run ID", "show ID", "drop ID", "peek M A", "poke M A D", '
-    '"progress" or "bye", where ID is the number of a batch, M a module, A an address and D a word, of eight digits 0 to 9 and a to f each: ' + RULES,
+    '"progress" or "bye"; see "exchange talk --help"',
     "unknown": 'names no batch of this session; "accepted ID" gives the ID of each that it hands in',
     "unplanned": 'names a batch that has no plan yet; send "plan ID" first',
     "already": "names a batch that was already planned or run; hand it in again to run it again",
@@ -180,6 +180,8 @@ def of_form(text, number, form, wanted, differs=None):
     differs = form and difference(line, form) or differs
     if differs:
         return f"{quoted(line)}: {differs}; expected {wanted}"
+    if form and not is_ended:
+        return f"{quoted(line)}: the last line has no line feed at its end"
     return f"{quoted(line)}{'' if is_ended else ' without a line feed'} isn't {wanted}"
 
 
@@ -244,7 +246,7 @@ def of_text(asked, what, t=0, u=0):
         told = UNHEARD.get(line, QUOTES[what]) if what == "line" else QUOTES[what]
         if what == "line" and line not in UNHEARD and (differs := difference(line, SENT)):
             differs = differs.replace("{", "{{").replace("}", "}}")
-            told = told.replace(": ", f": {differs}; the lines are ", 1)
+            told = f'isn\'t a line of a session: {differs}; "exchange talk --help" lists the lines'
         return f"{quoted(line)} " + told.format(modules=numbered(modules, "module"), last=0x800007FC + 4 * blocks * words)
     if what == "no module" and asked.wiring[0]:
         board, wiring = asked.wiring[0], plain.read_wiring(asked.wiring[1])

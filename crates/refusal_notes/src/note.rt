@@ -108,13 +108,15 @@ impl<'a> LineNote<'a> {
     /// The sentence that is told of a line that isn't what is wanted.
     #[rattlefmt::skip]
     fn difference_sentence(&self) -> &'static [Piece] {
-        match (self.difference(), self.is_ended) {
-            (Some(_), _) => &[Piece::Place, Text(": "), Piece::Quote, Text(": "), Piece::Difference,
-                Text("; expected "), Piece::Wanted],
-            (None, true) => &[Piece::Place, Text(": "), Piece::Quote, Text(" isn't "),
+        match (self.difference(), self.is_ended, self.wanted.forms()) {
+            (Some(_), ..) => &[Piece::Place, Text(": "), Piece::Quote, Text(": "),
+                Piece::Difference, Text("; expected "), Piece::Wanted],
+            (None, true, _) => &[Piece::Place, Text(": "), Piece::Quote, Text(" isn't "),
                 Piece::Wanted],
-            (None, false) => &[Piece::Place, Text(": "), Piece::Quote,
+            (None, false, []) => &[Piece::Place, Text(": "), Piece::Quote,
                 Text(" without a line feed isn't "), Piece::Wanted],
+            (None, false, _) => &[Piece::Place, Text(": "), Piece::Quote,
+                Text(": the last line has no line feed at its end")],
         }
     }
 
@@ -126,9 +128,10 @@ impl<'a> LineNote<'a> {
                 Text(" isn't a line of a session; \"exchange talk --help\" lists them")],
             (b"quit", _) => &[Piece::Quote, Text(" isn't a line of a session; \"bye\" ends it")],
             (_, Some(Difference::Stops(1, ..)) | None) => &[Piece::Quote,
-                Text(" isn't a line of a session: "), Piece::Wanted],
+                Text(" isn't a line of a session: "), Piece::Wanted,
+                Text("; see \"exchange talk --help\"")],
             (_, Some(_)) => &[Piece::Quote, Text(" isn't a line of a session: "), Piece::Difference,
-                Text("; the lines are "), Piece::Wanted],
+                Text("; \"exchange talk --help\" lists the lines")],
         }
     }
 }

@@ -22,7 +22,7 @@ const RECORD_HEAD: &str =
 const CALL: &str =
     "\"S CALL\", where S is the number of a session, below the number of clients if the head names any, CALL is \"batch N\" and the batch's lines, \"fetch ID\", \"settle ID\", \"run ID\", \"show ID\", \"drop ID\", \"peek M A\" or \"poke M A D\"";
 
-/// What names in the lines of a session and in calls stand for, and how lines are written.
+/// What names in calls stand for, and how lines are written.
 const RULES: &str =
     "ID is the number of a batch, M a module, A an address and D a word, of eight digits 0 to 9 and a to f each: small letters, single spaces, numbers of at most nine digits and no leading zero";
 
@@ -108,7 +108,7 @@ fn is_none_line(line: &[u8]) -> bool
     line.starts_with(b"busiest none") && line.len() == 12
 }
 
-/// What is wanted, in full.
+/// What is wanted. Names in the lines of a session aren't explained.
 impl<'a> Display for Wanted<'a> {
     fn fmt<W: Write>(&self, f: &mut Formatter<W>) -> fmt::Result {
         match *self {
@@ -119,7 +119,6 @@ impl<'a> Display for Wanted<'a> {
                     "the call of entry {e}, {CALL}, {RULES}, a line feed at its end"
                 )
             }
-            Wanted::Sent => write!(f, "{}, where {RULES}", English(forms::SENT)),
             Wanted::Reply(e, due) => write!(f, "the reply of entry {e}, {due}"),
             Wanted::End | Wanted::RecordEnd => f.write_str("the end of the text"),
             _ => write!(f, "{}", English(self.forms())),
