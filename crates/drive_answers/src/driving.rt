@@ -134,7 +134,8 @@ fn refused(alloc: Global, why: Refusal) -> Result<DriveEnd, DriveFault>
     })
 }
 
-/// The refusal of a setting that a schedule hasn't, with how many it has.
+/// The refusal of a setting that a schedule of the batch hasn't. So many settings as it has are
+/// enough for the batch, and that is known of it.
 fn no_setting(alloc: Global, first: usize, schedule: &Schedule) -> Result<DriveEnd, DriveFault>
     ensures refused { IfOk result (λ end. Refuses (NoSetting first) end.answer) }
     ensures fault { IfErr result (λ fault. fault ≡ NoMemory) }

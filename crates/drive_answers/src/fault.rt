@@ -1,7 +1,7 @@
 use std::alloc::AllocError;
 
 /// Why there is nothing to print behind what was told.
-#[derive(Clone, Copy, Debug, PartialEq, Eq)]
+#[derive(Clone, Copy)]
 pub enum DriveFault {
     /// A setting stands, and couldn't be told.
     Untold,

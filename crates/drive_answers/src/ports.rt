@@ -10,7 +10,7 @@ use refusals::{PortName, Refusal};
 use std::io;
 
 /// A file of a port.
-#[derive(Clone, Copy, Debug, PartialEq, Eq)]
+#[derive(Clone, Copy)]
 pub enum PortFile {
     /// The one that has the port's name.
     Port,
@@ -21,7 +21,7 @@ pub enum PortFile {
 }
 
 /// Why a port couldn't be opened, or why it failed.
-#[derive(Debug, Drop)]
+#[derive(Drop)]
 pub struct PortFailure {
     /// The port.
     pub port: PortName,

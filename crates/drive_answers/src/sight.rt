@@ -8,7 +8,7 @@ use switch_driver::Driven;
 use switch_settings::{Disagreement, RackWiring, SettingFault};
 
 /// A link of a module.
-#[derive(Clone, Copy, Debug, PartialEq, Eq)]
+#[derive(Clone, Copy)]
 struct Place {
     link: u8,
     module: usize,
@@ -16,7 +16,7 @@ struct Place {
 
 /// An output that didn't reply what a setting calls for: where it leads, what the setting calls
 /// for, and the reply, each as the byte and in words.
-#[derive(Clone, Copy, Debug, PartialEq, Eq)]
+#[derive(Clone, Copy)]
 pub struct Sight {
     found: Disagreement,
     /// Where it leads, unless no module is on it.
@@ -90,7 +90,7 @@ fn place_on(board: &Board, output: u8) -> Option<Place> {
     None
 }
 
-/// A reply of an output, as the byte and in words.
+/// A reply of an output, as the byte, and in words what feeds the output.
 #[derive(Clone, Copy)]
 struct Reply {
     byte: u8,
@@ -101,15 +101,15 @@ impl fmt::Display for Reply {
     fn fmt<W: fmt::Write>(&self, f: &mut fmt::Formatter<W>) -> fmt::Result {
         let byte = self.byte;
         let Ok(state) = OutputState::read(byte) else {
-            return write!(f, "{byte:02x}, which no switch answers");
+            return write!(f, "{byte:02x}, which no switch gives");
         };
         match state {
             OutputState::Connected(input) => {
                 let kind = if self.is_one_way { "input" } else { "link" };
                 let number = input.get();
-                write!(f, "{byte:02x}, {kind} {number}")
+                write!(f, "{byte:02x}, fed by {kind} {number}")
             }
-            OutputState::Loose => write!(f, "{byte:02x}, loose"),
+            OutputState::Loose => write!(f, "{byte:02x}, fed by nothing"),
         }
     }
 }
@@ -130,9 +130,9 @@ impl fmt::Display for Sight {
             Some(Place { link, module }) => {
                 write!(f, "output {number}, link {link} of module {module}")?;
             }
-            None => write!(f, "output {number}, on which no module is")?,
+            None => write!(f, "output {number}, on which there is no module")?,
         }
-        write!(f, ": wanted {wanted}; came {came}")
+        write!(f, ": expected {wanted}; got {came}")
     }
 }
 
