@@ -25,6 +25,8 @@ pub(crate) enum Lack {
     Record,
     /// A name for each client that is one.
     Clients,
+    /// A name of its own for each client.
+    OwnNames,
     /// A file of its own for each use of standard input.
     Input,
     /// A file of its own for each that is written.
@@ -50,10 +52,11 @@ impl Lack {
             Lack::Source => "`--schedule` excludes `--steady` and `--workers`",
             Lack::Record => "`--resume` and `--sync` are for `--record`",
             Lack::Clients => "a client's name is empty or has a line feed",
+            Lack::OwnNames => "two clients have one name",
             Lack::Input =>
                 "standard input is read once: `-` can name one file, and none of `talk`, or of `drive` without `--go-on`",
             Lack::Files =>
-                "a file that is written, for `--record`, `--image-out`, a client or PORT, can't be `-`, nor one that is read, or written too, as by two clients of one name",
+                "a file that is written, for `--record`, `--image-out`, a client or PORT, can't be `-`, nor one that is read, or written too",
             Lack::Memory => "no memory",
         }
     }

@@ -58,6 +58,25 @@ fn are_client_names(names: &[Text]) -> bool
     names.iter().all(is_client_name)
 }
 
+/// Whether two of these names are one.
+fn are_twice(names: &[Text]) -> bool {
+    for i in 0..names.len() {
+        let name = names[i].as_str();
+        if names[..i].iter().any(|other| other.as_str() == name) {
+            return true;
+        }
+    }
+    false
+}
+
+/// Whether two of a job's clients have one name.
+pub(crate) fn names_one_client_twice(job: &Job) -> bool {
+    match job {
+        Job::Host { clients, .. } => are_twice(clients.as_slice()),
+        _ => false,
+    }
+}
+
 /// Whether each of a job's clients has a name that it may have.
 pub(crate) fn names_clients(job: &Job) -> bool
     ensures { IsTrue result ↔ All IsClientName (clients_of job.now) }

@@ -10,7 +10,7 @@ use crate::faults::{Lack, fault_of};
 use crate::grammar::matches_of;
 use crate::jobs::{ArgumentsFault, Job, RecordFile, Request, SharedRack};
 use crate::limits::{LAST_MODULE, MAX_CLIENTS, MAX_NUMBER};
-use crate::outputs::{have_names, names_clients};
+use crate::outputs::{have_names, names_clients, names_one_client_twice};
 use crate::text::Text;
 use crate::text_list::TextList;
 use crate::uses::{Access, FileUse, file_uses};
@@ -261,6 +261,9 @@ fn judge(alloc: Global, job: &Job) -> Result<(), Lack>
     let files = file_uses(alloc, job)?;
     if have_names(files.as_slice()) {
         return Ok(());
+    }
+    if names_one_client_twice(job) {
+        return Err(Lack::OwnNames);
     }
     let reads_input = |file: &&FileUse| !file.access.excludes(Access::Read) && file.name.is_input();
     let inputs = files.iter().filter(reads_input).count();
