@@ -39,6 +39,7 @@ def batches():
     yield "gather", [(m, 0) for m in range(1, 16) for _ in range(64)]
     yield "butterfly", [(m, m ^ 1 << bit) for bit in range(4) for m in range(16) for _ in range(64)]
     yield "permutations", list(permuted_pairs(draw, 8, 32, 16))
+    yield "once_each", [(m, n) for m in range(32) for n in range(32) if m != n]
 
 
 for name, pairs in batches():
