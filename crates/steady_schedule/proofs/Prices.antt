@@ -1,6 +1,6 @@
 -- What prices show: over the steps of a schedule, each of which has each link with one partner, or idle.
-use Rattle.std.proofs.Common.{◌≡◌, ℕ, zero, suc, ◌+◌, ◌-◌, ◌*◌, ◌/◌, ◌<◌, ◌≤◌, List, [], ◌∷◌, length, All, Bool, true, false, cond, Option, Some, None, refl, sym, ap, subst, ◌∙◌, inl, inr, add-one, arith}
-use Rattle.std.specs.Prelude.{nat_lt, sum_by, IfSome}
+use Rattle.std.proofs.Common.{◌≡◌, ℕ, zero, suc, ◌+◌, ◌-◌, ◌*◌, ◌/◌, ◌<◌, ◌≤◌, List, [], ◌∷◌, length, All, Bool, true, false, cond, refl, sym, ap, subst, ◌∙◌, inl, inr, add-one, zero-add, arith}
+use Rattle.std.specs.Prelude.{nat_lt, sum_by}
 use Rattle.std.specs.List.{AllByRecursion}
 use Rattle.std.proofs.lemmas.Bool.{cases_Bool, cases_lt, lt-ltb, le-ltb}
 use Rattle.std.proofs.lemmas.List.Elements.{All-head, All-tail, All-nil, All-cons}
@@ -19,11 +19,11 @@ use Rattle.link_graph.specs.Schedules.{IsScheduleOf}
 use Rattle.link_graph.specs.Uses.{IsMatching}
 use Rattle.link_graph.proofs.Users.{made}
 use Rattle.steady_schedule.specs.Changes.{join_same, changes}
-use Rattle.steady_schedule.specs.Prices.{AreNeeded, IsLongest, IsCheapest, SCALE, price_at, price_for, AreFair, ArePairCosts, AreIdleCosts}
+use Rattle.steady_schedule.specs.Prices.{AreNeeded, IsLongest, IsCheapest, SCALE, price_at, price_for, AreFair, number_for, AreCosts}
 use Rattle.steady_schedule.specs.Waiting.{sum_below, count_at, count_between, waiting, ArePairCounts, HaveMost}
-use Rattle.steady_schedule.proofs.StepSums.{swap_below, each_of}
+use Rattle.steady_schedule.proofs.StepSums.{sum_equal, swap_below, each_of}
 use Rattle.steady_schedule.proofs.Runs.{Step, steps_from, steps_of, many_steps, has, step_numbers, each_now, number_low, number_idle, at_link, shared}
-use Rattle.steady_schedule.proofs.Sums.{only, sum_same, sum_both, sum_swap, sum_more, sum_zero, at_most_sum}
+use Rattle.steady_schedule.proofs.Sums.{only, only_few, sum_none, sum_same, sum_both, sum_swap, sum_more, sum_zero, at_most_sum}
 use Rattle.steady_schedule.proofs.Waiting.{all_low, waiting_uses}
 
 -- ---- making up numbers
@@ -44,6 +44,26 @@ made_of costs price top most none more (k ∷ ks) all few =
 pub made_up : (costs price : ℕ → ℕ) (top most : ℕ) → costs 0 ≡ 0 → ((v k : ℕ) → 0 < k → k ≤ top → v + k ≤ most → costs (v + k) ≤ costs v + price k) → IsCheapest price top most (costs most)
 made_up costs price top most none more lengths all is = omega (arith, ap costs is, made_of costs price top most none more lengths all (omega (arith, is)))
 
+-- two numbers, of which the smaller one is a length, are as cheap as a number and a length
+pub split_more : (costs price : ℕ → ℕ) (top n cost : ℕ) → costs 0 ≡ 0 → ((v k : ℕ) → 0 < k → k ≤ top → v + k < n → costs (v + k) ≤ costs v + price k)
+    → (n ≤ top → cost ≤ price n) → ((k : ℕ) → 0 < k → k ≤ top → k + k ≤ n → cost ≤ costs k + costs (n - k))
+    → (v k : ℕ) → 0 < k → k ≤ top → v + k ≡ n → cost ≤ costs v + price k
+split_more costs price top n cost none more one two v k some few is = elim (cases_lt 0 v) [
+  | inr v_none ↦
+      let whole : k ≡ n = omega (arith, is, v_none) in
+      omega (arith, one (omega (arith, whole, few)), ap price whole)
+  | inl v_some ↦
+      let piece : costs k ≤ price k = omega (arith, ap costs (zero-add k), none, more 0 k some few (omega (arith, is, v_some, zero-add k))) in
+      elim (cases_lt v k) [
+        | inl v_less ↦
+            let rest : n - v ≡ k = omega (arith, is) in
+            omega (arith, two v v_some (omega (arith, v_less, few)) (omega (arith, is, v_less)), ap costs rest, piece)
+        | inr k_few ↦
+            let rest : n - k ≡ v = omega (arith, is) in
+            omega (arith, two k some few (omega (arith, is, k_few)), ap costs rest, piece)
+      ]
+]
+
 same_sum : (f g : ℕ → ℕ) (top : ℕ) → ((k : ℕ) → 0 < k → k ≤ top → f k ≡ g k) → (lengths : List ℕ) → All (IsLength top) lengths → sum_by f lengths ≡ sum_by g lengths
 same_sum f g top same [] all = refl
 same_sum f g top same (k ∷ ks) all =
@@ -58,13 +78,14 @@ same_prices f g top number cost same cheap lengths all is = omega (arith, cheap 
 pub price_low : (prices : List ℕ) (top l k : ℕ) → AreFair prices top → l < LINKS → 0 < k → k ≤ top → price_at prices l k ≤ SCALE
 price_low prices top l k fair l_in some few = omega (arith, at_most_sum LINKS l (λ i. price_at prices i k) l_in, fair.each k some few)
 
-pub both_low : (prices : List ℕ) (top one : ℕ) (other : Option ℕ) → AreFair prices top → one < LINKS → IfSome other (λ l. l < LINKS) → (k : ℕ) → 0 < k → k ≤ top → price_for prices one other k ≤ 131072
-both_low prices top one None fair one_in other_in k some few = omega (arith, price_low prices top one k fair one_in some few)
-both_low prices top one (Some other) fair one_in other_in k some few = omega (arith, price_low prices top one k fair one_in some few, price_low prices top other k fair other_in some few)
+side_low : (prices : List ℕ) (top m l k : ℕ) → AreFair prices top → (m < MAX_MODULES → l < LINKS) → 0 < k → k ≤ top → cond (nat_lt m MAX_MODULES) (price_at prices l k) 0 ≤ SCALE
+side_low prices top m l k fair l_in some few = elim (cases_lt m MAX_MODULES) [
+  | inl lt ↦ rw (lt-ltb m MAX_MODULES lt) (price_low prices top l k fair (l_in lt) some few)
+  | inr le ↦ rw (le-ltb m MAX_MODULES le) (omega arith)
+]
 
--- the same by other names
-pub idle_is : (prices : List ℕ) (top link index number idle cost : ℕ) → link ≡ index → number ≡ idle → IsCheapest (price_for prices link None) top number cost → IsCheapest (price_for prices index None) top idle cost
-idle_is prices top link index number idle cost same_link same_number cheap lengths all is = omega (arith, cheap lengths all (omega (arith, is, same_number)), same_sum (price_for prices link None) (price_for prices index None) top (λ k _ _. ap (λ (l : ℕ). price_at prices l k) same_link) lengths all)
+pub both_low : (prices : List ℕ) (top u v k : ℕ) → AreFair prices top → 0 < k → k ≤ top → price_for prices u v k ≤ 131072
+both_low prices top u v k fair some few = omega (arith, side_low prices top u u k fair (λ lt. omega (arith, lt)) some few, side_low prices top v (MAX_MODULES + v) k fair (λ lt. omega (arith, lt)) some few)
 
 -- ---- steps that make up a number
 
@@ -113,47 +134,33 @@ one_spread (suc n) b k one = elim (cases_Bool (b n)) [
   | inr f ↦ omega (arith, ap (λ (x : Bool). only x k) f, one_spread n b k (omega (arith, one, ap (λ (x : Bool). only x 1) f)))
 ]
 
--- one of the places, or else the last one
-spread : (n : ℕ) (b : ℕ → Bool) (c : Bool) (k : ℕ) → sum_below n (λ m. only (b m) 1) + only c 1 ≡ 1 → sum_below n (λ m. only (b m) k) + only c k ≡ k
-spread n b true k one = omega (arith, none_spread n b k (omega (arith, one)))
-spread n b false k one = omega (arith, one_spread n b k (omega (arith, one)))
+-- the places that are taken: one of them, or else they cost nothing
+each_side : (n : ℕ) (b c : ℕ → Bool) (x : ℕ) → ((m : ℕ) → m < n → b m ≡ c m) → sum_below n (λ m. only (c m) 1) ≡ 1 → sum_below n (λ m. only (b m) x) ≡ x
+each_side n b c x same one = sum_same n (λ m. only (b m) x) (λ m. only (c m) x) (λ m lt. ap (λ (t : Bool). only t x) (same m lt)) ∙ one_spread n c x one
+
+none_side : (n : ℕ) (b : ℕ → Bool) (x : ℕ) → x ≡ 0 → sum_below n (λ m. only (b m) x) ≡ x
+none_side n b x none = sum_same n (λ m. only (b m) x) (λ m. 0) (λ m lt. omega (arith, only_few (b m) x, none)) ∙ (sum_none n ∙ sym none)
 
 split_only : (b : Bool) (x y : ℕ) → only b (x + y) ≡ only b x + only b y
 split_only true x y = refl
 split_only false x y = refl
 
-three_few : {J : Type 0} (f g h : J → ℕ) (scale : ℕ) (js : List J) → AllByRecursion (λ j. f j + g j + h j ≤ scale) js → sum_by f js + sum_by g js + sum_by h js ≤ length js * scale
-three_few f g h scale [] all = omega arith
-three_few f g h scale (j ∷ js) all = omega (arith, sum_by-cons f j js, sum_by-cons g j js, sum_by-cons h j js, all.0, three_few f g h scale js all.1)
+all_few : {J : Type 0} (f : J → ℕ) (scale : ℕ) (js : List J) → AllByRecursion (λ j. f j ≤ scale) js → sum_by f js ≤ length js * scale
+all_few f scale [] all = omega arith
+all_few f scale (j ∷ js) all = omega (arith, sum_by-cons f j js, all.0, all_few f scale js all.1)
 
 -- ---- steps
 
-module _ {J : Type 0} (n : ℕ) (s : J → ℕ) (pair : J → ℕ → ℕ → Bool) (row column : J → ℕ → Bool) (p q : ℕ → ℕ → ℕ) (scale top : ℕ)
+module _ {J : Type 0} (n : ℕ) (s : J → ℕ) (pair : J → ℕ → ℕ → Bool) (p q : ℕ → ℕ → ℕ) (scale top : ℕ)
     (few : (k : ℕ) → 0 < k → k ≤ top → sum_below n (λ u. p u k) + sum_below n (λ v. q v k) ≤ scale) where
   abbrev pub IsPaid : J → Type 0
   IsPaid j = IsLength top (s j)
-      × ((u : ℕ) → u < n → sum_below n (λ v. only (pair j u v) 1) + only (row j u) 1 ≡ 1)
-      × ((v : ℕ) → v < n → sum_below n (λ u. only (pair j u v) 1) + only (column j v) 1 ≡ 1)
+      × ((u : ℕ) → u < n → sum_below n (λ v. only (pair j u v) (p u (s j))) ≡ p u (s j))
+      × ((v : ℕ) → v < n → sum_below n (λ u. only (pair j u v) (q v (s j))) ≡ q v (s j))
 
   -- what a step costs
   abbrev pub pair_price : J → ℕ → ℕ → ℕ
   pair_price j u v = only (pair j u v) (p u (s j) + q v (s j))
-
-  abbrev pub row_price : J → ℕ → ℕ
-  row_price j u = only (row j u) (p u (s j))
-
-  abbrev pub column_price : J → ℕ → ℕ
-  column_price j v = only (column j v) (q v (s j))
-
-  row_part : (j : J) → IsPaid j → sum_below n (λ u. sum_below n (λ v. only (pair j u v) (p u (s j)))) + sum_below n (row_price j) ≡ sum_below n (λ u. p u (s j))
-  row_part j is =
-      sym (sum_both n (λ u. sum_below n (λ v. only (pair j u v) (p u (s j)))) (row_price j))
-      ∙ sum_same n (λ u. sum_below n (λ v. only (pair j u v) (p u (s j))) + row_price j u) (λ u. p u (s j)) (λ u lt. spread n (pair j u) (row j u) (p u (s j)) (is.1 u lt))
-
-  column_part : (j : J) → IsPaid j → sum_below n (λ v. sum_below n (λ u. only (pair j u v) (q v (s j)))) + sum_below n (column_price j) ≡ sum_below n (λ v. q v (s j))
-  column_part j is =
-      sym (sum_both n (λ v. sum_below n (λ u. only (pair j u v) (q v (s j)))) (column_price j))
-      ∙ sum_same n (λ v. sum_below n (λ u. only (pair j u v) (q v (s j))) + column_price j v) (λ v. q v (s j)) (λ v lt. spread n (λ u. pair j u v) (column j v) (q v (s j)) (is.2 v lt))
 
   pair_parts : (j : J) → sum_below n (λ u. sum_below n (pair_price j u)) ≡ sum_below n (λ u. sum_below n (λ v. only (pair j u v) (p u (s j)))) + sum_below n (λ v. sum_below n (λ u. only (pair j u v) (q v (s j))))
   pair_parts j =
@@ -161,21 +168,20 @@ module _ {J : Type 0} (n : ℕ) (s : J → ℕ) (pair : J → ℕ → ℕ → Bo
       sum_same n (pair_price j u) (λ v. only (pair j u v) (p u (s j)) + only (pair j u v) (q v (s j))) (λ v v_in. split_only (pair j u v) (p u (s j)) (q v (s j)))
       ∙ sum_both n (λ v. only (pair j u v) (p u (s j))) (λ v. only (pair j u v) (q v (s j)))) in
       let both = sum_both n (λ u. sum_below n (λ v. only (pair j u v) (p u (s j)))) (λ u. sum_below n (λ v. only (pair j u v) (q v (s j)))) in
-      let swapped = sum_swap n n (λ u v. only (pair j u v) (q v (s j))) in
-      omega (arith, inside, both, swapped)
+      omega (arith, inside, both, sum_swap n n (λ u v. only (pair j u v) (q v (s j))))
 
-  step_few : (j : J) → IsPaid j → sum_below n (λ u. sum_below n (pair_price j u)) + sum_below n (row_price j) + sum_below n (column_price j) ≤ scale
-  step_few j is = omega (arith, pair_parts j, row_part j is, column_part j is, few (s j) is.0.0 is.0.1)
+  step_few : (j : J) → IsPaid j → sum_below n (λ u. sum_below n (pair_price j u)) ≤ scale
+  step_few j is =
+      let rows = sum_same n (λ u. sum_below n (λ v. only (pair j u v) (p u (s j)))) (λ u. p u (s j)) is.1 in
+      let columns = sum_same n (λ v. sum_below n (λ u. only (pair j u v) (q v (s j)))) (λ v. q v (s j)) is.2 in
+      omega (arith, pair_parts j, rows, columns, few (s j) is.0.0 is.0.1)
 
   -- all steps cost no more than the scale for each
-  pub paid_few : (js : List J) → AllByRecursion IsPaid js
-      → sum_below n (λ u. sum_below n (λ v. sum_by (λ j. pair_price j u v) js)) + sum_below n (λ u. sum_by (λ j. row_price j u) js) + sum_below n (λ v. sum_by (λ j. column_price j v) js)
-      ≤ length js * scale
+  pub paid_few : (js : List J) → AllByRecursion IsPaid js → sum_below n (λ u. sum_below n (λ v. sum_by (λ j. pair_price j u v) js)) ≤ length js * scale
   paid_few js all =
       let inside = sum_same n (λ u. sum_below n (λ v. sum_by (λ j. pair_price j u v) js)) (λ u. sum_by (λ j. sum_below n (pair_price j u)) js) (λ u lt. swap_below n (λ j. pair_price j u) js) in
-      let pairs = swap_below n (λ j u. sum_below n (pair_price j u)) js in
-      let each = each_of IsPaid (λ j. sum_below n (λ u. sum_below n (pair_price j u)) + sum_below n (row_price j) + sum_below n (column_price j) ≤ scale) step_few js all in
-      omega (arith, inside, pairs, swap_below n row_price js, swap_below n column_price js, three_few (λ j. sum_below n (λ u. sum_below n (pair_price j u))) (λ j. sum_below n (row_price j)) (λ j. sum_below n (column_price j)) scale js each)
+      let each = each_of IsPaid (λ j. sum_below n (λ u. sum_below n (pair_price j u)) ≤ scale) step_few js all in
+      omega (arith, inside, swap_below n (λ j u. sum_below n (pair_price j u)) js, all_few (λ j. sum_below n (λ u. sum_below n (pair_price j u))) scale js each)
 
 -- ---- the steps of a schedule
 
@@ -226,23 +232,54 @@ split_sum n (suc m) f =
     let same : n + suc m ≡ n + m + 1 = omega arith in
     omega (arith, ap (λ (k : ℕ). sum_below k f) same, sum_more (n + m) f, ap (λ (k : ℕ). sum_below k (λ i. f (n + i))) (add-one m), sum_more m (λ i. f (n + i)), split_sum n m f)
 
+-- the price of a link for a length; none behind all modules
+abbrev side_price : List ℕ → End → ℕ → ℕ → ℕ
+side_price prices end m k = cond (nat_lt m MAX_MODULES) (price_at prices (index_by end m) k) 0
+
+side_none : (prices : List ℕ) (end : End) (m k : ℕ) → MAX_MODULES ≤ m → side_price prices end m k ≡ 0
+side_none prices end m k le = rw (le-ltb m MAX_MODULES le) refl
+
+-- what is made up by a pair, by a link 0 that is idle, and by such a link 3
+number_pair : (counts : List ℕ) (n u v : ℕ) → u < MAX_MODULES → v < MAX_MODULES → number_for counts n u v ≡ count_at counts u v
+number_pair counts n u v u_in v_in = rw (lt-ltb u MAX_MODULES u_in, lt-ltb v MAX_MODULES v_in) refl
+
+number_zero : (counts : List ℕ) (n u v : ℕ) → u < MAX_MODULES → MAX_MODULES ≤ v → number_for counts n u v ≡ n - waiting counts Zero u
+number_zero counts n u v u_in le = rw (lt-ltb u MAX_MODULES u_in, le-ltb v MAX_MODULES le) refl
+
+number_three : (counts : List ℕ) (n u v : ℕ) → MAX_MODULES ≤ u → v < MAX_MODULES → number_for counts n u v ≡ n - waiting counts Three v
+number_three counts n u v le v_in = rw (le-ltb u MAX_MODULES le, lt-ltb v MAX_MODULES v_in) refl
+
 module _ (batch : List Transfer) (fits : IsBatch batch) where
+  -- whether a step joins a pair; or where the one or the other place is behind all modules, whether it leaves the link idle
   abbrev joined : Step → ℕ → ℕ → Bool
-  joined j u v = has batch fits (made Zero u) j v
+  joined j u v = cond (nat_lt u MAX_MODULES) (has batch fits (made Zero u) j v) (has batch fits (made Three v) j MAX_MODULES)
 
-  abbrev idle : End → Step → ℕ → Bool
-  idle end j m = has batch fits (made end m) j MAX_MODULES
+  joined_low : (j : Step) (u v : ℕ) → u < MAX_MODULES → joined j u v ≡ has batch fits (made Zero u) j v
+  joined_low j u v u_in = rw (lt-ltb u MAX_MODULES u_in) refl
 
-  turned_about : (j : Step) (u v : ℕ) → u < MAX_MODULES → v < MAX_MODULES → has batch fits (made Three v) j u ≡ joined j u v
-  turned_about j u v u_in v_in = ap (nat_lt 0) (number_low (members batch j.setting) 1 (made Three v) u u_in ∙ (at_link (members batch j.setting) Three v u ∙ sym (number_low (members batch j.setting) 1 (made Zero u) v v_in)))
+  joined_high : (j : Step) (u v : ℕ) → MAX_MODULES ≤ u → joined j u v ≡ has batch fits (made Three v) j MAX_MODULES
+  joined_high j u v le = rw (le-ltb u MAX_MODULES le) refl
 
-  each_row : (j : Step) → IsMatching batch j.setting → (u : ℕ) → sum_below MAX_MODULES (λ v. only (joined j u v) 1) + only (idle Zero j u) 1 ≡ 1
-  each_row j is u = omega (arith, each_now batch fits (made Zero u) j.setting is, sum_more MAX_MODULES (λ m. only (has batch fits (made Zero u) j m) 1))
+  turned_about : (j : Step) (u v : ℕ) → u < MAX_MODULES → v < MAX_MODULES → has batch fits (made Zero u) j v ≡ has batch fits (made Three v) j u
+  turned_about j u v u_in v_in = ap (nat_lt 0) (number_low (members batch j.setting) 1 (made Zero u) v v_in ∙ (sym (at_link (members batch j.setting) Three v u) ∙ sym (number_low (members batch j.setting) 1 (made Three v) u u_in)))
 
-  each_column : (j : Step) → IsMatching batch j.setting → (v : ℕ) → v < MAX_MODULES → sum_below MAX_MODULES (λ u. only (joined j u v) 1) + only (idle Three j v) 1 ≡ 1
-  each_column j is v v_in =
-      let same = sum_same MAX_MODULES (λ u. only (has batch fits (made Three v) j u) 1) (λ u. only (joined j u v) 1) (λ u u_in. ap (λ (b : Bool). only b 1) (turned_about j u v u_in v_in)) in
-      omega (arith, each_now batch fits (made Three v) j.setting is, sum_more MAX_MODULES (λ m. only (has batch fits (made Three v) j m) 1), same)
+  joined_three : (j : Step) (u v : ℕ) → u < MAX_MODULES + 1 → v < MAX_MODULES → joined j u v ≡ has batch fits (made Three v) j u
+  joined_three j u v u_few v_in = elim (cases_lt u MAX_MODULES) [
+    | inl u_in ↦ joined_low j u v u_in ∙ turned_about j u v u_in v_in
+    | inr le ↦ joined_high j u v le ∙ ap (has batch fits (made Three v) j) {x = MAX_MODULES} {y = u} (omega (arith, u_few, le))
+  ]
+
+  each_row : (prices : List ℕ) (k : ℕ) (j : Step) → IsMatching batch j.setting → (u : ℕ) → sum_below (MAX_MODULES + 1) (λ v. only (joined j u v) (side_price prices Zero u k)) ≡ side_price prices Zero u k
+  each_row prices k j is u = elim (cases_lt u MAX_MODULES) [
+    | inl u_in ↦ each_side (MAX_MODULES + 1) (joined j u) (has batch fits (made Zero u) j) (side_price prices Zero u k) (λ v lt. joined_low j u v u_in) (each_now batch fits (made Zero u) j.setting is)
+    | inr le ↦ none_side (MAX_MODULES + 1) (joined j u) (side_price prices Zero u k) (side_none prices Zero u k le)
+  ]
+
+  each_column : (prices : List ℕ) (k : ℕ) (j : Step) → IsMatching batch j.setting → (v : ℕ) → sum_below (MAX_MODULES + 1) (λ u. only (joined j u v) (side_price prices Three v k)) ≡ side_price prices Three v k
+  each_column prices k j is v = elim (cases_lt v MAX_MODULES) [
+    | inl v_in ↦ each_side (MAX_MODULES + 1) (λ u. joined j u v) (has batch fits (made Three v) j) (side_price prices Three v k) (λ u lt. joined_three j u v lt v_in) (each_now batch fits (made Three v) j.setting is)
+    | inr le ↦ none_side (MAX_MODULES + 1) (λ u. joined j u v) (side_price prices Three v k) (side_none prices Three v k le)
+  ]
 
   module _ (settings : List (List ℕ)) (schedule : IsScheduleOf batch settings) (counts : List ℕ) (counted : ArePairCounts batch counts) (top : ℕ) where
     abbrev js : List Step
@@ -259,14 +296,11 @@ module _ (batch : List Transfer) (fits : IsBatch batch) where
     uses_is : (end : End) (x : ℕ) → x < MAX_MODULES → waiting counts end x ≡ uses batch (made end x)
     uses_is end x x_in = waiting_uses batch counts end x counted (all_low batch fits) x_in
 
-    module _ (longest : IsLongest counts (length settings) top) where
-      abbrev link : Link
-      link = made longest.end longest.«module»
-
+    module _ (link : Link) (longest : IsLongest counts (length settings) link top) where
       few_in : (m : ℕ) → m < MAX_MODULES + 1 → sum_by (λ j. taken link j m) js ≤ top
       few_in m lt = elim (cases_lt m MAX_MODULES) [
-        | inl low ↦ omega (arith, step_numbers batch fits link settings schedule m lt, number_low batch (length settings) link m low, shared_is longest.end longest.«module» m longest.low low, longest.most m low)
-        | inr le ↦ omega (arith, step_numbers batch fits link settings schedule m lt, number_idle batch (length settings) link m le, longest.full, uses_is longest.end longest.«module» longest.low)
+        | inl low ↦ omega (arith, step_numbers batch fits link settings schedule m lt, number_low batch (length settings) link m low, shared_is link.end link.«module» m longest.low low, longest.most m low)
+        | inr le ↦ omega (arith, step_numbers batch fits link settings schedule m lt, number_idle batch (length settings) link m le, longest.full, uses_is link.end link.«module» longest.low)
       ]
 
       abbrev capped : ℕ → ℕ
@@ -285,66 +319,69 @@ module _ (batch : List Transfer) (fits : IsBatch batch) where
           omega (arith, le place.0, ap (λ (b : Bool). only b j.settings) place.2, ap (λ (b : Bool). cond b top (sum_by (λ i. taken link i place.0) js)) (lt-ltb place.0 (MAX_MODULES + 1) place.1))
 
       module _ (prices : List ℕ) (fair : AreFair prices top) where
-        abbrev p : End → ℕ → ℕ → ℕ
-        p end m k = price_at prices (index_by end m) k
+        few_side : (end : End) (k : ℕ) → sum_below (MAX_MODULES + 1) (λ m. side_price prices end m k) ≡ sum_below MAX_MODULES (λ m. price_at prices (index_by end m) k)
+        few_side end k = omega (arith, sum_more MAX_MODULES (λ m. side_price prices end m k), sum_same MAX_MODULES (λ m. side_price prices end m k) (λ m. price_at prices (index_by end m) k) (λ m lt. rw (lt-ltb m MAX_MODULES lt) refl))
 
-        few_prices : (k : ℕ) → 0 < k → k ≤ top → sum_below MAX_MODULES (λ u. p Zero u k) + sum_below MAX_MODULES (λ v. p Three v k) ≤ SCALE
-        few_prices k some few = omega (arith, fair.each k some few, split_sum MAX_MODULES MAX_MODULES (λ l. price_at prices l k))
+        few_prices : (k : ℕ) → 0 < k → k ≤ top → sum_below (MAX_MODULES + 1) (λ u. side_price prices Zero u k) + sum_below (MAX_MODULES + 1) (λ v. side_price prices Three v k) ≤ SCALE
+        few_prices k some few = omega (arith, fair.each k some few, few_side Zero k, few_side Three k, split_sum MAX_MODULES MAX_MODULES (λ l. price_at prices l k))
 
         abbrev IsPaidStep : Step → Type 0
-        IsPaidStep = IsPaid MAX_MODULES (λ j. j.settings) joined (idle Zero) (idle Three) (p Zero) (p Three) SCALE top few_prices
+        IsPaidStep = IsPaid (MAX_MODULES + 1) (λ j. j.settings) joined (side_price prices Zero) (side_price prices Three) SCALE top few_prices
 
         all_paid : AllByRecursion IsPaidStep js
         all_paid = both_all (IsStepIn batch) (λ j. (m : ℕ) → taken link j m ≤ capped m) IsPaidStep (λ j is le.
-            ((is.0, step_top j is.1 le), (λ u u_in. each_row j is.1 u), (λ v v_in. each_column j is.1 v v_in))) js
+            ((is.0, step_top j is.1 le), (λ u u_in. each_row prices j.settings j is.1 u), (λ v v_in. each_column prices j.settings j is.1 v))) js
             (all_in batch settings schedule.matchings) (each_few (taken link) capped js few_capped)
 
-        lengths : AllByRecursion (λ j. IsLength top j.settings) js
-        lengths = each_of IsPaidStep (λ j. IsLength top j.settings) (λ j is. is.0) js all_paid
+        -- what the steps pay in which a pair is joined, or a link is idle
+        abbrev pays : ℕ → ℕ → ℕ
+        pays u v = sum_by (λ j. only (joined j u v) (price_for prices u v j.settings)) js
 
-        -- what the steps pay in which a pair is joined, and in which a link is idle
-        abbrev pub pair_pays : ℕ → ℕ → ℕ
-        pair_pays u v = sum_by (λ j. only (joined j u v) (p Zero u j.settings + p Three v j.settings)) js
+        long_idle : (end : End) (m : ℕ) → m < MAX_MODULES → sum_by (λ j. taken (made end m) j MAX_MODULES) js ≡ length settings - waiting counts end m
+        long_idle end m m_in = omega (arith, step_numbers batch fits (made end m) settings schedule MAX_MODULES (omega arith), number_idle batch (length settings) (made end m) MAX_MODULES (omega arith), uses_is end m m_in)
 
-        abbrev pub idle_pays : End → ℕ → ℕ
-        idle_pays end m = sum_by (λ j. only (idle end j m) (p end m j.settings)) js
+        -- how long all steps together join a pair, or leave a link idle
+        abbrev long : ℕ → ℕ → ℕ
+        long u v = sum_by (λ j. only (joined j u v) j.settings) js
 
-        pub pair_paid : (u v cost : ℕ) → u < MAX_MODULES → v < MAX_MODULES → IsCheapest (price_for prices u (Some (MAX_MODULES + v))) top (count_at counts u v) cost → cost ≤ pair_pays u v
-        pair_paid u v cost u_in v_in cheap =
-            let all = step_numbers batch fits (made Zero u) settings schedule v (omega (arith, v_in)) ∙ (number_low batch (length settings) (made Zero u) v v_in ∙ shared_is Zero u v u_in v_in) in
-            paid_by (λ j. joined j u v) (λ j. j.settings) (price_for prices u (Some (MAX_MODULES + v))) top (count_at counts u v) cost js lengths all cheap
+        long_zero : (u v : ℕ) → u < MAX_MODULES → v ≤ MAX_MODULES → long u v ≡ number_for counts (length settings) u v
+        long_zero u v u_in v_few =
+            let same = sum_equal (λ j. only (joined j u v) j.settings) (λ j. taken (made Zero u) j v) (λ j. ap (λ (b : Bool). only b j.settings) (joined_low j u v u_in)) js in
+            elim (cases_lt v MAX_MODULES) [
+              | inl v_in ↦ omega (arith, same, step_numbers batch fits (made Zero u) settings schedule v (omega (arith, v_in)), number_low batch (length settings) (made Zero u) v v_in, shared_is Zero u v u_in v_in, number_pair counts (length settings) u v u_in v_in)
+              | inr le ↦ omega (arith, same, ap (λ (k : ℕ). sum_by (λ j. taken (made Zero u) j k) js) {x = v} {y = MAX_MODULES} (omega (arith, v_few, le)), long_idle Zero u u_in, number_zero counts (length settings) u v u_in le)
+            ]
 
-        pub idle_paid : (end : End) (m cost : ℕ) → m < MAX_MODULES → IsCheapest (price_for prices (index_by end m) None) top (length settings - waiting counts end m) cost → cost ≤ idle_pays end m
-        idle_paid end m cost m_in cheap =
-            let all : sum_by (λ j. only (idle end j m) j.settings) js ≡ length settings - waiting counts end m = omega (arith, step_numbers batch fits (made end m) settings schedule MAX_MODULES (omega arith), number_idle batch (length settings) (made end m) MAX_MODULES (omega arith), uses_is end m m_in) in
-            paid_by (λ j. idle end j m) (λ j. j.settings) (price_for prices (index_by end m) None) top (length settings - waiting counts end m) cost js lengths all cheap
+        long_three : (u v : ℕ) → MAX_MODULES ≤ u → v < MAX_MODULES → long u v ≡ number_for counts (length settings) u v
+        long_three u v le v_in = sum_equal (λ j. only (joined j u v) j.settings) (λ j. taken (made Three v) j MAX_MODULES) (λ j. ap (λ (b : Bool). only b j.settings) (joined_high j u v le)) js
+            ∙ (long_idle Three v v_in ∙ sym (number_three counts (length settings) u v le v_in))
 
-        pub all_pay : (pairs zero_idle three_idle : ℕ) → pairs ≤ sum_below MAX_MODULES (λ u. sum_below MAX_MODULES (pair_pays u)) → zero_idle ≤ sum_below MAX_MODULES (idle_pays Zero) → three_idle ≤ sum_below MAX_MODULES (idle_pays Three)
-            → pairs + zero_idle + three_idle ≤ changes batch settings * SCALE
-        all_pay pairs zero_idle three_idle pairs_few zero_few three_few =
-            let few = paid_few MAX_MODULES (λ j. j.settings) joined (idle Zero) (idle Three) (p Zero) (p Three) SCALE top few_prices js all_paid in
-            let many = ap (λ (k : ℕ). k * SCALE) (many_steps batch settings) in
-            omega (arith, few, many, pairs_few, zero_few, three_few)
+        paid : AreCosts counts (length settings) prices top pays
+        paid u v cost u_few v_few cheap =
+            let by = λ (all : long u v ≡ number_for counts (length settings) u v). paid_by (λ j. joined j u v) (λ j. j.settings) (price_for prices u v) top (number_for counts (length settings) u v) cost js (each_of IsPaidStep (λ j. IsLength top j.settings) (λ j is. is.0) js all_paid) all cheap in
+            elim (cases_lt u MAX_MODULES) [
+              | inl u_in ↦ by (long_zero u v u_in v_few)
+              | inr le ↦ elim (cases_lt v MAX_MODULES) [
+                | inl v_in ↦ by (long_three u v le v_in)
+                | inr v_le ↦
+                    let none : 0 ≡ number_for counts (length settings) u v = rw (le-ltb u MAX_MODULES le, le-ltb v MAX_MODULES v_le) refl in
+                    omega (arith, cheap [] (All-nil (IsLength top)) none)
+              ]
+            ]
 
         -- so the prices show as many changes as make this up
-        pub shown : (pairs zero_idle three_idle : ℕ)
-            → ((most : ℕ → ℕ → ℕ) → ((u : ℕ) → u < MAX_MODULES → ArePairCosts counts prices top u (most u)) → pairs ≤ sum_below MAX_MODULES (λ u. sum_below MAX_MODULES (most u)))
-            → ((most : ℕ → ℕ) → AreIdleCosts counts (length settings) prices top Zero most → zero_idle ≤ sum_below MAX_MODULES most)
-            → ((most : ℕ → ℕ) → AreIdleCosts counts (length settings) prices top Three most → three_idle ≤ sum_below MAX_MODULES most)
-            → (pairs + zero_idle + three_idle + 65535) / 65536 ≤ changes batch settings
-        shown pairs zero_idle three_idle pairs_few zero_few three_few =
-            let all = all_pay pairs zero_idle three_idle (pairs_few pair_pays (λ u u_in v cost v_in cheap. pair_paid u v cost u_in v_in cheap)) (zero_few (idle_pays Zero) (idle_paid Zero)) (three_few (idle_pays Three) (idle_paid Three)) in
-            rounded (pairs + zero_idle + three_idle) (changes batch settings) all
+        pub shown : (total : ℕ) → ((most : ℕ → ℕ → ℕ) → AreCosts counts (length settings) prices top most → total ≤ sum_below (MAX_MODULES + 1) (λ u. sum_below (MAX_MODULES + 1) (most u)))
+            → (total + 65535) / 65536 ≤ changes batch settings
+        shown total few =
+            let all = paid_few (MAX_MODULES + 1) (λ j. j.settings) joined (side_price prices Zero) (side_price prices Three) SCALE top few_prices js all_paid in
+            rounded total (changes batch settings) (omega (arith, few pays paid, all, ap (λ (k : ℕ). k * SCALE) (many_steps batch settings)))
 
-pub shown_needed : (batch : List Transfer) (fits : IsBatch batch) (counts : List ℕ) (counted : ArePairCounts batch counts) (settings top : ℕ) (longest : IsLongest counts settings top) (prices : List ℕ) (fair : AreFair prices top) (pairs zero_idle three_idle : ℕ)
-    → ((most : ℕ → ℕ → ℕ) → ((u : ℕ) → u < MAX_MODULES → ArePairCosts counts prices top u (most u)) → pairs ≤ sum_below MAX_MODULES (λ u. sum_below MAX_MODULES (most u)))
-    → ((most : ℕ → ℕ) → AreIdleCosts counts settings prices top Zero most → zero_idle ≤ sum_below MAX_MODULES most)
-    → ((most : ℕ → ℕ) → AreIdleCosts counts settings prices top Three most → three_idle ≤ sum_below MAX_MODULES most)
-    → AreNeeded batch settings ((pairs + zero_idle + three_idle + 65535) / 65536)
-shown_needed batch fits counts counted settings top longest prices fair pairs zero_idle three_idle pairs_few zero_few three_paid schedule is same =
-    shown batch fits schedule is counts counted top (subst (λ (n : ℕ). IsLongest counts n top) (sym same) longest) prices fair pairs zero_idle three_idle pairs_few
-    (λ most costs. zero_few most (subst (λ (n : ℕ). AreIdleCosts counts n prices top Zero most) same costs))
-    (λ most costs. three_paid most (subst (λ (n : ℕ). AreIdleCosts counts n prices top Three most) same costs))
+pub shown_needed : (batch : List Transfer) (fits : IsBatch batch) (counts : List ℕ) (counted : ArePairCounts batch counts) (settings top : ℕ) (link : Link) (longest : IsLongest counts settings link top) (prices : List ℕ) (fair : AreFair prices top) (total : ℕ)
+    → ((most : ℕ → ℕ → ℕ) → AreCosts counts settings prices top most → total ≤ sum_below (MAX_MODULES + 1) (λ u. sum_below (MAX_MODULES + 1) (most u)))
+    → AreNeeded batch settings ((total + 65535) / 65536)
+shown_needed batch fits counts counted settings top link longest prices fair total few schedule is same =
+    shown batch fits schedule is counts counted top link (subst (λ (n : ℕ). IsLongest counts n link top) (sym same) longest) prices fair total
+    (λ most costs. few most (subst (λ (n : ℕ). AreCosts counts n prices top most) same costs))
 
 -- no link has more that wait than a schedule has settings
 pub most_wait : (batch : List Transfer) (counts : List ℕ) (most : ℕ) → IsBatch batch → ArePairCounts batch counts → ((link : Link) → uses batch link ≤ most) → HaveMost counts most

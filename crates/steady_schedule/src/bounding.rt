@@ -1,20 +1,19 @@
 //! How often a schedule has to change the switch, as far as prices show it.
 
-ghost use Rattle.std.specs.Prelude.{◌≡◌, ℕ, ◌+◌, ◌*◌, ◌<◌, ◌≤◌, IfOk, IfSome, List, length};
-ghost use Rattle.batch.specs.Batches.{IsBatch};
-ghost use Rattle.batch.specs.declared.limits.TheConstants.{MAX_MODULES, MAX_TRANSFERS};
-ghost use Rattle.batch.specs.declared.transfer.Transfer.{Transfer};
+ghost use Rattle.std.specs.Prelude.{◌≡◌, ℕ, ◌+◌, ◌*◌, ◌<◌, ◌≤◌, IfOk, IfSome, length};
+ghost use Rattle.batch.specs.declared.limits.TheConstants.{MAX_TRANSFERS};
 ghost use Rattle.link_graph.specs.declared.limits.TheConstants.{LINKS};
 ghost use Rattle.link_graph.specs.declared.link.Link.{Link};
 ghost use Rattle.link_graph.specs.Counts.{uses};
 ghost use Rattle.steady_schedule.specs.Prices.{AreNeeded, IsLongest};
-ghost use Rattle.steady_schedule.specs.Waiting.{count_between, waiting, ArePairCounts, HaveMost};
+ghost use Rattle.steady_schedule.specs.Waiting.{HaveMost};
 
+use crate::choosing::most_with;
 use crate::partners::link_at;
-use crate::pricing::{SCALE, Ways, are_fair, costs_of_idle, costs_of_pairs};
+use crate::pricing::{LENGTHS, Needs, PLACES, SCALE, Ways};
 use crate::remaining::Remaining;
 use batch::{MAX_MODULES, MAX_TRANSFERS};
-use link_graph::{End, LINKS, Link, LinkGraph};
+use link_graph::{LINKS, Link, LinkGraph};
 use std::alloc::{AllocError, Global};
 
 /// How many tables of prices are tried at most.
@@ -23,112 +22,28 @@ const MOST_ROUNDS: usize = 100;
 /// How many sums of two costs all of them may take together, at two or three instructions each.
 const MOST_SUMS: usize = 10_000_000;
 
-/// The most transfers of a link with any partner.
-fn most_with(remaining: &Remaining, link: Link) -> usize
-    requires low { link.«module» < MAX_MODULES }
-    requires most { HaveMost remaining.now.counts MAX_TRANSFERS }
-    ensures few { result ≤ MAX_TRANSFERS }
-    ensures most { (m : ℕ) → m < MAX_MODULES
-        → count_between remaining.now.counts link.end link.«module» m ≤ result }
-{
-    let mut most = 0;
-    for module in 0..MAX_MODULES {
-        let count = remaining.between(link.end, link.module, module);
-        if count > most {
-            most = count;
-        }
-    }
-    most
-}
+/// How often each number stands among those that a link has; 0 isn't counted.
+type Often = [u8; LENGTHS];
 
-/// The longest that a step of so many settings may be, where some link has a transfer in each.
-fn longest(remaining: &Remaining, settings: usize) -> Option<usize>
+/// A link with a transfer in each of so many settings, and the most that it has with any partner:
+/// that of several for which this is least.
+fn longest(remaining: &Remaining, settings: usize) -> Option<(Link, usize)>
     requires most { HaveMost remaining.now.counts MAX_TRANSFERS }
-    ensures few { IfSome result (λ top. top ≤ MAX_TRANSFERS) }
-    ensures longest { IfSome result (IsLongest remaining.now.counts settings) }
+    ensures few { IfSome result (λ found. found.1 ≤ MAX_TRANSFERS) }
+    ensures longest { IfSome result (λ found.
+        IsLongest remaining.now.counts settings found.0 found.1) }
 {
-    let mut longest: Option<usize> = None;
+    let mut longest: Option<(Link, usize)> = None;
     for index in 0..LINKS {
         let link = link_at(index);
         if remaining.side(link.end).uses[link.module] as usize == settings {
-            let most = most_with(remaining, link);
-            longest = Some(match longest {
-                Some(before) => before.min(most),
-                None => most,
-            });
+            let most = most_with(remaining, link.end, link.module, u32::MAX);
+            if longest.is_none_or(|(_, before)| most < before) {
+                longest = Some((link, most));
+            }
         }
     }
     longest
-}
-
-/// How many changes these prices show. Counts the pieces of the cheapest ways.
-fn shown_by(
-    remaining: &Remaining,
-    settings: usize,
-    prices: &[u32],
-    top: usize,
-    ways: &mut Ways,
-    pieces: &mut [u32],
-) -> usize
-    requires few { settings ≤ MAX_TRANSFERS }
-    requires most { HaveMost remaining.now.counts settings }
-    requires some { 0 < top }
-    requires few_top { top ≤ MAX_TRANSFERS }
-    requires longest { IsLongest remaining.now.counts settings top }
-    requires sized { length prices.now ≡ (top + 1) * LINKS }
-    requires pieces { length pieces.old ≡ length prices.now }
-    ensures { (batch : List Transfer) → IsBatch batch → ArePairCounts batch remaining.now.counts
-        → AreNeeded batch settings result }
-{
-    if !are_fair(prices, top) {
-        return 0;
-    }
-    let pairs = costs_of_pairs(remaining, prices, top, ways, pieces);
-    let zero = costs_of_idle(remaining, settings, End::Zero, prices, top, ways, pieces);
-    let three = costs_of_idle(remaining, settings, End::Three, prices, top, ways, pieces);
-    ((pairs + zero + three + (SCALE - 1)) / SCALE) as usize
-}
-
-/// How many links are in use.
-fn links_in_use(remaining: &Remaining) -> usize
-    ensures { result ≤ LINKS }
-{
-    let mut links = 0;
-    for index in 0..LINKS {
-        let link = link_at(index);
-        if remaining.side(link.end).uses[link.module] > 0 {
-            links += 1;
-        }
-    }
-    links
-}
-
-/// The sums of two costs that a table takes, and for what else is done as long as these.
-fn sums_of(remaining: &Remaining, settings: usize, top: usize) -> usize {
-    // To move the prices of a length takes as long as a thousand
-    let mut sums = top.saturating_mul(1000);
-    for zero in 0..MAX_MODULES {
-        for three in 0..MAX_MODULES {
-            sums = sums.saturating_add(sums_for(remaining.count(zero, three), top));
-        }
-    }
-    for index in 0..LINKS {
-        let link = link_at(index);
-        let uses = remaining.side(link.end).uses[link.module] as usize;
-        if uses > 0 {
-            sums = sums.saturating_add(sums_for(settings.saturating_sub(uses), top));
-        }
-    }
-    sums
-}
-
-/// The sums of two costs that a number takes, and for what else is done as long as these.
-fn sums_for(number: usize, top: usize) -> usize {
-    if number == 0 {
-        return 0;
-    }
-    let sums = number.saturating_mul(number.min(top).saturating_add(36));
-    sums.saturating_add(top.saturating_mul(4))
 }
 
 /// Moves the prices of a length. Those of links with more pieces of it than links have in the mean
@@ -193,62 +108,161 @@ fn step_of(left: usize, rounds: usize, links: usize) -> u32
     (size / parts).clamp(1, SCALE as usize) as u32
 }
 
-/// Looks for prices that show many changes, or at least so many, where they begin as given. The
-/// better of what each table shows.
-fn search(
-    remaining: &Remaining,
-    settings: usize,
-    top: usize,
-    enough: usize,
-    prices: &mut [u32],
-    slopes: &mut [i64],
-    pieces: &mut [u32],
-) -> usize
-    requires few { settings ≤ MAX_TRANSFERS }
-    requires most { HaveMost remaining.now.counts settings }
-    requires some { 0 < top }
-    requires few_top { top ≤ MAX_TRANSFERS }
-    requires longest { IsLongest remaining.now.counts settings top }
-    requires sized { length prices.old ≡ (top + 1) * LINKS }
-    requires slopes { length slopes.old ≡ length prices.old }
-    requires pieces { length pieces.old ≡ length prices.old }
-    ensures { (batch : List Transfer) → IsBatch batch → ArePairCounts batch remaining.now.counts
-        → AreNeeded batch settings result }
-{
-    let links = links_in_use(remaining);
-    let rounds = (MOST_SUMS / sums_of(remaining, settings, top).max(1)).min(MOST_ROUNDS);
-    let mut ways = Ways::none();
-    let mut most = 0;
-    for round in 0..rounds {
-        let shown = shown_by(remaining, settings, prices, top, &mut ways, pieces);
-        if shown > most {
-            most = shown;
-        }
-        if most >= enough {
-            return most;
-        }
-        let step = step_of(rounds - round, rounds, links);
-        for row in 1..top + 1 {
-            move_prices(prices, slopes, pieces, row, links as i64, step);
-            scale(prices, row);
-        }
-    }
-    most
-}
-
-/// Prices that are the same for each link in use, and for each length up to `top`.
-fn first_prices(remaining: &Remaining, top: usize, prices: &mut [u32])
-    requires few { top ≤ MAX_TRANSFERS }
-    requires sized { length prices.old ≡ (top + 1) * LINKS }
-{
-    let price = SCALE / (links_in_use(remaining) as u64).max(1);
-    for index in 0..LINKS {
-        let link = link_at(index);
-        if remaining.side(link.end).uses[link.module] > 0 {
-            for row in 1..top + 1 {
-                prices[row * LINKS + index] = price as u32;
+impl Needs<'_> {
+    /// How many links are in use.
+    fn links_in_use(&self) -> u32 {
+        let mut links = 0u32;
+        for index in 0..LINKS {
+            let link = link_at(index);
+            if self.remaining.side(link.end).uses[link.module] > 0 {
+                links = links.saturating_add(1);
             }
         }
+        links
+    }
+
+    /// How many transfers a link has with the one of a module; behind all modules, in how many
+    /// settings it is idle.
+    fn number_of(&self, index: usize, place: usize) -> usize
+        requires index { index < LINKS }
+        requires place { place ≤ MAX_MODULES }
+        ensures { result ≤ MAX_TRANSFERS }
+    {
+        if index < MAX_MODULES {
+            self.number(index, place)
+        } else {
+            self.number(place, index - MAX_MODULES)
+        }
+    }
+
+    /// How often each number stands among those of a link.
+    fn often(&self, index: usize) -> Often
+        requires { index < LINKS }
+    {
+        let mut often = [0u8; LENGTHS];
+        for place in 0..PLACES {
+            let number = self.number_of(index, place);
+            often[number] = often[number].saturating_add(1);
+        }
+        often[0] = 0;
+        often
+    }
+
+    /// Three times what two links show: twice their numbers, less those in common.
+    fn shown_with(&self, one: usize, often: &Often, other: usize) -> usize
+        requires one { one < LINKS }
+        requires other { other < LINKS }
+    {
+        let mut left = *often;
+        let mut shown = 0usize;
+        for place in 0..PLACES {
+            let number = self.number_of(other, place);
+            shown = shown.saturating_add(2 * self.number_of(one, place).min(1));
+            shown = shown.saturating_add(2 * number.min(1));
+            if left[number] > 0 {
+                left[number] -= 1;
+                shown = shown.saturating_sub(1);
+            }
+        }
+        shown
+    }
+
+    /// The two links that show most, or one of them twice.
+    fn best_two(&self) -> (usize, usize)
+        ensures one { result.0 < LINKS }
+        ensures other { result.1 < LINKS }
+    {
+        let mut best = (0, 0);
+        let mut most = 0;
+        for one in 0..LINKS {
+            let often = self.often(one);
+            for other in 0..one + 1 {
+                let shown = self.shown_with(one, &often, other);
+                if shown > most {
+                    most = shown;
+                    best = (one, other);
+                }
+            }
+        }
+        best
+    }
+
+    /// Prices of two links, or of one, by which they show most; where there are none yet. A length
+    /// that one of them has more often as a number is twice as dear for it.
+    fn price_two(&self, prices: &mut [u32])
+        requires { length prices.old ≡ (self.now.top + 1) * LINKS }
+    {
+        let (one, other) = self.best_two();
+        let (often, often_other) = (self.often(one), self.often(other));
+        for row in 1..self.top + 1 {
+            let dearer = if often[row] < often_other[row] {
+                other
+            } else {
+                one
+            };
+            for index in [one, other, dearer] {
+                let place = row * LINKS + index;
+                prices[place] = prices[place].saturating_add(SCALE as u32 / 3);
+            }
+        }
+    }
+
+    /// Prices that are the same for each link in use, and for each length.
+    fn price_all(&self, prices: &mut [u32], links: u32)
+        requires { length prices.old ≡ (self.now.top + 1) * LINKS }
+    {
+        let price = SCALE / (links as u64).max(1);
+        for index in 0..LINKS {
+            let link = link_at(index);
+            let in_use = self.remaining.side(link.end).uses[link.module] > 0;
+            for row in 1..self.top + 1 {
+                prices[row * LINKS + index] = if in_use { price as u32 } else { 0 };
+            }
+        }
+    }
+
+    /// Looks for prices that show many changes, or at least so many: first of two links, then of all
+    /// of them. The most that any table shows.
+    fn search(
+        &self,
+        enough: usize,
+        prices: &mut [u32],
+        slopes: &mut [i64],
+        pieces: &mut [u32],
+    ) -> usize
+        requires sized { length prices.old ≡ (self.now.top + 1) * LINKS }
+        requires slopes { length slopes.old ≡ length prices.old }
+        requires pieces { length pieces.old ≡ length prices.old }
+        ensures { AreNeeded self.now.graph.now self.now.settings result }
+    {
+        let mut ways = Ways::none(MOST_SUMS);
+        self.price_two(prices);
+        let mut most = self.shown_by(prices, &mut ways, pieces);
+        let links = self.links_in_use();
+        self.price_all(prices, links);
+        for round in 0..MOST_ROUNDS {
+            if most >= enough {
+                return most;
+            }
+            let before = ways.left;
+            let shown = self.shown_by(prices, &mut ways, pieces);
+            if shown > most {
+                most = shown;
+            }
+            // To move the prices of a length takes as long as a thousand
+            ways.left = ways.left.saturating_sub(1000 * self.top);
+            let each = before.saturating_sub(ways.left).max(1);
+            let rounds = (ways.left / each).min(MOST_ROUNDS - 1 - round);
+            if rounds == 0 {
+                return most;
+            }
+            let step = step_of(rounds, rounds + round + 1, links as usize);
+            for row in 1..self.top + 1 {
+                move_prices(prices, slopes, pieces, row, links as i64, step);
+                scale(prices, row);
+            }
+        }
+        most
     }
 }
 
@@ -278,21 +292,21 @@ pub fn most_shown(
     prove!(graph.len() <= MAX_TRANSFERS);
     let mut remaining = Remaining::none();
     remaining.add_all(graph);
-    let top = longest(&remaining, settings).unwrap_or(0);
+    let Some((busiest, top)) = longest(&remaining, settings) else {
+        return Ok(0);
+    };
     if top == 0 {
         return Ok(0);
     }
+    let needs = Needs {
+        graph,
+        remaining,
+        settings,
+        busiest,
+        top,
+    };
     let room = (top + 1) * LINKS;
     let (mut prices, mut pieces) = (vec![in alloc; 0u32; room]?, vec![in alloc; 0u32; room]?);
     let mut slopes = vec![in alloc; 0i64; room]?;
-    first_prices(&remaining, top, &mut prices);
-    Ok(search(
-        &remaining,
-        settings,
-        top,
-        enough,
-        &mut prices,
-        &mut slopes,
-        &mut pieces,
-    ))
+    Ok(needs.search(enough, &mut prices, &mut slopes, &mut pieces))
 }

@@ -190,7 +190,7 @@ fn join_needed(held: &Held, stand: u32, of: &mut Partners, back: &mut Partners) 
 }
 
 /// The most transfers that a link has with one of these of the other end.
-fn most_with(remaining: &Remaining, end: End, link: usize, others: u32) -> usize
+pub(crate) fn most_with(remaining: &Remaining, end: End, link: usize, others: u32) -> usize
     requires { link < MAX_MODULES }
     ensures each { AreAtMost remaining.now.counts end link others result }
     ensures least { (s : ℕ) → AreAtMost remaining.now.counts end link others s → result ≤ s }

@@ -6,6 +6,6 @@ use Rattle.steady_schedule.proofs.bounding.longest.Given as goal
 
 abbrev pub invariant-loop-index : goal.invariant-loop-index
 invariant-loop-index l = record {
-  few : IfSome l.longest (λ top. top ≤ MAX_TRANSFERS);
-  longest : IfSome l.longest (IsLongest l.remaining.counts l.settings);
+  few : IfSome l.longest (λ found. found.1 ≤ MAX_TRANSFERS);
+  longest : IfSome l.longest (λ found. IsLongest l.remaining.counts l.settings found.0 found.1);
 }

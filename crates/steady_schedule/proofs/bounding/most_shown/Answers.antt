@@ -7,5 +7,5 @@ longest-requires c = record {
   most = λ end m m_in. omega (arith, most_wait c.args.graph.now c.add_all.new.self.counts c.args.settings c.len.ensures.batch c.add_all.ensures c.requires.most end m m_in, c.requires.few);
 }
 
-pub search-requires-clause-most : goal.search-requires-clause-most
-search-requires-clause-most c = most_wait c.args.graph.now c.add_all.new.self.counts c.args.settings c.len.ensures.batch c.add_all.ensures c.requires.most
+pub invariant_of-needs-clause-most : goal.invariant_of-needs-clause-most
+invariant_of-needs-clause-most c = most_wait c.args.graph.now c.add_all.new.self.counts c.args.settings c.len.ensures.batch c.add_all.ensures c.requires.most
