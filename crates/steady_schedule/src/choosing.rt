@@ -10,7 +10,7 @@ ghost use Rattle.steady_schedule.specs.Searches.{AreNear, JoinsNear};
 ghost use Rattle.steady_schedule.specs.Steps.{NoneLonger};
 ghost use Rattle.steady_schedule.specs.Waiting.{HaveMost, NoneWait};
 
-use crate::masks::{Masks, has, lowest, without_module};
+use crate::masks::{Orders, has, lowest, without_module};
 use crate::matching::{Matching, Partners, augment, free, part};
 use crate::reach::{Held, Reach};
 use crate::remaining::Remaining;
@@ -65,15 +65,16 @@ fn standing(before: &Matching, reach: &Reach) -> Matching
     matching
 }
 
-/// Of links that are free, the pairs that can be held just so long.
-fn open_pairs(reach: &Reach, zero: &Partners, free: u32, modules: usize) -> Masks
+/// Of links that are free, the pairs that can be held just so long. All of them have to be joined.
+fn open_pairs(reach: &Reach, zero: &Partners, free: u32, modules: usize) -> Held
     requires { modules ≤ MAX_MODULES }
-    ensures { (u v : ℕ) → has_pair result u v ≡ true → has_pair reach.now.zero.near u v ≡ true }
+    ensures { (u v : ℕ) → has_pair result.near u v ≡ true
+        → has_pair reach.now.zero.near u v ≡ true }
 {
-    let mut pairs = [0; MAX_MODULES];
+    let mut pairs = Held::none(u32::MAX, reach.zero.order);
     for module in 0..modules {
         if zero[module].is_none() {
-            pairs[module] = reach.zero.near[module] & (reach.zero.just[module] & free);
+            pairs.near[module] = reach.zero.near[module] & (reach.zero.just[module] & free);
         }
     }
     pairs
@@ -82,23 +83,16 @@ fn open_pairs(reach: &Reach, zero: &Partners, free: u32, modules: usize) -> Mask
 /// Finds a partner for a link 0, where it has none, by one of these pairs. Where that is in vain, it
 /// takes the links 3 that it saw out of those that are open: each search from there is in vain too.
 /// No contract says so.
-fn join_open(pairs: &Masks, open: &mut u32, matching: &mut Matching, zero: usize)
+fn join_open(pairs: &Held, open: &mut u32, matching: &mut Matching, zero: usize)
     requires { zero < MAX_MODULES }
-    ensures { JoinsNear pairs.now matching.old.zero matching.new.zero }
+    ensures { JoinsNear pairs.now.near matching.old.zero matching.new.zero }
 {
-    if matching.zero[zero].is_some() || pairs[zero] & *open == 0 {
+    if matching.zero[zero].is_some() || pairs.near[zero] & *open == 0 {
         return;
     }
     let mut unseen = *open;
-    if !augment(
-        zero,
-        pairs,
-        pairs,
-        u32::MAX,
-        &mut matching.zero,
-        &mut matching.three,
-        &mut unseen,
-    ) {
+    let (of, back) = (&mut matching.zero, &mut matching.three);
+    if !augment(zero, pairs, of, back, &mut unseen) {
         *open = unseen;
     }
 }
@@ -140,27 +134,11 @@ fn join_needed_one(
         return None;
     }
     let mut unseen = !stand;
-    if augment(
-        x,
-        &held.near,
-        &held.just,
-        held.needed,
-        of,
-        back,
-        &mut unseen,
-    ) {
+    if augment(x, held, of, back, &mut unseen) {
         return None;
     }
     unseen = u32::MAX;
-    if augment(
-        x,
-        &held.near,
-        &held.just,
-        held.needed,
-        of,
-        back,
-        &mut unseen,
-    ) {
+    if augment(x, held, of, back, &mut unseen) {
         return None;
     }
     Some(unseen)
@@ -312,6 +290,7 @@ impl Choice {
         most: usize,
         modules: usize,
         settings: usize,
+        orders: Orders,
     ) -> Choice
         requires within { modules ≤ MAX_MODULES }
         requires none { NoneWait remaining.now.counts modules }
@@ -328,7 +307,7 @@ impl Choice {
         ensures settings { result.reach.settings ≡ settings }
         ensures shorter { result.shorter < settings }
     {
-        let reach = Reach::of(remaining, most, modules, settings);
+        let reach = Reach::of(remaining, most, modules, settings, orders);
         let mut matching = standing(before, &reach);
         let free_zero = free(&matching.zero, modules);
         let free_three = free(&matching.three, modules);
@@ -351,6 +330,7 @@ pub(crate) fn choose(
     most: usize,
     modules: usize,
     longest: usize,
+    orders: Orders,
 ) -> Choice
     requires within { modules ≤ MAX_MODULES }
     requires none { NoneWait remaining.now.counts modules }
@@ -368,9 +348,9 @@ pub(crate) fn choose(
         most result.reach.settings }
     ensures longest { NoneLonger remaining.now.counts most result.reach.settings }
 {
-    let mut choice = Choice::of(remaining, before, most, modules, longest.min(most));
+    let mut choice = Choice::of(remaining, before, most, modules, longest.min(most), orders);
     'lengths: while choice.shorter > 0 {
-        choice = Choice::of(remaining, before, most, modules, choice.shorter);
+        choice = Choice::of(remaining, before, most, modules, choice.shorter, orders);
     }
     choice
 }
