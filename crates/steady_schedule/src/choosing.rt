@@ -2,7 +2,7 @@
 
 ghost use Rattle.std.specs.Prelude.{◌≡◌, ◌≢◌, ◌⊎◌, ℕ, ◌+◌, ◌-◌, ◌<◌, ◌≤◌, Some, None, true, false, IfSome, IsSome};
 ghost use Rattle.batch.specs.declared.limits.TheConstants.{MAX_MODULES, MAX_TRANSFERS};
-ghost use Rattle.steady_schedule.specs.Covers.{KeepsPartners};
+ghost use Rattle.steady_schedule.specs.Covers.{AreFree, KeepsPartners};
 ghost use Rattle.link_graph.specs.Masks.{has_bit, has_pair};
 ghost use Rattle.steady_schedule.specs.Matchings.{partner, AreMatched};
 ghost use Rattle.steady_schedule.specs.Reaches.{AreHeld, HaveHeld, HaveEach, IsOverMask, JoinsNeeded, IsBarred, IsInWay, HaveWay, AreAtMost};
@@ -10,8 +10,8 @@ ghost use Rattle.steady_schedule.specs.Searches.{AreNear, JoinsNear};
 ghost use Rattle.steady_schedule.specs.Steps.{NoneLonger};
 ghost use Rattle.steady_schedule.specs.Waiting.{HaveMost, NoneWait};
 
-use crate::masks::{Orders, has, lowest, without_module};
-use crate::matching::{Matching, Partners, augment, free, part};
+use crate::masks::{Orders, first, has, lowest, without_module};
+use crate::matching::{Matching, Partners, augment, free, join, part};
 use crate::reach::{Held, Reach};
 use crate::remaining::Remaining;
 use batch::MAX_MODULES;
@@ -80,6 +80,23 @@ fn open_pairs(reach: &Reach, zero: &Partners, free: u32, modules: usize) -> Held
     pairs
 }
 
+/// Joins a link 0 that is free to one of these links 3, which are free, by one of these pairs, where
+/// there is one.
+fn join_first(pairs: &Held, free: &mut u32, matching: &mut Matching, zero: usize)
+    requires low { zero < MAX_MODULES }
+    requires free { AreFree matching.old.three free.old }
+    ensures joins { JoinsNear pairs.now.near matching.old.zero matching.new.zero }
+    ensures free { AreFree matching.new.three free.new }
+{
+    let mask = pairs.near[zero] & *free;
+    if mask == 0 || matching.zero[zero].is_some() {
+        return;
+    }
+    let three = first(mask, pairs.order);
+    join(&mut matching.zero, &mut matching.three, zero, three);
+    *free = without_module(*free, three);
+}
+
 /// Finds a partner for a link 0, where it has none, by one of these pairs. Where that is in vain, it
 /// takes the links 3 that it saw out of those that are open: each search from there is in vain too.
 /// No contract says so.
@@ -100,10 +117,16 @@ fn join_open(pairs: &Held, open: &mut u32, matching: &mut Matching, zero: usize)
 /// Joins links that are free by pairs that can be held just so long, and are used up then: as many
 /// as there can be.
 fn join_just(reach: &Reach, matching: &mut Matching, free: u32, modules: usize)
-    requires { modules ≤ MAX_MODULES }
+    requires within { modules ≤ MAX_MODULES }
+    requires free { AreFree matching.old.three free }
     ensures { JoinsNear reach.now.zero.near matching.old.zero matching.new.zero }
 {
     let pairs = open_pairs(reach, &matching.zero, free, modules);
+    // Most find one at once: so what is searched for is little
+    let mut rest = free;
+    for zero in 0..modules {
+        join_first(&pairs, &mut rest, matching, zero);
+    }
     let mut open = free;
     for zero in 0..modules {
         join_open(&pairs, &mut open, matching, zero);

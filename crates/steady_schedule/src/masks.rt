@@ -52,7 +52,7 @@ pub(crate) const ORDERS: [Orders; 4] = [
 ];
 
 /// The first module of a mask that has any.
-fn first(mask: u32, order: Order) -> usize
+pub(crate) fn first(mask: u32, order: Order) -> usize
     requires { 0 < mask }
     ensures within { result < MAX_MODULES }
     ensures has { has_bit mask result ≡ true }
