@@ -10,7 +10,7 @@ ghost use Rattle.steady_schedule.specs.Searches.{AreNear, JoinsNear};
 ghost use Rattle.steady_schedule.specs.Steps.{NoneLonger};
 ghost use Rattle.steady_schedule.specs.Waiting.{HaveMost, NoneWait};
 
-use crate::masks::{Orders, first, has, lowest, without_module};
+use crate::masks::{Order, Orders, first, has, lowest, without_module};
 use crate::matching::{Matching, Partners, augment, free, join, part};
 use crate::reach::{Held, Reach};
 use crate::remaining::Remaining;
@@ -167,8 +167,15 @@ fn join_needed_one(
     Some(unseen)
 }
 
-/// Finds a partner for each link that has to be joined, or tells the first for which it can't.
-fn join_needed(held: &Held, stand: u32, of: &mut Partners, back: &mut Partners) -> Option<InVain>
+/// Finds a partner for each link that has to be joined, in this order, or tells the first for which
+/// it can't.
+fn join_needed(
+    held: &Held,
+    order: Order,
+    stand: u32,
+    of: &mut Partners,
+    back: &mut Partners,
+) -> Option<InVain>
     requires matched { AreMatched of.old back.old }
     ensures matched { AreMatched of.new back.new }
     ensures near { JoinsNear held.now.near of.old of.new }
@@ -181,7 +188,7 @@ fn join_needed(held: &Held, stand: u32, of: &mut Partners, back: &mut Partners) 
 {
     let mut rest = held.needed;
     'links: while rest != 0 {
-        let link = lowest(rest);
+        let link = first(rest, order);
         rest = without_module(rest, link);
         if let Some(unseen) = join_needed_one(held, link, stand, of, back) {
             return Some(InVain { link, unseen });
@@ -286,6 +293,7 @@ fn join_all_needed(
 {
     let in_vain = join_needed(
         &reach.zero,
+        reach.three.order,
         stand.1,
         &mut matching.zero,
         &mut matching.three,
@@ -295,6 +303,7 @@ fn join_all_needed(
     }
     let in_vain = join_needed(
         &reach.three,
+        reach.zero.order,
         stand.0,
         &mut matching.three,
         &mut matching.zero,
