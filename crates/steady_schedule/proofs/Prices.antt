@@ -194,10 +194,10 @@ some_place (suc n) b one = elim (cases_Bool (b n)) [
 ]
 
 -- what a step has of a number is at most what all have
-each_few : {J : Type 0} (f : J → ℕ → ℕ) (most : ℕ → ℕ) (js : List J) → ((m : ℕ) → sum_by (λ j. f j m) js ≤ most m) → AllByRecursion (λ j. (m : ℕ) → f j m ≤ most m) js
-each_few f most [] le = tt
-each_few f most (j ∷ js) le =
-    ((λ m. omega (arith, sum_by-cons (λ i. f i m) j js, le m)), each_few f most js (λ m. omega (arith, sum_by-cons (λ i. f i m) j js, le m)))
+each_few : {J : Type 0} (f : J → ℕ → ℕ) (n top : ℕ) (js : List J) → ((m : ℕ) → m < n → sum_by (λ j. f j m) js ≤ top) → AllByRecursion (λ j. (m : ℕ) → m < n → f j m ≤ top) js
+each_few f n top [] le = tt
+each_few f n top (j ∷ js) le =
+    ((λ m lt. omega (arith, sum_by-cons (λ i. f i m) j js, le m lt)), each_few f n top js (λ m lt. omega (arith, sum_by-cons (λ i. f i m) j js, le m lt)))
 
 both_all : {J : Type 0} (P Q R : J → Type 0) → ((j : J) → P j → Q j → R j) → (js : List J) → AllByRecursion P js → AllByRecursion Q js → AllByRecursion R js
 both_all P Q R g [] ps qs = tt
@@ -303,20 +303,11 @@ module _ (batch : List Transfer) (fits : IsBatch batch) where
         | inr le ↦ omega (arith, step_numbers batch fits link settings schedule m lt, number_idle batch (length settings) link m le, longest.full, uses_is link.end link.«module» longest.low)
       ]
 
-      abbrev capped : ℕ → ℕ
-      capped m = cond (nat_lt m (MAX_MODULES + 1)) top (sum_by (λ j. taken link j m) js)
-
-      few_capped : (m : ℕ) → sum_by (λ j. taken link j m) js ≤ capped m
-      few_capped m = elim (cases_lt m (MAX_MODULES + 1)) [
-        | inl lt ↦ omega (arith, few_in m lt, ap (λ (b : Bool). cond b top (sum_by (λ j. taken link j m) js)) (lt-ltb m (MAX_MODULES + 1) lt))
-        | inr le ↦ omega (arith, ap (λ (b : Bool). cond b top (sum_by (λ j. taken link j m) js)) (le-ltb m (MAX_MODULES + 1) le))
-      ]
-
       -- no step is longer: the link is in it, with one partner
-      step_top : (j : Step) → IsMatching batch j.setting → ((m : ℕ) → taken link j m ≤ capped m) → j.settings ≤ top
+      step_top : (j : Step) → IsMatching batch j.setting → ((m : ℕ) → m < MAX_MODULES + 1 → taken link j m ≤ top) → j.settings ≤ top
       step_top j is le =
           let place = some_place (MAX_MODULES + 1) (has batch fits link j) (each_now batch fits link j.setting is) in
-          omega (arith, le place.0, ap (λ (b : Bool). only b j.settings) place.2, ap (λ (b : Bool). cond b top (sum_by (λ i. taken link i place.0) js)) (lt-ltb place.0 (MAX_MODULES + 1) place.1))
+          omega (arith, le place.0 place.1, ap (λ (b : Bool). only b j.settings) place.2)
 
       module _ (prices : List ℕ) (fair : AreFair prices top) where
         few_side : (end : End) (k : ℕ) → sum_below (MAX_MODULES + 1) (λ m. side_price prices end m k) ≡ sum_below MAX_MODULES (λ m. price_at prices (index_by end m) k)
@@ -329,9 +320,9 @@ module _ (batch : List Transfer) (fits : IsBatch batch) where
         IsPaidStep = IsPaid (MAX_MODULES + 1) (λ j. j.settings) joined (side_price prices Zero) (side_price prices Three) SCALE top few_prices
 
         all_paid : AllByRecursion IsPaidStep js
-        all_paid = both_all (IsStepIn batch) (λ j. (m : ℕ) → taken link j m ≤ capped m) IsPaidStep (λ j is le.
+        all_paid = both_all (IsStepIn batch) (λ j. (m : ℕ) → m < MAX_MODULES + 1 → taken link j m ≤ top) IsPaidStep (λ j is le.
             ((is.0, step_top j is.1 le), (λ u u_in. each_row prices j.settings j is.1 u), (λ v v_in. each_column prices j.settings j is.1 v))) js
-            (all_in batch settings schedule.matchings) (each_few (taken link) capped js few_capped)
+            (all_in batch settings schedule.matchings) (each_few (taken link) (MAX_MODULES + 1) top js few_in)
 
         -- what the steps pay in which a pair is joined, or a link is idle
         abbrev pays : ℕ → ℕ → ℕ
