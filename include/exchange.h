@@ -131,9 +131,9 @@ uint8_t exchange_draw(const uint8_t *batch, size_t batch_bytes, const uint8_t *s
 /* How often a schedule of the batch changes the switch, and how often it is shown that a schedule with as many settings
  * has to: the line `changes C least L`. The program says it in the title of a picture, as `changes C, at least L`.
  *
- * Where C is L, none with so few settings has fewer. L is as good as two links of the batch show it where the schedule has
- * the fewest settings, and else as one link does. No certificate is needed. Takes time that grows with the lengths of the
- * texts. */
+ * Where C is L, none with so few settings has fewer. L is as good as prices of the links show it where the schedule has the
+ * fewest settings, and else as one link does. No certificate is needed. Takes time that grows with the lengths of the texts,
+ * and for these prices at most about that of 30 million instructions. */
 uint8_t exchange_changes(const uint8_t *batch, size_t batch_bytes, const uint8_t *schedule,
                          size_t schedule_bytes, uint8_t *out, size_t room, size_t *count);
 

@@ -1,11 +1,16 @@
 #!/usr/bin/env python3
 """Writes the batches that a study of steady plans compared, each into a file of its name: steady_batches.py FOLDER
 
-Random ones are drawn one after another from one seed, so the order of the batches is part of them.
+No two transfers of a batch write one block, so it can be run. Where more blocks come to a module than it has, that can't be. Then
+one block is written again and again, and standard output says so. Random batches are drawn one after another from one seed, so the
+order of the batches is part of them.
 """
 
 import random
 import sys
+from collections import Counter
+
+BLOCKS = 64  # of a module
 
 
 def grid_pairs():
@@ -26,11 +31,15 @@ def permuted_pairs(draw, count, modules, most):
         yield from [pair for pair in enumerate(to) for _ in range(times)]
 
 
+def each_to_each(modules):
+    return [(m, n) for m in range(modules) for n in range(modules) if m != n]
+
+
 def batches():
     """The name of each batch, and of each of its transfers the module that starts it and the one that answers."""
-    draw, each = random.Random(7), [(m, n) for m in range(16) for n in range(16) if m != n]
-    yield "all_to_all", [pair for pair in each for _ in range(17)]
-    yield "in_rounds", each * 17
+    draw = random.Random(7)
+    yield "all_to_all", [pair for pair in each_to_each(16) for _ in range(17)]
+    yield "in_rounds", each_to_each(16) * 17
     yield "halo", [pair for pair in grid_pairs() for _ in range(16)]
     yield "random_16", random_pairs(draw, 4096, 16)
     yield "random_32", random_pairs(draw, 4096, 32)
@@ -39,8 +48,23 @@ def batches():
     yield "gather", [(m, 0) for m in range(1, 16) for _ in range(64)]
     yield "butterfly", [(m, m ^ 1 << bit) for bit in range(4) for m in range(16) for _ in range(64)]
     yield "permutations", list(permuted_pairs(draw, 8, 32, 16))
+    yield "once_each", each_to_each(32)
+    yield "random_512", random_pairs(draw, 512, 32)
+    yield "ten_modules", [pair for pair in each_to_each(10) for _ in range(7)]
+
+
+def lines(pairs):
+    """The lines of the transfers. A module sends its last block, and those that come to it are its first ones. So no block that is sent
+    is written, unless as many come as it has."""
+    come = Counter()
+    for m, n in pairs:
+        yield f"push {m} {BLOCKS - 1} {n} {come[n] % BLOCKS}\n"
+        come[n] += 1
 
 
 for name, pairs in batches():
     with open(f"{sys.argv[1]}/{name}", "w") as file:
-        file.write(f"batch {len(pairs)}\n" + "".join(f"push {m} 0 {n} 1\n" for m, n in pairs))
+        file.write(f"batch {len(pairs)}\n" + "".join(lines(pairs)))
+    module, count = Counter(n for _, n in pairs).most_common(1)[0]
+    if count > BLOCKS:
+        print(f"{name} can't be run: {count} blocks come to module {module}, which has {BLOCKS}")

@@ -33,10 +33,10 @@ STYLE, EXPLAINED = fixed_text("STYLE"), fixed_text("EXPLAINED")
 
 class Picture:
     """What is drawn: transfers, their settings, the certificate, which names a link or None, or no certificate, and the numbers of those
-    settings that are shown."""
+    settings that are shown. Of the answer that was told the number of changes is read that prices show."""
 
-    def __init__(self, transfers, settings, certificate, shown):
-        self.transfers, self.settings, self.shown = transfers, settings, shown
+    def __init__(self, transfers, settings, certificate, shown, told=b""):
+        self.transfers, self.settings, self.shown, self.told = transfers, settings, shown, told
         busiest, named = plain.busiest(transfers)
         self.fewest = len(named)
         self.standing = standing_of(transfers, settings, certificate)
@@ -61,7 +61,7 @@ class Picture:
     def note(self):
         """How often the switch changes, and what is shown of that; which link is framed, how the certificate stands, and which settings are
         shown, unless that are all."""
-        changes = steady.bound_words(self.transfers, self.settings)
+        changes = steady.bound_words(self.transfers, self.settings, self.told)
         busiest = "link {} module {}".format(*self.link) if self.link else "none"
         return f"{changes}, busiest {busiest}, {self.standing}{self.range_shown()}"
 
@@ -150,8 +150,8 @@ def read_range(text):
     return int(found[1]), int(found[2])
 
 
-def answer_draw(batch, schedule, settings=None):
-    """What `draw` prints of two texts, and of that of a range, if there is one."""
+def answer_draw(batch, schedule, settings=None, told=b""):
+    """What `draw` prints of two texts, and of that of a range, if there is one. Told is what it printed."""
     try:
         wanted = None if settings is None else read_range(settings)
         transfers = plain.read_batch(batch, plain.WIDEST)
@@ -160,6 +160,6 @@ def answer_draw(batch, schedule, settings=None):
         first, last = wanted or (0, len(lists) - 1)
         if last >= len(lists):
             raise Refused(f"no setting {max(first, len(lists))}")
-        return Picture(transfers, lists, certificate, range(first, last + 1)).text().encode()
+        return Picture(transfers, lists, certificate, range(first, last + 1), told).text().encode()
     except Refused as why:
         return f"refused {why}\n".encode()

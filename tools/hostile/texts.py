@@ -151,7 +151,8 @@ def try_steady(draw):
         told = notes.overlapping(notes.Asked("batch", ("batch", text)))
         well = all(it == (answers[0].out, told, 0) for it in answers) and switching.is_switched(text, plan.out, answers[0].out)
     elif well and chance < 0.2:
-        well = ask("draw", "batch", "schedule") == (picture.answer_draw(text, plan.out), b"", 0)
+        drawn = ask("draw", "batch", "schedule")
+        well = drawn == (picture.answer_draw(text, plan.out, told=drawn.out), b"", 0)
     return well, f"a steady plan of {name}".encode(), [text, plan.out], plan
 
 

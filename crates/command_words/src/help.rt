@@ -111,8 +111,8 @@ The half of the busiest link is framed.
 Any schedule of BATCH is drawn. The picture's title says whether it has `the
 fewest` settings or `where F are enough`; then how often it changes the switch,
 as `changes C`, with `the fewest` where a link shares transfers with C others, so
-that no schedule has fewer changes, `the fewest with so few settings` where two
-links show that, or else `at least L`; then `certified`, `not certified` or `no
+that no schedule has fewer changes, `the fewest with so few settings` where that
+is shown of these, or else `at least L`; then `certified`, `not certified` or `no
 certificate`. With --settings it has the columns of settings A to B alone, counted
 from 0, both of them:
   ./exchange draw BATCH SCHEDULE --settings 0..31 > first.svg

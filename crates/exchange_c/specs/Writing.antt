@@ -38,3 +38,7 @@ Leaves IsAnswer old new count status =
 -- it is such an answer, and no other is
 abbrev pub IsTheOne : (Printed → Type 0) → Printed → Type 0
 IsTheOne IsAnswer answer = IsAnswer answer × IsOnly IsAnswer answer
+
+-- so it is with some number
+abbrev pub IsTheOneWith : (ℕ → Printed → Type 0) → Printed → Type 0
+IsTheOneWith IsAnswer answer = (n : ℕ) × IsTheOne (IsAnswer n) answer

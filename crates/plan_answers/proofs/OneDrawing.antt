@@ -1,4 +1,4 @@
--- Two texts have one answer of `draw` at most.
+-- Two texts have one answer of `draw` at most, where so many changes are shown.
 use Rattle.std.proofs.Common.{◌≡◌, ℕ, List, [], ◌∷◌, length, Option, Some, None, refl, sym, ap, ◌∙◌, subst, arith}
 use Rattle.std.specs.Prelude.{IfSome}
 use Rattle.batch.specs.declared.transfer.Transfer.{Transfer}
@@ -21,7 +21,7 @@ use Rattle.schedule_picture.proofs.OneVerdict.{one_verdict}
 use Rattle.plan_answers.specs.declared.setting_range.SettingRange.{SettingRange}
 use Rattle.plan_answers.specs.Refusals.{Printed, IsRefused}
 use Rattle.plan_answers.specs.Validities.{IsScheduleRead, IsValid, IsUnscheduled, IsInvalid, unread, unscheduled}
-use Rattle.plan_answers.specs.Drawings.{IsInOrder, AreWanted, IsBadSettingsText, AreShown, IsOutside, IsDrawing, IsFirstUndrawn, no_range, invalid, no_setting, IsDrawn, drawn, undrawn}
+use Rattle.plan_answers.specs.Drawings.{IsInOrder, AreWanted, IsBadSettingsText, AreShown, IsOutside, IsDrawing, IsFirstUndrawn, no_range, invalid, no_setting, IsDrawnWith, drawn, undrawn}
 use Rattle.plan_answers.proofs.OneReading.{same_texts, texts_right, one_text_wrong}
 use Rattle.plan_answers.proofs.Printing.{printed_same, refused_same}
 use Rattle.plan_answers.proofs.Ranges.{one_range}
@@ -102,23 +102,23 @@ same_picture text other range ts xs v p q = p.2 ∙ ap (picture_of ts xs v) (sam
 
 -- what one reading of the texts shows, each does
 pub same_reading : (P : List Transfer → List (List ℕ) → Verdict → Type 0) (shape : Extent) → IsShape shape → (batch schedule : List ℕ) (ts us : List Transfer) (xs ys : List (List ℕ)) (v w : Verdict)
-    → IsValid shape batch schedule ts xs v → IsValid shape batch schedule us ys w → P us ys w → P ts xs v
-same_reading P shape valid batch schedule ts us xs ys v w a b p =
-    let moved = same_texts (λ t x n. (u : Verdict) × IsVerdict t x n u × P t x u) shape valid batch schedule ts us xs ys a.read.certificate b.read.certificate a.read.texts b.read.texts (w, b.known, p) in
-    subst (P ts xs) (one_verdict ts xs a.read.certificate moved.0 v moved.1 a.known) moved.2
+    → IsValid shape batch schedule ts xs v → IsValid shape batch schedule us ys w → w.least ≡ v.least → P us ys w → P ts xs v
+same_reading P shape valid batch schedule ts us xs ys v w a b least p =
+    let moved = same_texts (λ t x n. (u : Verdict) × IsVerdict t x n u × (u.least ≡ v.least) × P t x u) shape valid batch schedule ts us xs ys a.read.certificate b.read.certificate a.read.texts b.read.texts (w, b.known, least, p) in
+    subst (P ts xs) (one_verdict ts xs a.read.certificate moved.0 v moved.1 a.known moved.2) moved.3
 
-one_text : (shape : Extent) → IsShape shape → (batch schedule : List ℕ) (settings_text : Option (List ℕ)) (t u : List ℕ) → IsDrawing shape batch schedule settings_text t → IsDrawing shape batch schedule settings_text u → t ≡ u
-one_text shape valid batch schedule settings_text t u a b =
+one_text : (shape : Extent) → IsShape shape → (batch schedule : List ℕ) (settings_text : Option (List ℕ)) (t u : List ℕ) → (a : IsDrawing shape batch schedule settings_text t) (b : IsDrawing shape batch schedule settings_text u) → b.verdict.least ≡ a.verdict.least → t ≡ u
+one_text shape valid batch schedule settings_text t u a b least =
     let range : b.range ≡ a.range = same_range settings_text b.range a.range b.wanted a.wanted in
     let shows : Shows u a.range b.transfers b.settings b.verdict = subst (λ (r : Option SettingRange). Shows u r b.transfers b.settings b.verdict) range (b.shown, b.are_shown, b.drawing) in
     same_picture t u a.range a.transfers a.settings a.verdict (a.shown, a.are_shown, a.drawing)
-    (same_reading (Shows u a.range) shape valid batch schedule a.transfers b.transfers a.settings b.settings a.verdict b.verdict a.valid b.valid shows)
+    (same_reading (Shows u a.range) shape valid batch schedule a.transfers b.transfers a.settings b.settings a.verdict b.verdict a.valid b.valid least shows)
 
 -- a setting that is missing in one reading is missing in each
 same_missing : (shape : Extent) → IsShape shape → (batch schedule : List ℕ) (settings_text : Option (List ℕ)) (f g : Option SettingRange) (ts us : List Transfer) (xs ys : List (List ℕ)) (v w : Verdict) (k : ℕ)
     → AreWanted settings_text f → AreWanted settings_text g → IsValid shape batch schedule ts xs v → IsValid shape batch schedule us ys w → IsOutside g (length ys) k → IsOutside f (length xs) k
 same_missing shape valid batch schedule settings_text f g ts us xs ys v w k wanted want a b outside =
-    same_reading (λ t x u. IsOutside f (length x) k) shape valid batch schedule ts us xs ys v w a b (subst (λ (r : Option SettingRange). IsOutside r (length ys) k) (same_range settings_text g f want wanted) outside)
+    same_texts (λ t x n. IsOutside f (length x) k) shape valid batch schedule ts us xs ys a.read.certificate b.read.certificate a.read.texts b.read.texts (subst (λ (r : Option SettingRange). IsOutside r (length ys) k) (same_range settings_text g f want wanted) outside)
 
 -- what is drawn has nothing wrong
 drawn_right : (shape : Extent) → IsShape shape → (batch schedule : List ℕ) (settings_text : Option (List ℕ)) (text : List ℕ) (refusal : Refusal) → IsDrawing shape batch schedule settings_text text → IsFirstUndrawn shape batch schedule settings_text refusal → ⊥
@@ -140,9 +140,9 @@ one_undrawn shape valid batch schedule settings_text q r (no_setting range ts xs
 one_undrawn shape valid batch schedule settings_text q r (no_setting range ts xs v k wanted a outside is) (no_setting other us ys w l want b out are) =
     is ∙ ap NoSetting (same_outside range (length xs) k l outside (same_missing shape valid batch schedule settings_text range other ts us xs ys v w l wanted want a b out)) ∙ sym are
 
-pub one_drawing : (shape : Extent) → IsShape shape → (batch schedule : List ℕ) (settings_text : Option (List ℕ)) (p q : Printed) → IsDrawn shape batch schedule settings_text p → IsDrawn shape batch schedule settings_text q → q ≡ p
-one_drawing shape valid batch schedule settings_text p q (drawn a ends) (drawn b stops) = printed_same q p (one_text shape valid batch schedule settings_text q.text p.text b a) (stops ∙ sym ends)
-one_drawing shape valid batch schedule settings_text p q (drawn a ends) (undrawn g b is) = absurd (drawn_right shape valid batch schedule settings_text p.text g a b)
-one_drawing shape valid batch schedule settings_text p q (undrawn f a is) (drawn b stops) = absurd (drawn_right shape valid batch schedule settings_text q.text f b a)
-one_drawing shape valid batch schedule settings_text p q (undrawn f a is) (undrawn g b was) =
+pub one_drawing : (shape : Extent) → IsShape shape → (batch schedule : List ℕ) (settings_text : Option (List ℕ)) (least : ℕ) (p q : Printed) → IsDrawnWith shape batch schedule settings_text least p → IsDrawnWith shape batch schedule settings_text least q → q ≡ p
+one_drawing shape valid batch schedule settings_text least p q (drawn a so_many ends) (drawn b as_many stops) = printed_same q p (one_text shape valid batch schedule settings_text q.text p.text b a (so_many ∙ sym as_many)) (stops ∙ sym ends)
+one_drawing shape valid batch schedule settings_text least p q (drawn a so_many ends) (undrawn g b is) = absurd (drawn_right shape valid batch schedule settings_text p.text g a b)
+one_drawing shape valid batch schedule settings_text least p q (undrawn f a is) (drawn b as_many stops) = absurd (drawn_right shape valid batch schedule settings_text q.text f b a)
+one_drawing shape valid batch schedule settings_text least p q (undrawn f a is) (undrawn g b was) =
     refused_same (refusal_words g) q p was (subst (λ (r : Refusal). IsRefused (refusal_words r) p) (one_undrawn shape valid batch schedule settings_text f g a b) is)

@@ -23,9 +23,18 @@ pub record IsCounting (shape : Extent) (batch schedule text : List ℕ) : Type 0
   pub valid : IsValid shape batch schedule transfers settings verdict
   pub line : text ≡ changes_line verdict.changes verdict.least
 
--- that line, or the refusal of what is first wrong, each under its status
-pub data IsCounted (shape : Extent) (batch schedule : List ℕ) (printed : Printed) : Type 0 where
-  counted : IsCounting shape batch schedule printed.text → printed.status ≡ DONE
-      → IsCounted shape batch schedule printed
+-- that line, where so many changes are shown, or the refusal of what is first wrong, each under its
+-- status
+pub data IsCountedWith (shape : Extent) (batch schedule : List ℕ) (least : ℕ) (printed : Printed)
+    : Type 0 where
+  counted : (counting : IsCounting shape batch schedule printed.text)
+      → counting.verdict.least ≡ least → printed.status ≡ DONE
+      → IsCountedWith shape batch schedule least printed
   uncounted : (refusal : Refusal) → IsInvalid shape batch schedule refusal
-      → IsRefused (refusal_words refusal) printed → IsCounted shape batch schedule printed
+      → IsRefused (refusal_words refusal) printed
+      → IsCountedWith shape batch schedule least printed
+
+-- so it is, however many changes are shown
+abbrev pub IsCounted : Extent → List ℕ → List ℕ → Printed → Type 0
+IsCounted shape batch schedule printed =
+    (least : ℕ) × IsCountedWith shape batch schedule least printed

@@ -91,11 +91,18 @@ pub data IsFirstUndrawn (shape : Extent) (batch schedule : List ℕ) (settings_t
       → IsOutside range (length settings) k → refusal ≡ NoSetting k
       → IsFirstUndrawn shape batch schedule settings_text refusal
 
--- the picture, or the refusal of what is first wrong, each under its status
-pub data IsDrawn (shape : Extent) (batch schedule : List ℕ) (settings_text : Option (List ℕ))
-    (printed : Printed) : Type 0 where
-  drawn : IsDrawing shape batch schedule settings_text printed.text → printed.status ≡ DONE
-      → IsDrawn shape batch schedule settings_text printed
+-- the picture, where so many changes are shown, or the refusal of what is first wrong, each under
+-- its status
+pub data IsDrawnWith (shape : Extent) (batch schedule : List ℕ) (settings_text : Option (List ℕ))
+    (least : ℕ) (printed : Printed) : Type 0 where
+  drawn : (drawing : IsDrawing shape batch schedule settings_text printed.text)
+      → drawing.verdict.least ≡ least → printed.status ≡ DONE
+      → IsDrawnWith shape batch schedule settings_text least printed
   undrawn : (refusal : Refusal) → IsFirstUndrawn shape batch schedule settings_text refusal
       → IsRefused (refusal_words refusal) printed
-      → IsDrawn shape batch schedule settings_text printed
+      → IsDrawnWith shape batch schedule settings_text least printed
+
+-- so it is, however many changes are shown
+abbrev pub IsDrawn : Extent → List ℕ → List ℕ → Option (List ℕ) → Printed → Type 0
+IsDrawn shape batch schedule settings_text printed =
+    (least : ℕ) × IsDrawnWith shape batch schedule settings_text least printed

@@ -2,8 +2,8 @@
 
 ghost use Rattle.std.specs.Prelude.{IfOk};
 ghost use Rattle.batch.specs.Extent.{widest};
-ghost use Rattle.plan_answers.specs.Answers.{IsOnly};
-ghost use Rattle.plan_answers.specs.Counting.{IsCounted};
+ghost use Rattle.plan_answers.specs.Answers.{IsOnlyWith};
+ghost use Rattle.plan_answers.specs.Counting.{IsCountedWith, IsCounted};
 
 use crate::answer::Answer;
 use crate::schedule_texts::ScheduleTexts;
@@ -14,12 +14,12 @@ use std::alloc::{AllocError, Global};
 /// batch text denotes, and how often it is shown that one with as many settings has to: a line
 /// `changes C least L`; or the refusal of what is first wrong.
 ///
-/// L is as good as two links show it where the schedule has the fewest settings, and else as one
-/// link does. No certificate is needed. The texts are looked at as by
+/// L is as good as prices of the links show it where the schedule has the fewest settings, and else
+/// as one link does. No certificate is needed. The texts are looked at as by
 /// [`answer_draw`](crate::answer_draw). Takes time that grows with the lengths of the texts.
 pub fn answer_changes(alloc: Global, batch: &[u8], schedule: &[u8]) -> Result<Answer, AllocError>
     ensures counted { IfOk result (IsCounted widest batch.now schedule.now) }
-    ensures one { IfOk result (IsOnly (IsCounted widest batch.now schedule.now)) }
+    ensures one { IfOk result (IsOnlyWith (IsCountedWith widest batch.now schedule.now)) }
 {
     match ScheduleTexts::read(alloc, Shape::WIDEST, batch, schedule) {
         Ok(texts) => {

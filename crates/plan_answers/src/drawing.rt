@@ -6,8 +6,8 @@ ghost use Rattle.batch.specs.Text.{IsNumber};
 ghost use Rattle.schedule_picture.specs.declared.shown.Shown.{Shown};
 ghost use Rattle.schedule_picture.specs.Picture.{picture_of};
 ghost use Rattle.refusals.specs.declared.refusal.Refusal.TheVariants.{Settings, NoSetting, NoMemory};
-ghost use Rattle.plan_answers.specs.Answers.{IsOnly};
-ghost use Rattle.plan_answers.specs.Drawings.{IsInOrder, AreWanted, IsBadSettingsText, AreShown, IsOutside, IsDrawing, IsFirstUndrawn, IsDrawn};
+ghost use Rattle.plan_answers.specs.Answers.{IsOnlyWith};
+ghost use Rattle.plan_answers.specs.Drawings.{IsInOrder, AreWanted, IsBadSettingsText, AreShown, IsOutside, IsDrawing, IsFirstUndrawn, IsDrawnWith, IsDrawn};
 ghost use Rattle.plan_answers.specs.Lent.{bytes_of};
 
 use crate::answer::Answer;
@@ -110,7 +110,7 @@ pub fn answer_draw(
 ) -> Result<Answer, AllocError>
     ensures drawn { IfOk result (IsDrawn widest batch.now schedule.now (bytes_of settings.entry)) }
     ensures one { IfOk result
-        (IsOnly (IsDrawn widest batch.now schedule.now (bytes_of settings.entry))) }
+        (IsOnlyWith (IsDrawnWith widest batch.now schedule.now (bytes_of settings.entry))) }
 {
     match picture(alloc, batch, schedule, settings) {
         Ok(text) => Ok(Answer::done(text.into_bytes())),

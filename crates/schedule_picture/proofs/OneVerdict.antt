@@ -1,5 +1,5 @@
--- A schedule with its certificate has one verdict.
-use Rattle.std.proofs.Common.{◌≡◌, ℕ, List, Option, Some, None, length, refl, sym, ap, subst, ◌∙◌, arith, inl, inr, ◌⊎◌}
+-- A schedule with its certificate has one verdict, but for how many changes are shown.
+use Rattle.std.proofs.Common.{◌≡◌, ℕ, List, Option, Some, None, refl, sym, ap, ◌∙◌, arith, inl, inr, ◌⊎◌}
 use Rattle.std.proofs.lemmas.Bool.{cases_lt}
 use Rattle.batch.specs.declared.transfer.Transfer.{Transfer}
 use Rattle.link_graph.specs.declared.link.End.{End}
@@ -12,9 +12,8 @@ use Rattle.link_graph.proofs.Users.{made}
 use Rattle.schedule_picture.specs.declared.verdict.Standing.{Standing}
 use Rattle.schedule_picture.specs.declared.verdict.Standing.TheVariants.{Certified, Wrong, Missing}
 use Rattle.schedule_picture.specs.declared.verdict.Verdict.{Verdict}
-use Rattle.schedule_picture.specs.Verdicts.{IsBusiestOf, uses_of, IsStanding, link_named, AreMostPartners, IsLeastShown, IsVerdict}
+use Rattle.schedule_picture.specs.Verdicts.{IsBusiestOf, uses_of, IsStanding, link_named, AreMostPartners, IsVerdict}
 use Rattle.schedule_picture.proofs.Fewest.{unused}
-use Rattle.schedule_picture.proofs.Needed.{same_shown}
 
 -- of two links one stands before the other, or they are one
 by_module : (e : End) (m n : ℕ) → StandsBefore (made e m) (made e n) ⊎ ((made e m ≡ made e n) ⊎ StandsBefore (made e n) (made e m))
@@ -57,8 +56,8 @@ same_standing batch settings (Some named) Missing t p q = absurd p
 same_most : (batch : List Transfer) (m n : ℕ) → AreMostPartners batch m → AreMostPartners batch n → m ≡ n
 same_most batch m n p q = omega (arith, p.has, q.has, p.most q.link, q.most p.link)
 
-pub one_verdict : (batch : List Transfer) (settings : List (List ℕ)) (certificate : Option Naming) (v w : Verdict) → IsVerdict batch settings certificate v → IsVerdict batch settings certificate w → v ≡ w
-one_verdict batch settings certificate v w p q =
+pub one_verdict : (batch : List Transfer) (settings : List (List ℕ)) (certificate : Option Naming) (v w : Verdict) → IsVerdict batch settings certificate v → IsVerdict batch settings certificate w → v.least ≡ w.least → v ≡ w
+one_verdict batch settings certificate v w p q least =
     let link : p.link ≡ q.link = same_link batch p.link q.link p.most q.most in
     let standing : v.standing ≡ w.standing = same_standing batch settings certificate v.standing w.standing p.standing q.standing in
     let fewest : v.fewest ≡ w.fewest = p.fewest ∙ ap (uses_of batch) link ∙ sym q.fewest in
@@ -66,8 +65,6 @@ one_verdict batch settings certificate v w p q =
     p.busiest ∙ ap (λ (l : Option Link). link_named l v.standing certificate) link ∙ ap (λ (s : Standing). link_named q.link s certificate) standing ∙ sym q.busiest in
     let changes : v.changes ≡ w.changes = p.counted ∙ sym q.counted in
     let partners : v.partners ≡ w.partners = same_most batch v.partners w.partners p.needed q.needed in
-    let shown = subst (λ (f : ℕ). IsLeastShown batch (length settings) f v.partners v.least) fewest p.shown in
-    let least : v.least ≡ w.least = same_shown batch (length settings) w.fewest w.partners v.least w.least (subst (λ (n : ℕ). IsLeastShown batch (length settings) w.fewest n v.least) partners shown) q.shown in
     let all : ℕ → Option Link → Standing → ℕ → ℕ → ℕ → Verdict = λ f l s c n m. record { fewest = f; busiest = l; standing = s; changes = c; partners = n; least = m } in
     ap (λ (f : ℕ). all f v.busiest v.standing v.changes v.partners v.least) fewest
     ∙ ap (λ (l : Option Link). all w.fewest l v.standing v.changes v.partners v.least) busiest

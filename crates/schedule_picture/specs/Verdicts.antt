@@ -8,7 +8,7 @@ use Rattle.link_graph.specs.Counts.{uses, IsBusiest}
 use Rattle.link_graph.specs.Certificates.{Naming, IsCertificate}
 use Rattle.steady_schedule.specs.Changes.{changes}
 use Rattle.steady_schedule.specs.Partners.{partners}
-use Rattle.steady_schedule.specs.TwoLinks.{IsMostShown}
+use Rattle.steady_schedule.specs.Prices.{AreNeeded}
 use Rattle.schedule_picture.specs.declared.verdict.Standing.{Standing}
 use Rattle.schedule_picture.specs.declared.verdict.Standing.TheVariants.{Certified, Wrong, Missing}
 use Rattle.schedule_picture.specs.declared.verdict.Verdict.{Verdict}
@@ -47,10 +47,11 @@ pub record AreMostPartners (batch : List Transfer) (count : ℕ) : Type 0 where
   pub has : partners batch link ≡ count
   pub most : (other : Link) → partners batch other ≤ count
 
--- So many changes are shown of a schedule with so many settings. Two links show them, no two of which
--- show more, where these are the fewest; and else one link's partners.
+-- No schedule with so many settings has fewer changes than this, which is no less than the most
+-- partners of a link. It is those where so many settings aren't the fewest.
 pub record IsLeastShown (batch : List Transfer) (settings fewest partners least : ℕ) : Type 0 where
-  pub by_two : settings ≡ fewest → IsMostShown batch settings least
+  pub needed : AreNeeded batch settings least
+  pub not_less : partners ≤ least
   pub by_one : settings ≢ fewest → least ≡ partners
 
 -- what is known of a schedule of the batch, with the certificate that it has

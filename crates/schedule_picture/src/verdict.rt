@@ -12,7 +12,7 @@ ghost use Rattle.schedule_picture.specs.Verdicts.{uses_of, link_named, IsProofOf
 
 use batch::Batch;
 use link_graph::{Certificate, CheckFault, Link, LinkGraph, Schedule, check_schedule};
-use std::alloc::Global;
+use std::alloc::{AllocError, Global};
 use steady_schedule::{count_changes, most_partners, most_shown};
 
 /// Whether a schedule has a certificate, and whether that shows that no schedule is shorter.
@@ -43,7 +43,7 @@ pub struct Verdict {
     /// the batch changes the switch less often. 0 where there is no transfer.
     pub partners: usize,
     /// How often a schedule with as many settings changes the switch at least, as far as it is
-    /// shown: where these are the fewest by two links, and else by one link's partners.
+    /// shown: where these are the fewest by prices of the links, and else by one link's partners.
     pub least: usize,
 }
 
@@ -127,16 +127,29 @@ fn partners(graph: &LinkGraph) -> usize
     }
 }
 
-/// How many changes are shown of a schedule with so many settings.
-fn least(graph: &LinkGraph, settings: usize, fewest: usize, partners: usize) -> usize
+/// How often a schedule with so many settings changes the switch at least, as far as it is shown.
+/// Nothing is looked for beyond these changes, which one has.
+fn least(
+    alloc: Global,
+    graph: &LinkGraph,
+    settings: usize,
+    fewest: usize,
+    partners: usize,
+    changes: usize,
+) -> Result<usize, AllocError>
     requires most { (link : Link) → uses graph.now link ≤ fewest }
     requires few { fewest ≤ MAX_TRANSFERS }
-    ensures { IsLeastShown graph.now settings fewest partners result }
+    requires partners { AreMostPartners graph.now partners }
+    ensures { IfOk result (IsLeastShown graph.now settings fewest partners) }
 {
-    if settings != fewest {
-        return partners;
+    if settings != fewest || changes == partners {
+        return Ok(partners);
     }
-    most_shown(graph, settings)
+    let shown = most_shown(alloc, graph, settings, changes)?;
+    if shown < partners {
+        return Ok(partners);
+    }
+    Ok(shown)
 }
 
 /// The verdict on a schedule of the batch, with the certificate that it has, or what is first wrong
@@ -162,12 +175,21 @@ pub fn verdict_on(
     let busiest = graph.busiest();
     let fewest = uses(&graph, busiest);
     let partners = partners(&graph);
+    let changes = count_changes(&graph, schedule);
+    let least = least(
+        alloc,
+        &graph,
+        schedule.settings(),
+        fewest,
+        partners,
+        changes,
+    )?;
     Ok(Verdict {
         fewest,
         busiest: named_or(busiest, standing, certificate),
         standing,
-        changes: count_changes(&graph, schedule),
+        changes,
         partners,
-        least: least(&graph, schedule.settings(), fewest, partners),
+        least,
     })
 }

@@ -23,7 +23,7 @@ use Rattle.steady_schedule.specs.Needs.{IsUsed, IsOver, ChangesAtNeed}
 use Rattle.steady_schedule.specs.Needs.IsOver.{pair_done, link_needed}
 use Rattle.steady_schedule.specs.Partners.{joins_to, partners}
 use Rattle.steady_schedule.specs.Waiting.{sum_below}
-use Rattle.steady_schedule.proofs.Alone.{count_is_sum}
+use Rattle.steady_schedule.proofs.StepSums.{count_is_sum}
 use Rattle.steady_schedule.proofs.Ends.{modules_low}
 use Rattle.steady_schedule.proofs.Members.{member_any, any_member, pair_stands}
 use Rattle.steady_schedule.proofs.NeedChanges.{bit}

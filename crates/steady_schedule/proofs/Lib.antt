@@ -1,5 +1,5 @@
 pub mod NeedChanges
-pub mod Alone
+pub mod StepSums
 pub mod Ends
 pub mod Bits
 pub mod PartnerMasks
@@ -20,6 +20,6 @@ pub mod Needs
 pub mod FewNeeds
 pub mod LongSteps
 pub mod Totals
-pub mod TwoLinks
-pub mod Listed
+pub mod Runs
+pub mod Prices
 pub mod Plans

@@ -12,7 +12,7 @@ use Rattle.link_graph.specs.Marks.{members}
 use Rattle.link_graph.specs.Schedules.{IsScheduleOf}
 use Rattle.link_graph.proofs.Once.{times_concat}
 use Rattle.steady_schedule.specs.Waiting.{sum_below}
-use Rattle.steady_schedule.proofs.Alone.{sum_equal, swap_below, one_at}
+use Rattle.steady_schedule.proofs.StepSums.{sum_equal, swap_below, one_at}
 use Rattle.steady_schedule.proofs.Ends.{one_more}
 use Rattle.steady_schedule.proofs.Sums.{only, sum_same, sum_none, sum_changed}
 
@@ -77,7 +77,7 @@ module _ (batch : List Transfer) (p : Transfer → Bool) where
       let n : ℕ = length batch in
       sym (sum_equal (λ u. sum_below n (λ t. only (u == t) (worth t))) worth one_worth xs)
       ∙ (sym (swap_below n (λ u t. only (u == t) (worth t)) xs)
-      ∙ sum_same n (λ t. sum_by (λ u. only (u == t) (worth t)) xs) worth (λ t lt. one_at n (λ u. u) xs (λ u m. u == m) t (λ k. worth t) xs (once t lt)))
+      ∙ sum_same n (λ t. sum_by (λ u. only (u == t) (worth t)) xs) worth (λ t lt. one_at (λ u. u) (λ u m. u == m) t (λ k. worth t) xs (once t lt)))
 
   all_worth : (settings : List (List ℕ)) → sum_by worth (concat settings) ≡ sum_by (λ setting. count_by p (members batch setting)) settings
   all_worth [] = refl

@@ -14,5 +14,5 @@ pub mod Steps
 pub mod Reaches
 pub mod Slots
 pub mod Bounds
-pub mod TwoLinks
+pub mod Prices
 pub mod Laws

@@ -132,6 +132,14 @@ pub record AreLongSteps (totals remaining slots : List ℕ) (settings next held 
       → count_at remaining u v + count_below next (λ d. joined d u v) ≡ count_at totals u v
   pub each : AreLongEach joined (count_at totals) settings next held
 
+-- the slots have the numbers of all settings, as steps wrote them until no transfer waited
+pub record AreFilled (totals slots : List ℕ) (settings : ℕ) : Type 0 where
+  pub counts : List ℕ
+  pub done : (u v : ℕ) → u < MAX_MODULES → v < MAX_MODULES → count_at counts u v ≡ 0
+  pub numbered : AreNumbered totals counts slots settings
+  pub needs : AreAtNeed totals counts slots settings settings
+  pub long : AreLongSteps totals counts slots settings settings 0
+
 -- the numbers from `first` on are written into k slots, the first of them last
 pub record AreSlotsFilled (at first k : ℕ) (old new : List ℕ) : Type 0 where
   pub sized : length new ≡ length old

@@ -2,7 +2,7 @@
 
 ghost use Rattle.std.specs.Prelude.{◌≡◌, ◌≢◌, ◌⊎◌, ℕ, ◌+◌, ◌-◌, ◌<◌, ◌≤◌, Some, None, true, false, IfSome, IsSome};
 ghost use Rattle.batch.specs.declared.limits.TheConstants.{MAX_MODULES, MAX_TRANSFERS};
-ghost use Rattle.steady_schedule.specs.Covers.{KeepsPartners};
+ghost use Rattle.steady_schedule.specs.Covers.{AreFree, KeepsPartners};
 ghost use Rattle.link_graph.specs.Masks.{has_bit, has_pair};
 ghost use Rattle.steady_schedule.specs.Matchings.{partner, AreMatched};
 ghost use Rattle.steady_schedule.specs.Reaches.{AreHeld, HaveHeld, HaveEach, IsOverMask, JoinsNeeded, IsBarred, IsInWay, HaveWay, AreAtMost};
@@ -10,8 +10,8 @@ ghost use Rattle.steady_schedule.specs.Searches.{AreNear, JoinsNear};
 ghost use Rattle.steady_schedule.specs.Steps.{NoneLonger};
 ghost use Rattle.steady_schedule.specs.Waiting.{HaveMost, NoneWait};
 
-use crate::masks::{Masks, has, lowest, without_module};
-use crate::matching::{Matching, Partners, augment, free, part};
+use crate::masks::{Order, Orders, first, has, lowest, without_module};
+use crate::matching::{Matching, Partners, augment, free, join, part};
 use crate::reach::{Held, Reach};
 use crate::remaining::Remaining;
 use batch::MAX_MODULES;
@@ -65,40 +65,51 @@ fn standing(before: &Matching, reach: &Reach) -> Matching
     matching
 }
 
-/// Of links that are free, the pairs that can be held just so long.
-fn open_pairs(reach: &Reach, zero: &Partners, free: u32, modules: usize) -> Masks
+/// Of links that are free, the pairs that can be held just so long. All of them have to be joined.
+fn open_pairs(reach: &Reach, zero: &Partners, free: u32, modules: usize) -> Held
     requires { modules ≤ MAX_MODULES }
-    ensures { (u v : ℕ) → has_pair result u v ≡ true → has_pair reach.now.zero.near u v ≡ true }
+    ensures { (u v : ℕ) → has_pair result.near u v ≡ true
+        → has_pair reach.now.zero.near u v ≡ true }
 {
-    let mut pairs = [0; MAX_MODULES];
+    let mut pairs = Held::none(u32::MAX, reach.zero.order);
     for module in 0..modules {
         if zero[module].is_none() {
-            pairs[module] = reach.zero.near[module] & (reach.zero.just[module] & free);
+            pairs.near[module] = reach.zero.near[module] & (reach.zero.just[module] & free);
         }
     }
     pairs
 }
 
+/// Joins a link 0 that is free to one of these links 3, which are free, by one of these pairs, where
+/// there is one.
+fn join_first(pairs: &Held, free: &mut u32, matching: &mut Matching, zero: usize)
+    requires low { zero < MAX_MODULES }
+    requires free { AreFree matching.old.three free.old }
+    ensures joins { JoinsNear pairs.now.near matching.old.zero matching.new.zero }
+    ensures free { AreFree matching.new.three free.new }
+{
+    let mask = pairs.near[zero] & *free;
+    if mask == 0 || matching.zero[zero].is_some() {
+        return;
+    }
+    let three = first(mask, pairs.order);
+    join(&mut matching.zero, &mut matching.three, zero, three);
+    *free = without_module(*free, three);
+}
+
 /// Finds a partner for a link 0, where it has none, by one of these pairs. Where that is in vain, it
 /// takes the links 3 that it saw out of those that are open: each search from there is in vain too.
 /// No contract says so.
-fn join_open(pairs: &Masks, open: &mut u32, matching: &mut Matching, zero: usize)
+fn join_open(pairs: &Held, open: &mut u32, matching: &mut Matching, zero: usize)
     requires { zero < MAX_MODULES }
-    ensures { JoinsNear pairs.now matching.old.zero matching.new.zero }
+    ensures { JoinsNear pairs.now.near matching.old.zero matching.new.zero }
 {
-    if matching.zero[zero].is_some() || pairs[zero] & *open == 0 {
+    if matching.zero[zero].is_some() || pairs.near[zero] & *open == 0 {
         return;
     }
     let mut unseen = *open;
-    if !augment(
-        zero,
-        pairs,
-        pairs,
-        u32::MAX,
-        &mut matching.zero,
-        &mut matching.three,
-        &mut unseen,
-    ) {
+    let (of, back) = (&mut matching.zero, &mut matching.three);
+    if !augment(zero, pairs, of, back, &mut unseen) {
         *open = unseen;
     }
 }
@@ -106,10 +117,16 @@ fn join_open(pairs: &Masks, open: &mut u32, matching: &mut Matching, zero: usize
 /// Joins links that are free by pairs that can be held just so long, and are used up then: as many
 /// as there can be.
 fn join_just(reach: &Reach, matching: &mut Matching, free: u32, modules: usize)
-    requires { modules ≤ MAX_MODULES }
+    requires within { modules ≤ MAX_MODULES }
+    requires free { AreFree matching.old.three free }
     ensures { JoinsNear reach.now.zero.near matching.old.zero matching.new.zero }
 {
     let pairs = open_pairs(reach, &matching.zero, free, modules);
+    // Most find one at once: so what is searched for is little
+    let mut rest = free;
+    for zero in 0..modules {
+        join_first(&pairs, &mut rest, matching, zero);
+    }
     let mut open = free;
     for zero in 0..modules {
         join_open(&pairs, &mut open, matching, zero);
@@ -140,34 +157,25 @@ fn join_needed_one(
         return None;
     }
     let mut unseen = !stand;
-    if augment(
-        x,
-        &held.near,
-        &held.just,
-        held.needed,
-        of,
-        back,
-        &mut unseen,
-    ) {
+    if augment(x, held, of, back, &mut unseen) {
         return None;
     }
     unseen = u32::MAX;
-    if augment(
-        x,
-        &held.near,
-        &held.just,
-        held.needed,
-        of,
-        back,
-        &mut unseen,
-    ) {
+    if augment(x, held, of, back, &mut unseen) {
         return None;
     }
     Some(unseen)
 }
 
-/// Finds a partner for each link that has to be joined, or tells the first for which it can't.
-fn join_needed(held: &Held, stand: u32, of: &mut Partners, back: &mut Partners) -> Option<InVain>
+/// Finds a partner for each link that has to be joined, in this order, or tells the first for which
+/// it can't.
+fn join_needed(
+    held: &Held,
+    order: Order,
+    stand: u32,
+    of: &mut Partners,
+    back: &mut Partners,
+) -> Option<InVain>
     requires matched { AreMatched of.old back.old }
     ensures matched { AreMatched of.new back.new }
     ensures near { JoinsNear held.now.near of.old of.new }
@@ -180,7 +188,7 @@ fn join_needed(held: &Held, stand: u32, of: &mut Partners, back: &mut Partners) 
 {
     let mut rest = held.needed;
     'links: while rest != 0 {
-        let link = lowest(rest);
+        let link = first(rest, order);
         rest = without_module(rest, link);
         if let Some(unseen) = join_needed_one(held, link, stand, of, back) {
             return Some(InVain { link, unseen });
@@ -190,7 +198,7 @@ fn join_needed(held: &Held, stand: u32, of: &mut Partners, back: &mut Partners) 
 }
 
 /// The most transfers that a link has with one of these of the other end.
-fn most_with(remaining: &Remaining, end: End, link: usize, others: u32) -> usize
+pub(crate) fn most_with(remaining: &Remaining, end: End, link: usize, others: u32) -> usize
     requires { link < MAX_MODULES }
     ensures each { AreAtMost remaining.now.counts end link others result }
     ensures least { (s : ℕ) → AreAtMost remaining.now.counts end link others s → result ≤ s }
@@ -285,6 +293,7 @@ fn join_all_needed(
 {
     let in_vain = join_needed(
         &reach.zero,
+        reach.three.order,
         stand.1,
         &mut matching.zero,
         &mut matching.three,
@@ -294,6 +303,7 @@ fn join_all_needed(
     }
     let in_vain = join_needed(
         &reach.three,
+        reach.zero.order,
         stand.0,
         &mut matching.three,
         &mut matching.zero,
@@ -312,6 +322,7 @@ impl Choice {
         most: usize,
         modules: usize,
         settings: usize,
+        orders: Orders,
     ) -> Choice
         requires within { modules ≤ MAX_MODULES }
         requires none { NoneWait remaining.now.counts modules }
@@ -328,7 +339,7 @@ impl Choice {
         ensures settings { result.reach.settings ≡ settings }
         ensures shorter { result.shorter < settings }
     {
-        let reach = Reach::of(remaining, most, modules, settings);
+        let reach = Reach::of(remaining, most, modules, settings, orders);
         let mut matching = standing(before, &reach);
         let free_zero = free(&matching.zero, modules);
         let free_three = free(&matching.three, modules);
@@ -351,6 +362,7 @@ pub(crate) fn choose(
     most: usize,
     modules: usize,
     longest: usize,
+    orders: Orders,
 ) -> Choice
     requires within { modules ≤ MAX_MODULES }
     requires none { NoneWait remaining.now.counts modules }
@@ -368,9 +380,9 @@ pub(crate) fn choose(
         most result.reach.settings }
     ensures longest { NoneLonger remaining.now.counts most result.reach.settings }
 {
-    let mut choice = Choice::of(remaining, before, most, modules, longest.min(most));
+    let mut choice = Choice::of(remaining, before, most, modules, longest.min(most), orders);
     'lengths: while choice.shorter > 0 {
-        choice = Choice::of(remaining, before, most, modules, choice.shorter);
+        choice = Choice::of(remaining, before, most, modules, choice.shorter, orders);
     }
     choice
 }

@@ -16,10 +16,11 @@
 //!
 //! Some counts serve any schedule of a batch: how often it changes the switch ([`count_changes`]);
 //! how many partners a link has at most ([`most_partners`]), since no schedule changes the switch
-//! less often than that (`laws::partners_need_changes`); and the changes that two links show of
-//! each schedule with as many settings ([`most_shown`], `laws::two_links_need_changes`).
+//! less often than that (`laws::partners_need_changes`); and as many changes as prices of the links
+//! show that each schedule with as many settings has to have ([`most_shown`]).
 #![tactic(auto)]
 
+mod bounding;
 mod changing;
 mod choosing;
 mod gathering;
@@ -30,13 +31,13 @@ mod numbering;
 mod partners;
 mod plan;
 mod planning;
+mod pricing;
 mod reach;
 mod remaining;
 mod stepping;
-mod two_links;
 
+pub use bounding::most_shown;
 pub use changing::count_changes;
 pub use partners::most_partners;
 pub use plan::Steady;
 pub use planning::steady;
-pub use two_links::most_shown;

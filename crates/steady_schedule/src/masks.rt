@@ -17,18 +17,64 @@ pub(crate) fn lowest(mask: u32) -> usize
     mask.trailing_zeros() as usize
 }
 
-/// The least module of a mask that has any, among those that are preferred where it has some of
+/// In which order modules are tried.
+#[derive(Clone, Copy)]
+pub(crate) enum Order {
+    Rising,
+    Falling,
+}
+
+/// In which order the modules of each end are tried.
+#[derive(Clone, Copy)]
+pub(crate) struct Orders {
+    pub(crate) zero: Order,
+    pub(crate) three: Order,
+}
+
+/// All orders.
+pub(crate) const ORDERS: [Orders; 4] = [
+    Orders {
+        zero: Order::Rising,
+        three: Order::Rising,
+    },
+    Orders {
+        zero: Order::Falling,
+        three: Order::Rising,
+    },
+    Orders {
+        zero: Order::Rising,
+        three: Order::Falling,
+    },
+    Orders {
+        zero: Order::Falling,
+        three: Order::Falling,
+    },
+];
+
+/// The first module of a mask that has any.
+pub(crate) fn first(mask: u32, order: Order) -> usize
+    requires { 0 < mask }
+    ensures within { result < MAX_MODULES }
+    ensures has { has_bit mask result ≡ true }
+{
+    match order {
+        Order::Rising => lowest(mask),
+        Order::Falling => MAX_MODULES - 1 - mask.leading_zeros() as usize,
+    }
+}
+
+/// The first module of a mask that has any, among those that are preferred where it has some of
 /// them; no contract says so.
-pub(crate) fn lowest_of(mask: u32, preferred: u32) -> usize
+pub(crate) fn first_of(mask: u32, preferred: u32, order: Order) -> usize
     requires { 0 < mask }
     ensures within { result < MAX_MODULES }
     ensures has { has_bit mask result ≡ true }
 {
     let better = mask & preferred;
     if better > 0 {
-        return lowest(better);
+        return first(better, order);
     }
-    lowest(mask)
+    first(mask, order)
 }
 
 /// Whether a module is in a mask.

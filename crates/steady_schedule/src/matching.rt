@@ -7,7 +7,8 @@ ghost use Rattle.link_graph.specs.Masks.{has_bit};
 ghost use Rattle.steady_schedule.specs.Matchings.{partner, AreMatched, AreBelow};
 ghost use Rattle.steady_schedule.specs.Searches.{AllSeen, IsStuck, IsInVain, IsFound, IsFreed};
 
-use crate::masks::{Masks, has, lowest_of, with_module, without_module};
+use crate::masks::{first_of, has, with_module, without_module};
+use crate::reach::Held;
 use batch::MAX_MODULES;
 
 /// For each module the one that its link is joined to, where it is joined. Bytes, since each choice
@@ -80,9 +81,7 @@ pub(crate) fn part(of: &mut Partners, back: &mut Partners, x: usize, y: usize)
 #[cycle(augment)]
 fn make_room(
     y: usize,
-    near: &Masks,
-    first: &Masks,
-    needed: u32,
+    held: &Held,
     of: &mut Partners,
     back: &mut Partners,
     unseen: &mut u32,
@@ -92,10 +91,10 @@ fn make_room(
     requires matched { AreMatched of.old back.old }
     ensures matched { AreMatched of.new back.new }
     ensures freed { result ≡ true
-        → IsFreed near.now needed unseen.old y of.old of.new back.old back.new }
+        → IsFreed held.now.near held.now.needed unseen.old y of.old of.new back.old back.new }
     ensures vain { result ≡ false
-        → IsInVain near.now needed unseen.old unseen.new of.old of.new back.old back.new }
-    ensures stuck { result ≡ false → IsStuck near.now needed unseen.new back.new y }
+        → IsInVain held.now.near held.now.needed unseen.old unseen.new of.old of.new back.old back.new }
+    ensures stuck { result ≡ false → IsStuck held.now.near held.now.needed unseen.new back.new y }
     ensures fewer { unseen.new ≤ unseen.old }
 {
     let Some(x) = back[y] else {
@@ -103,10 +102,10 @@ fn make_room(
     };
     let x = x as usize;
     part(of, back, x, y);
-    if !has(needed, x) {
+    if !has(held.needed, x) {
         return true;
     }
-    if augment(x, near, first, needed, of, back, unseen) {
+    if augment(x, held, of, back, unseen) {
         return true;
     }
     join(of, back, x, y);
@@ -115,13 +114,11 @@ fn make_room(
 
 /// Finds a partner for the link `x`, which has none, among those near it that are unseen. A partner
 /// is free, or its own partner isn't needed and goes without, or finds another one. It looks at
-/// those of the masks `first` before others; no contract says so.
+/// those before others whose pair is used up then; no contract says so.
 #[cycle(augment)]
 pub(crate) fn augment(
     x: usize,
-    near: &Masks,
-    first: &Masks,
-    needed: u32,
+    held: &Held,
     of: &mut Partners,
     back: &mut Partners,
     unseen: &mut u32,
@@ -131,16 +128,16 @@ pub(crate) fn augment(
     requires matched { AreMatched of.old back.old }
     ensures matched { AreMatched of.new back.new }
     ensures found { result ≡ true
-        → IsFound near.now needed unseen.old x of.old of.new back.old back.new }
+        → IsFound held.now.near held.now.needed unseen.old x of.old of.new back.old back.new }
     ensures vain { result ≡ false
-        → IsInVain near.now needed unseen.old unseen.new of.old of.new back.old back.new }
-    ensures seen { result ≡ false → AllSeen near.now unseen.new x }
+        → IsInVain held.now.near held.now.needed unseen.old unseen.new of.old of.new back.old back.new }
+    ensures seen { result ≡ false → AllSeen held.now.near unseen.new x }
     ensures fewer { unseen.new ≤ unseen.old }
 {
-    'search: while near[x] & *unseen != 0 {
-        let y = lowest_of(near[x] & *unseen, first[x]);
+    'search: while held.near[x] & *unseen != 0 {
+        let y = first_of(held.near[x] & *unseen, held.just[x], held.order);
         *unseen = without_module(*unseen, y);
-        if make_room(y, near, first, needed, of, back, unseen) {
+        if make_room(y, held, of, back, unseen) {
             join(of, back, x, y);
             return true;
         }

@@ -8,11 +8,12 @@ ghost use Rattle.link_graph.specs.Counts.{uses};
 ghost use Rattle.link_graph.specs.Schedules.{lists_of};
 ghost use Rattle.steady_schedule.specs.Matchings.{partner, AreBelow};
 ghost use Rattle.steady_schedule.specs.Searches.{AreNear};
-ghost use Rattle.steady_schedule.specs.Slots.{slot, AreFirstSlots, AreSlotsOf, IsKeptFor, IsHeldAs, AreNumbered, AreNumberedFrom, KeepNumbers, AreSlotsFilled, AreReadInto, AreSlotsBelow, AreAtNeed, AreLongSteps, AreNumberedSettings};
+ghost use Rattle.steady_schedule.specs.Slots.{slot, AreFirstSlots, AreSlotsOf, IsKeptFor, IsHeldAs, AreNumbered, AreNumberedFrom, KeepNumbers, AreSlotsFilled, AreReadInto, AreFilled, AreSlotsBelow, AreNumberedSettings};
 ghost use Rattle.steady_schedule.specs.Steps.{AreTaken};
 ghost use Rattle.steady_schedule.specs.Waiting.{sum_below, pair_index, count_at, ArePairCounts, HaveMost};
 
 use crate::gathering::{empty_lists, push_into};
+use crate::masks::{ORDERS, Orders};
 use crate::matching::{Matching, part};
 use crate::remaining::{PAIRS, Remaining};
 use crate::stepping::next_step;
@@ -142,28 +143,33 @@ fn hold(
     }
 }
 
-/// Writes the numbers of their settings for all transfers that wait.
-fn fill(remaining: &mut Remaining, places: &Places<'_>, slots: &mut [usize], settings: usize)
-    requires whole { remaining.old.counts ≡ places.now.totals.now }
-    requires most { HaveMost remaining.old.counts settings }
+/// Writes the numbers of their settings for all transfers that wait, by steps in which links are
+/// tried in these orders. Gives how many steps that makes; no contract says so.
+fn fill(
+    remaining: &Remaining,
+    places: &Places<'_>,
+    slots: &mut [usize],
+    settings: usize,
+    orders: Orders,
+) -> usize
+    requires whole { remaining.now.counts ≡ places.now.totals.now }
+    requires most { HaveMost remaining.now.counts settings }
     requires few { settings ≤ MAX_TRANSFERS }
-    requires numbered { AreNumbered places.now.totals.now remaining.old.counts slots.old 0 }
-    ensures done { (u v : ℕ) → u < MAX_MODULES → v < MAX_MODULES
-        → count_at remaining.new.counts u v ≡ 0 }
-    ensures numbered { AreNumbered places.now.totals.now remaining.new.counts slots.new settings }
-    ensures needs { AreAtNeed places.now.totals.now remaining.new.counts slots.new
-        settings settings }
-    ensures long { AreLongSteps places.now.totals.now remaining.new.counts slots.new
-        settings settings 0 }
+    requires room { length slots.old
+        ≡ sum_below (MAX_MODULES * MAX_MODULES) (slice_index places.now.totals.now) }
+    ensures { AreFilled places.now.totals.now slots.new settings }
 {
-    let modules = remaining.modules();
+    let mut left = *remaining;
+    let modules = left.modules();
     let mut matching = Matching::none();
     let mut first = 0;
+    let mut steps = 0usize;
     let mut held = MAX_TRANSFERS;
     'steps: while first < settings {
-        held = next_step(remaining, &mut matching, settings - first, modules, held);
+        let most = settings - first;
+        held = next_step(&left, &mut matching, most, modules, held, orders);
         hold(
-            remaining,
+            &mut left,
             &mut matching,
             places,
             slots,
@@ -172,6 +178,38 @@ fn fill(remaining: &mut Remaining, places: &Places<'_>, slots: &mut [usize], set
             modules,
         );
         first += held;
+        steps = steps.saturating_add(1);
+    }
+    steps
+}
+
+/// Does so in the order that makes the fewest steps, or in the first one where that makes as few as
+/// a link has partners. No contract says so. The slots of others are written into `spare`.
+fn fill_best(
+    remaining: &Remaining,
+    places: &Places<'_>,
+    slots: &mut [usize],
+    spare: &mut [usize],
+    settings: usize,
+)
+    requires whole { remaining.now.counts ≡ places.now.totals.now }
+    requires most { HaveMost remaining.now.counts settings }
+    requires few { settings ≤ MAX_TRANSFERS }
+    requires room { length slots.old
+        ≡ sum_below (MAX_MODULES * MAX_MODULES) (slice_index places.now.totals.now) }
+    requires spare { length spare.old ≡ length slots.old }
+    ensures { AreFilled places.now.totals.now slots.new settings }
+{
+    let mut best = fill(remaining, places, slots, settings, ORDERS[0]);
+    for place in 1..ORDERS.len() {
+        if best <= remaining.most_near() {
+            return;
+        }
+        let steps = fill(remaining, places, spare, settings, ORDERS[place]);
+        if steps < best {
+            best = steps;
+            slots.copy_from_slice(spare);
+        }
     }
 }
 
@@ -231,21 +269,23 @@ fn settings_by(
     alloc: Global,
     graph: &LinkGraph,
     settings: usize,
-    remaining: &mut Remaining,
+    remaining: &Remaining,
     places: &Places<'_>,
     slots: &mut [usize],
+    spare: &mut [usize],
 ) -> Result<Vec<Vec<usize>>, AllocError>
     requires batch { IsBatch graph.now }
     requires counted { ArePairCounts graph.now places.now.totals.now }
-    requires whole { remaining.old.counts ≡ places.now.totals.now }
-    requires most { HaveMost remaining.old.counts settings }
+    requires whole { remaining.now.counts ≡ places.now.totals.now }
+    requires most { HaveMost remaining.now.counts settings }
     requires few { settings ≤ MAX_TRANSFERS }
     requires room { length slots.old
         ≡ sum_below (MAX_MODULES * MAX_MODULES) (slice_index places.now.totals.now) }
+    requires spare { length spare.old ≡ length slots.old }
     ensures { IfOk result (λ lists.
         AreNumberedSettings graph.now settings (lists_of lists.items)) }
 {
-    fill(remaining, places, slots, settings);
+    fill_best(remaining, places, slots, spare, settings);
     read_all(alloc, graph, places, slots, settings)
 }
 
@@ -263,10 +303,12 @@ pub(crate) fn settings_of(
 {
     let mut remaining = Remaining::none();
     remaining.add_all(graph);
-    let totals = remaining.counts;
     // Each place is written over, and a copy costs less than zeros
-    let mut starts = totals;
-    let places = Places::of(&totals, &mut starts);
+    let mut starts = remaining.counts;
+    let places = Places::of(&remaining.counts, &mut starts);
     let mut slots = vec![in alloc; 0; places.room]?;
-    settings_by(alloc, graph, settings, &mut remaining, &places, &mut slots)
+    let mut spare = vec![in alloc; 0; places.room]?;
+    settings_by(
+        alloc, graph, settings, &remaining, &places, &mut slots, &mut spare,
+    )
 }

@@ -5,7 +5,7 @@ ghost use Rattle.batch.specs.declared.limits.TheConstants.{MAX_MODULES, MAX_TRAN
 ghost use Rattle.link_graph.specs.Masks.{has_pair};
 ghost use Rattle.steady_schedule.specs.Reaches.{AreHeld, HaveHeld, IsOverMask};
 
-use crate::masks::{Masks, lowest, with_module, without_module};
+use crate::masks::{Masks, Order, Orders, lowest, with_module, without_module};
 use crate::remaining::Remaining;
 use batch::MAX_MODULES;
 
@@ -18,6 +18,8 @@ pub(crate) struct Held {
     pub(crate) just: Masks,
     /// The links that have more transfers than there are settings left then.
     pub(crate) needed: u32,
+    /// In which order links of the other end are tried as partners. No contract says so.
+    pub(crate) order: Order,
 }
 
 /// What can be held for some settings.
@@ -31,7 +33,7 @@ pub(crate) struct Reach {
 
 impl Held {
     /// No pairs.
-    fn none(needed: u32) -> Held
+    pub(crate) fn none(needed: u32, order: Order) -> Held
         ensures near { (u v : ℕ) → has_pair result.near u v ≡ false }
         ensures needed { result.needed ≡ needed }
     {
@@ -39,6 +41,7 @@ impl Held {
             near: [0; MAX_MODULES],
             just: [0; MAX_MODULES],
             needed,
+            order,
         }
     }
 
@@ -102,7 +105,13 @@ impl Reach {
     }
 
     /// What can be held for so many of the settings that are left.
-    pub(crate) fn of(remaining: &Remaining, most: usize, modules: usize, settings: usize) -> Reach
+    pub(crate) fn of(
+        remaining: &Remaining,
+        most: usize,
+        modules: usize,
+        settings: usize,
+        orders: Orders,
+    ) -> Reach
         requires some { 0 < settings }
         requires few { most ≤ MAX_TRANSFERS }
         requires left { settings ≤ most }
@@ -118,8 +127,14 @@ impl Reach {
     {
         let mut reach = Reach {
             settings,
-            zero: Held::none(over(&remaining.zero.uses, most - settings, modules)),
-            three: Held::none(over(&remaining.three.uses, most - settings, modules)),
+            zero: Held::none(
+                over(&remaining.zero.uses, most - settings, modules),
+                orders.three,
+            ),
+            three: Held::none(
+                over(&remaining.three.uses, most - settings, modules),
+                orders.zero,
+            ),
         };
         for zero in 0..modules {
             reach.add_row(remaining, zero);

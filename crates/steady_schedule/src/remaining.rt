@@ -15,7 +15,7 @@ use link_graph::{End, LinkGraph};
 pub(crate) const PAIRS: usize = MAX_MODULES * MAX_MODULES;
 
 /// The links of one end.
-#[derive(Drop)]
+#[derive(Clone, Copy)]
 pub(crate) struct Side {
     /// For each link those of the other end with which it has transfers that wait.
     pub(crate) near: Masks,
@@ -24,7 +24,7 @@ pub(crate) struct Side {
 }
 
 /// How many transfers of each pair of links wait for a setting.
-#[derive(Drop)]
+#[derive(Clone, Copy)]
 pub(crate) struct Remaining {
     /// Those of link 0 of module u and link 3 of module v are at the place `u * MAX_MODULES + v`.
     pub(crate) counts: [u32; PAIRS],
@@ -109,6 +109,14 @@ impl Remaining {
             End::Zero => self.count(link, other),
             End::Three => self.count(other, link),
         }
+    }
+
+    /// How many links of the other end a link has transfers with, at most. No contract says so.
+    pub(crate) fn most_near(&self) -> usize {
+        let near = self.zero.near.iter().chain(&self.three.near);
+        near.map(|near| near.count_ones() as usize)
+            .max()
+            .unwrap_or(0)
     }
 
     /// One transfer more waits.

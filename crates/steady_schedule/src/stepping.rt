@@ -11,7 +11,7 @@ ghost use Rattle.steady_schedule.specs.Steps.{CanHold, NoneLonger};
 ghost use Rattle.steady_schedule.specs.Waiting.{count_at, waiting, HaveMost, NoneWait};
 
 use crate::choosing::choose;
-use crate::masks::{Masks, lowest, without_module};
+use crate::masks::{Masks, Orders, lowest, without_module};
 use crate::matching::{Matching, free, join};
 use crate::remaining::Remaining;
 use batch::MAX_MODULES;
@@ -150,6 +150,7 @@ pub(crate) fn next_step(
     most: usize,
     modules: usize,
     longest: usize,
+    orders: Orders,
 ) -> usize
     requires some { 0 < most }
     requires few { most ≤ MAX_TRANSFERS }
@@ -163,7 +164,7 @@ pub(crate) fn next_step(
     ensures no_longer { result ≤ longest }
     ensures low { AreBelow matching.new.zero modules }
 {
-    let choice = choose(remaining, matching, most, modules, longest);
+    let choice = choose(remaining, matching, most, modules, longest, orders);
     *matching = choice.matching;
     join_free(remaining, &choice.reach.zero.near, matching, modules);
     how_long(remaining, matching, most, modules)

@@ -33,7 +33,7 @@ fn the_definitions_give_cells()
     ensures responder { partner_of (pull 3 0 31 5) Three ≡ 3 }
 {}
 
-/// As many changes as partners are the fewest, and as many as two links show the fewest with so few
+/// As many changes as partners are the fewest, and as many as are shown the fewest with so few
 /// settings. How often the switch changes is said first below the heading, and behind the heading
 /// in the title.
 fn the_definitions_say_changes()

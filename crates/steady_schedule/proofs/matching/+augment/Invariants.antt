@@ -12,7 +12,7 @@ decreases-augment l = 2 * l.unseen.now
 abbrev pub invariant-augment-search : goal.invariant-augment-search
 invariant-augment-search l = record {
   matched : AreMatched l.of l.back;
-  vain : IsInVain l.near l.needed l.initial.unseen l.unseen l.initial.of l.of l.initial.back l.back;
+  vain : IsInVain l.held.near l.held.needed l.initial.unseen l.unseen l.initial.of l.of l.initial.back l.back;
   fewer : l.unseen ≤ l.initial.unseen;
 }
 

@@ -5,7 +5,7 @@ use Rattle.steady_schedule.proofs.Longest.{still_longest}
 use Rattle.steady_schedule.proofs.LongSteps.{none_long, one_longer, any_held}
 use Rattle.steady_schedule.proofs.Matchings.{has_low}
 use Rattle.steady_schedule.proofs.Needs.{none_over, still_needed, step_apart}
-use Rattle.steady_schedule.proofs.Slots.{all_taken}
+use Rattle.steady_schedule.proofs.Slots.{all_taken, none_numbered}
 use Rattle.steady_schedule.proofs.Steps.{less_waits, none_wait}
 use Rattle.steady_schedule.proofs.numbering.fill.Goals as goal
 
@@ -22,7 +22,7 @@ steps-init c =
       some = omega arith;
       few = omega arith;
       most = subst (HaveMost counts) (sym whole) c.requires.most;
-      numbered = c.requires.numbered;
+      numbered = rw c.requires.whole (none_numbered totals c.args.slots.now c.requires.room);
       longest = λ zero three j m few each. omega (arith, few, c.requires.few);
       none = c.modules-modules.ensures.none;
       near = λ x y joined. absurd (omega (arith, c.none-matching.ensures x y joined));
@@ -42,13 +42,13 @@ steps-preserved c =
     record {
       some = can.some;
       few = omega (arith, can.few);
-      most = subst (HaveMost after) rest (less_waits m.zero m.three m.matched k c.steps.remaining.counts after c.hold.ensures.taken most c.steps.invariant.most can);
+      most = subst (HaveMost after) rest (less_waits m.zero m.three m.matched k c.steps.left.counts after c.hold.ensures.taken most c.steps.invariant.most can);
       numbered = c.hold.ensures.numbered.numbered;
-      longest = subst (λ (n : ℕ). NoneLonger after n k) rest (still_longest m.zero m.three m.matched k c.steps.remaining.counts after c.hold.ensures.taken most c.steps.invariant.most can c.next_step-held.ensures.longest);
-      none = none_wait m.zero m.three m.matched k c.steps.remaining.counts after c.hold.ensures.taken most c.steps.invariant.most can c.modules-modules.result c.steps.invariant.none;
+      longest = subst (λ (n : ℕ). NoneLonger after n k) rest (still_longest m.zero m.three m.matched k c.steps.left.counts after c.hold.ensures.taken most c.steps.invariant.most can c.next_step-held.ensures.longest);
+      none = none_wait m.zero m.three m.matched k c.steps.left.counts after c.hold.ensures.taken most c.steps.invariant.most can c.modules-modules.result c.steps.invariant.none;
       near = c.hold.ensures.near;
-      long = one_longer totals c.steps.remaining.counts c.steps.slots after c.hold.new.slots m.zero m.three m.matched c.args.settings c.steps.first c.steps.held k c.hold.ensures.taken (λ x y joined. (can.each x (has_low m.zero x y m.matched.sized joined)).pair y joined) c.hold.ensures.kept c.hold.ensures.numbered c.steps.invariant.long c.next_step-held.ensures.longest c.next_step-held.ensures.no_longer (step_apart totals c.steps.remaining.counts c.steps.slots m.zero m.three c.args.settings c.steps.first k m.matched can c.steps.invariant.needs c.steps-test.true);
-      needs = still_needed totals c.steps.remaining.counts c.steps.slots after c.hold.new.slots m.zero m.three m.matched c.args.settings c.steps.first k c.steps.invariant.few c.hold.ensures.taken c.steps.invariant.most can c.hold.ensures.kept c.hold.ensures.numbered c.steps.invariant.needs;
+      long = one_longer totals c.steps.left.counts c.steps.slots after c.hold.new.slots m.zero m.three m.matched c.args.settings c.steps.first c.steps.held k c.hold.ensures.taken (λ x y joined. (can.each x (has_low m.zero x y m.matched.sized joined)).pair y joined) c.hold.ensures.kept c.hold.ensures.numbered c.steps.invariant.long c.next_step-held.ensures.longest c.next_step-held.ensures.no_longer (step_apart totals c.steps.left.counts c.steps.slots m.zero m.three c.args.settings c.steps.first k m.matched can c.steps.invariant.needs c.steps-test.true);
+      needs = still_needed totals c.steps.left.counts c.steps.slots after c.hold.new.slots m.zero m.three m.matched c.args.settings c.steps.first k c.steps.invariant.few c.hold.ensures.taken c.steps.invariant.most can c.hold.ensures.kept c.hold.ensures.numbered c.steps.invariant.needs;
     }
 
 pub returns : goal.returns
@@ -56,8 +56,9 @@ returns c =
     let none : c.args.settings - c.steps.first ≡ 0 = omega arith in
     let all : c.steps.first ≡ c.args.settings = omega (arith, c.steps.invariant.few) in
     record {
-      done = all_taken c.steps.remaining.counts (subst (HaveMost c.steps.remaining.counts) none c.steps.invariant.most);
+      counts = c.steps.left.counts;
+      done = all_taken c.steps.left.counts (subst (HaveMost c.steps.left.counts) none c.steps.invariant.most);
       numbered = rw all at c.steps.invariant.numbered;
       needs = rw all at c.steps.invariant.needs;
-      long = any_held c.args.places.now.totals.now c.steps.remaining.counts c.steps.slots c.args.settings c.args.settings c.steps.held (rw all at c.steps.invariant.long);
+      long = any_held c.args.places.now.totals.now c.steps.left.counts c.steps.slots c.args.settings c.args.settings c.steps.held (rw all at c.steps.invariant.long);
     }

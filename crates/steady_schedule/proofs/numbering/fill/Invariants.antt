@@ -9,13 +9,13 @@ abbrev pub invariant-steps : goal.invariant-steps
 invariant-steps l = record {
   some : 0 < l.held;
   few : l.first ≤ l.settings;
-  most : HaveMost l.remaining.counts (l.settings - l.first);
-  numbered : AreNumbered l.places.totals.now l.remaining.counts l.slots l.first;
-  longest : NoneLonger l.remaining.counts (l.settings - l.first) l.held;
-  none : NoneWait l.remaining.counts l.modules;
-  near : AreNear l.remaining.zero.near l.matching.zero;
-  long : AreLongSteps l.places.totals.now l.remaining.counts l.slots l.settings l.first l.held;
-  needs : AreAtNeed l.places.totals.now l.remaining.counts l.slots l.settings l.first;
+  most : HaveMost l.left.counts (l.settings - l.first);
+  numbered : AreNumbered l.places.totals.now l.left.counts l.slots l.first;
+  longest : NoneLonger l.left.counts (l.settings - l.first) l.held;
+  none : NoneWait l.left.counts l.modules;
+  near : AreNear l.left.zero.near l.matching.zero;
+  long : AreLongSteps l.places.totals.now l.left.counts l.slots l.settings l.first l.held;
+  needs : AreAtNeed l.places.totals.now l.left.counts l.slots l.settings l.first;
 }
 
 abbrev pub decreases-steps : goal.decreases-steps

@@ -1,14 +1,14 @@
 use Rattle.std.proofs.Common.{None, refl}
 use Rattle.batch.specs.Extent.{widest}
 use Rattle.plan_answers.specs.Answers.{IsChecked}
-use Rattle.plan_answers.specs.Counting.{IsCounted}
-use Rattle.plan_answers.specs.Drawings.{IsDrawn}
+use Rattle.plan_answers.specs.Counting.{IsCountedWith}
+use Rattle.plan_answers.specs.Drawings.{IsDrawnWith}
 use Rattle.plan_answers.specs.Schedules.{said_by}
 use Rattle.rack_answers.specs.Answers.{IsApplied}
 use Rattle.rack_answers.specs.Orders.{IsOrdered}
 use Rattle.rack_answers.specs.Switching.{IsSwitched}
 use Rattle.exchange_c.proofs.Switching.{answered_by, switched_on}
-use Rattle.exchange_c.proofs.Writing.{the_one}
+use Rattle.exchange_c.proofs.Writing.{the_one, the_one_with}
 use Rattle.exchange_c.proofs.why.Asked.answer.Goals as goal
 
 pub returns-in-Check : goal.returns-in-Check
@@ -25,11 +25,11 @@ returns-in-Apply c =
 
 pub returns-in-Draw : goal.returns-in-Draw
 returns-in-Draw c =
-    rw c.in-Draw.is (the_one c.answer_draw.result (IsDrawn widest c.args.given.first.now c.args.given.second.now None) c.answer_draw.ensures.drawn c.answer_draw.ensures.one)
+    rw c.in-Draw.is (the_one_with c.answer_draw.result (IsDrawnWith widest c.args.given.first.now c.args.given.second.now None) c.answer_draw.ensures.drawn c.answer_draw.ensures.one)
 
 pub returns-in-Changes : goal.returns-in-Changes
 returns-in-Changes c =
-    rw c.in-Changes.is (the_one c.answer_changes.result (IsCounted widest c.args.given.first.now c.args.given.second.now) c.answer_changes.ensures.counted c.answer_changes.ensures.one)
+    rw c.in-Changes.is (the_one_with c.answer_changes.result (IsCountedWith widest c.args.given.first.now c.args.given.second.now) c.answer_changes.ensures.counted c.answer_changes.ensures.one)
 
 pub returns-in-SwitchWired : goal.returns-in-SwitchWired
 returns-in-SwitchWired c =

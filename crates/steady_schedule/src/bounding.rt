@@ -1,0 +1,312 @@
+//! How often a schedule has to change the switch, as far as prices show it.
+
+ghost use Rattle.std.specs.Prelude.{◌≡◌, ℕ, ◌+◌, ◌*◌, ◌<◌, ◌≤◌, IfOk, IfSome, length};
+ghost use Rattle.batch.specs.declared.limits.TheConstants.{MAX_TRANSFERS};
+ghost use Rattle.link_graph.specs.declared.limits.TheConstants.{LINKS};
+ghost use Rattle.link_graph.specs.declared.link.Link.{Link};
+ghost use Rattle.link_graph.specs.Counts.{uses};
+ghost use Rattle.steady_schedule.specs.Prices.{AreNeeded, IsLongest};
+ghost use Rattle.steady_schedule.specs.Waiting.{HaveMost};
+
+use crate::choosing::most_with;
+use crate::partners::link_at;
+use crate::pricing::{LENGTHS, Needs, PLACES, SCALE, Ways};
+use crate::remaining::Remaining;
+use batch::{MAX_MODULES, MAX_TRANSFERS};
+use link_graph::{LINKS, Link, LinkGraph};
+use std::alloc::{AllocError, Global};
+
+/// How many tables of prices are tried at most.
+const MOST_ROUNDS: usize = 100;
+
+/// How many sums of two costs all of them may take together, at two or three instructions each.
+const MOST_SUMS: usize = 10_000_000;
+
+/// How often each number stands among those that a link has; 0 isn't counted.
+type Often = [u8; LENGTHS];
+
+/// A link with a transfer in each of so many settings, and the most that it has with any partner:
+/// that of several for which this is least.
+fn longest(remaining: &Remaining, settings: usize) -> Option<(Link, usize)>
+    requires most { HaveMost remaining.now.counts MAX_TRANSFERS }
+    ensures few { IfSome result (λ found. found.1 ≤ MAX_TRANSFERS) }
+    ensures longest { IfSome result (λ found.
+        IsLongest remaining.now.counts settings found.0 found.1) }
+{
+    let mut longest: Option<(Link, usize)> = None;
+    for index in 0..LINKS {
+        let link = link_at(index);
+        if remaining.side(link.end).uses[link.module] as usize == settings {
+            let most = most_with(remaining, link.end, link.module, u32::MAX);
+            if longest.is_none_or(|(_, before)| most < before) {
+                longest = Some((link, most));
+            }
+        }
+    }
+    longest
+}
+
+/// Moves the prices of a length. Those of links with more pieces of it than links have in the mean
+/// rise, by the sign of a running mean, and those of links with fewer fall.
+fn move_prices(
+    prices: &mut [u32],
+    slopes: &mut [i64],
+    pieces: &mut [u32],
+    row: usize,
+    links: i64,
+    step: u32,
+)
+    requires prices { row * LINKS + LINKS ≤ length prices.old }
+    requires slopes { length slopes.old ≡ length prices.old }
+    requires pieces { length pieces.old ≡ length prices.old }
+{
+    let mut all = 0i64;
+    for link in 0..LINKS {
+        all = all.wrapping_add(pieces[row * LINKS + link] as i64);
+    }
+    for link in 0..LINKS {
+        let place = row * LINKS + link;
+        let above = links.wrapping_mul(pieces[place] as i64).wrapping_sub(all);
+        let slope = slopes[place];
+        slopes[place] = slope.wrapping_add(above.wrapping_mul(64).wrapping_sub(slope) / 8);
+        prices[place] = moved(prices[place], slopes[place], links.wrapping_mul(3), step);
+        pieces[place] = 0;
+    }
+}
+
+/// The price of a link, which rises where its slope is above this, and falls where it is below.
+fn moved(price: u32, slope: i64, least: i64, step: u32) -> u32 {
+    if slope > least {
+        price.saturating_add(step)
+    } else if slope.wrapping_add(least) < 0 {
+        price.saturating_sub(step)
+    } else {
+        price
+    }
+}
+
+/// Scales the prices of a length, so that they add up to the scale at most.
+fn scale(prices: &mut [u32], row: usize)
+    requires { row * LINKS + LINKS ≤ length prices.old }
+{
+    let mut sum = 0u64;
+    for link in 0..LINKS {
+        sum = sum.saturating_add(prices[row * LINKS + link] as u64);
+    }
+    for link in 0..LINKS {
+        let place = row * LINKS + link;
+        prices[place] = (prices[place] as u64 * SCALE / sum.max(1)).min(SCALE) as u32;
+    }
+}
+
+/// By how much prices move in a round, where so many are left: by steps that get shorter.
+fn step_of(left: usize, rounds: usize, links: usize) -> u32
+    requires { left ≤ 100 }
+{
+    let size = (SCALE as usize * 16 / 100) * left * left;
+    let parts = links.saturating_mul(rounds.saturating_mul(rounds)).max(1);
+    (size / parts).clamp(1, SCALE as usize) as u32
+}
+
+impl Needs<'_> {
+    /// How many links are in use.
+    fn links_in_use(&self) -> u32 {
+        let mut links = 0u32;
+        for index in 0..LINKS {
+            let link = link_at(index);
+            if self.remaining.side(link.end).uses[link.module] > 0 {
+                links = links.saturating_add(1);
+            }
+        }
+        links
+    }
+
+    /// How many transfers a link has with the one of a module; behind all modules, in how many
+    /// settings it is idle.
+    fn number_of(&self, index: usize, place: usize) -> usize
+        requires index { index < LINKS }
+        requires place { place ≤ MAX_MODULES }
+        ensures { result ≤ MAX_TRANSFERS }
+    {
+        if index < MAX_MODULES {
+            self.number(index, place)
+        } else {
+            self.number(place, index - MAX_MODULES)
+        }
+    }
+
+    /// How often each number stands among those of a link.
+    fn often(&self, index: usize) -> Often
+        requires { index < LINKS }
+    {
+        let mut often = [0u8; LENGTHS];
+        for place in 0..PLACES {
+            let number = self.number_of(index, place);
+            often[number] = often[number].saturating_add(1);
+        }
+        often[0] = 0;
+        often
+    }
+
+    /// Three times what two links show: twice their numbers, less those in common.
+    fn shown_with(&self, one: usize, often: &Often, other: usize) -> usize
+        requires one { one < LINKS }
+        requires other { other < LINKS }
+    {
+        let mut left = *often;
+        let mut shown = 0usize;
+        for place in 0..PLACES {
+            let number = self.number_of(other, place);
+            shown = shown.saturating_add(2 * self.number_of(one, place).min(1));
+            shown = shown.saturating_add(2 * number.min(1));
+            if left[number] > 0 {
+                left[number] -= 1;
+                shown = shown.saturating_sub(1);
+            }
+        }
+        shown
+    }
+
+    /// The two links that show most, or one of them twice.
+    fn best_two(&self) -> (usize, usize)
+        ensures one { result.0 < LINKS }
+        ensures other { result.1 < LINKS }
+    {
+        let mut best = (0, 0);
+        let mut most = 0;
+        for one in 0..LINKS {
+            let often = self.often(one);
+            for other in 0..one + 1 {
+                let shown = self.shown_with(one, &often, other);
+                if shown > most {
+                    most = shown;
+                    best = (one, other);
+                }
+            }
+        }
+        best
+    }
+
+    /// Prices of two links, or of one, by which they show most; where there are none yet. A length
+    /// that one of them has more often as a number is twice as dear for it.
+    fn price_two(&self, prices: &mut [u32])
+        requires { length prices.old ≡ (self.now.top + 1) * LINKS }
+    {
+        let (one, other) = self.best_two();
+        let (often, often_other) = (self.often(one), self.often(other));
+        for row in 1..self.top + 1 {
+            let dearer = if often[row] < often_other[row] {
+                other
+            } else {
+                one
+            };
+            for index in [one, other, dearer] {
+                let place = row * LINKS + index;
+                prices[place] = prices[place].saturating_add(SCALE as u32 / 3);
+            }
+        }
+    }
+
+    /// Prices that are the same for each link in use, and for each length.
+    fn price_all(&self, prices: &mut [u32], links: u32)
+        requires { length prices.old ≡ (self.now.top + 1) * LINKS }
+    {
+        let price = SCALE / (links as u64).max(1);
+        for index in 0..LINKS {
+            let link = link_at(index);
+            let in_use = self.remaining.side(link.end).uses[link.module] > 0;
+            for row in 1..self.top + 1 {
+                prices[row * LINKS + index] = if in_use { price as u32 } else { 0 };
+            }
+        }
+    }
+
+    /// Looks for prices that show many changes, or at least so many: first of two links, then of all
+    /// of them. The most that any table shows.
+    fn search(
+        &self,
+        enough: usize,
+        prices: &mut [u32],
+        slopes: &mut [i64],
+        pieces: &mut [u32],
+    ) -> usize
+        requires sized { length prices.old ≡ (self.now.top + 1) * LINKS }
+        requires slopes { length slopes.old ≡ length prices.old }
+        requires pieces { length pieces.old ≡ length prices.old }
+        ensures { AreNeeded self.now.graph.now self.now.settings result }
+    {
+        let mut ways = Ways::none(MOST_SUMS);
+        self.price_two(prices);
+        let mut most = self.shown_by(prices, &mut ways, pieces);
+        let links = self.links_in_use();
+        self.price_all(prices, links);
+        for round in 0..MOST_ROUNDS {
+            if most >= enough {
+                return most;
+            }
+            let before = ways.left;
+            let shown = self.shown_by(prices, &mut ways, pieces);
+            if shown > most {
+                most = shown;
+            }
+            // To move the prices of a length takes as long as a thousand
+            ways.left = ways.left.saturating_sub(1000 * self.top);
+            let each = before.saturating_sub(ways.left).max(1);
+            let rounds = (ways.left / each).min(MOST_ROUNDS - 1 - round);
+            if rounds == 0 {
+                return most;
+            }
+            let step = step_of(rounds, rounds + round + 1, links as usize);
+            for row in 1..self.top + 1 {
+                move_prices(prices, slopes, pieces, row, links as i64, step);
+                scale(prices, row);
+            }
+        }
+        most
+    }
+}
+
+/// How often each schedule of the batch with so many settings has to change the switch, as far as
+/// prices show it. 0 where no link has a transfer in each setting.
+///
+/// A step is a run of settings that join the same pairs, so a schedule has as many steps as
+/// changes. Each link has a price for each length of a step, and the prices of a length add up to
+/// [`SCALE`] at most. A step costs each link its price for the step's length, so all steps cost no
+/// more than that for each change. From the other side, the steps in which a pair is joined add up
+/// to its count. They cost both its links at least what the cheapest way costs to make that up of
+/// lengths. So do the steps in which a link is idle. A link with a transfer in each setting has one
+/// partner throughout a step, so no step is longer than its greatest count.
+///
+/// Whatever prices are tried, what they show holds. The search ends where they show `enough`. It
+/// takes memory that grows with the greatest count of a pair, and time as [`MOST_SUMS`] allows.
+pub fn most_shown(
+    alloc: Global,
+    graph: &LinkGraph,
+    settings: usize,
+    enough: usize,
+) -> Result<usize, AllocError>
+    requires most { (link : Link) → uses graph.now link ≤ settings }
+    requires few { settings ≤ MAX_TRANSFERS }
+    ensures { IfOk result (AreNeeded graph.now settings) }
+{
+    prove!(graph.len() <= MAX_TRANSFERS);
+    let mut remaining = Remaining::none();
+    remaining.add_all(graph);
+    let Some((busiest, top)) = longest(&remaining, settings) else {
+        return Ok(0);
+    };
+    if top == 0 {
+        return Ok(0);
+    }
+    let needs = Needs {
+        graph,
+        remaining,
+        settings,
+        busiest,
+        top,
+    };
+    let room = (top + 1) * LINKS;
+    let (mut prices, mut pieces) = (vec![in alloc; 0u32; room]?, vec![in alloc; 0u32; room]?);
+    let mut slopes = vec![in alloc; 0i64; room]?;
+    Ok(needs.search(enough, &mut prices, &mut slopes, &mut pieces))
+}
