@@ -140,83 +140,174 @@ fn rack_of(alloc: Global, matches: &ArgMatches<'_>) -> Result<SharedRack, Lack>
     })
 }
 
+/// The job of `plan`.
+fn plan_of(alloc: Global, found: &ArgMatches<'_>) -> Result<Job, Lack>
+    ensures { IsReading (IsJob CommandName.Plan (rows_in found.now)) result }
+{
+    Ok(Job::Plan {
+        file: text_of(alloc, found, "FILE")?,
+        planning: planning_of(found)?,
+        workers: workers_of(found)?,
+    })
+}
+
+/// The job of `check`.
+fn check_of(alloc: Global, found: &ArgMatches<'_>) -> Result<Job, Lack>
+    ensures { IsReading (IsJob CommandName.Check (rows_in found.now)) result }
+{
+    Ok(Job::Check {
+        batch: text_of(alloc, found, "BATCH")?,
+        schedule: text_of(alloc, found, "SCHEDULE")?,
+    })
+}
+
+/// The job of `draw`.
+fn draw_of(alloc: Global, found: &ArgMatches<'_>) -> Result<Job, Lack>
+    ensures { IsReading (IsJob CommandName.Draw (rows_in found.now)) result }
+{
+    Ok(Job::Draw {
+        batch: text_of(alloc, found, "BATCH")?,
+        schedule: text_of(alloc, found, "SCHEDULE")?,
+        settings: option_of(alloc, found, "settings")?,
+    })
+}
+
+/// The job of `switch`.
+fn switch_of(alloc: Global, found: &ArgMatches<'_>) -> Result<Job, Lack>
+    ensures { IsReading (IsJob CommandName.Switch (rows_in found.now)) result }
+{
+    Ok(Job::Switch {
+        batch: text_of(alloc, found, "BATCH")?,
+        source: source_of(alloc, found)?,
+        wiring: option_of(alloc, found, "wiring")?,
+        workers: workers_of(found)?,
+    })
+}
+
+/// The job of `orders`.
+fn orders_of(alloc: Global, found: &ArgMatches<'_>) -> Result<Job, Lack>
+    ensures { IsReading (IsJob CommandName.Orders (rows_in found.now)) result }
+{
+    Ok(Job::Orders {
+        batch: text_of(alloc, found, "BATCH")?,
+        source: source_of(alloc, found)?,
+        module: number_of(found, "module", LAST_MODULE)?,
+        workers: workers_of(found)?,
+    })
+}
+
+/// The job of `drive`.
+fn drive_of(alloc: Global, found: &ArgMatches<'_>) -> Result<Job, Lack>
+    ensures { IsReading (IsJob CommandName.Drive (rows_in found.now)) result }
+{
+    Ok(Job::Drive {
+        batch: text_of(alloc, found, "BATCH")?,
+        port: text_of(alloc, found, "PORT")?,
+        port_b: option_of(alloc, found, "PORT_B")?,
+        source: source_of(alloc, found)?,
+        wiring: option_of(alloc, found, "wiring")?,
+        first: first_of(found)?,
+        goes_on: is_given(found, "go-on"),
+        workers: workers_of(found)?,
+    })
+}
+
+/// The job of `direct`.
+fn direct_of(alloc: Global, found: &ArgMatches<'_>) -> Result<Job, Lack>
+    ensures { IsReading (IsJob CommandName.Direct (rows_in found.now)) result }
+{
+    Ok(Job::Direct {
+        moves: text_of(alloc, found, "MOVES")?,
+    })
+}
+
+/// The job of `apply`.
+fn apply_of(alloc: Global, found: &ArgMatches<'_>) -> Result<Job, Lack>
+    ensures { IsReading (IsJob CommandName.Apply (rows_in found.now)) result }
+{
+    Ok(Job::Apply {
+        shape: text_of(alloc, found, "SHAPE")?,
+        batch: text_of(alloc, found, "BATCH")?,
+        image: text_of(alloc, found, "IMAGE")?,
+        workers: workers_of(found)?,
+    })
+}
+
+/// The job of `run`.
+fn run_of(alloc: Global, found: &ArgMatches<'_>) -> Result<Job, Lack>
+    ensures { IsReading (IsJob CommandName.Run (rows_in found.now)) result }
+{
+    Ok(Job::Run {
+        shape: text_of(alloc, found, "SHAPE")?,
+        batch: text_of(alloc, found, "BATCH")?,
+        source: source_of(alloc, found)?,
+        image: option_of(alloc, found, "image")?,
+        workers: workers_of(found)?,
+    })
+}
+
+/// The job of `serve`.
+fn serve_of(alloc: Global, found: &ArgMatches<'_>) -> Result<Job, Lack>
+    ensures { IsReading (IsJob CommandName.Serve (rows_in found.now)) result }
+{
+    Ok(Job::Serve {
+        rack: rack_of(alloc, found)?,
+        scripts: served_of(alloc, found, "SCRIPT")?,
+        workers: workers_of(found)?,
+    })
+}
+
+/// The job of `host`.
+fn host_of(alloc: Global, found: &ArgMatches<'_>) -> Result<Job, Lack>
+    ensures { IsReading (IsJob CommandName.Host (rows_in found.now)) result }
+{
+    Ok(Job::Host {
+        rack: rack_of(alloc, found)?,
+        clients: served_of(alloc, found, "CLIENT")?,
+        workers: workers_of(found)?,
+    })
+}
+
+/// The job of `talk`.
+fn talk_of(alloc: Global, found: &ArgMatches<'_>) -> Result<Job, Lack>
+    ensures { IsReading (IsJob CommandName.Talk (rows_in found.now)) result }
+{
+    Ok(Job::Talk {
+        rack: rack_of(alloc, found)?,
+    })
+}
+
+/// The job of `replay`.
+fn replay_of(alloc: Global, found: &ArgMatches<'_>) -> Result<Job, Lack>
+    ensures { IsReading (IsJob CommandName.Replay (rows_in found.now)) result }
+{
+    Ok(Job::Replay {
+        shape: option_of(alloc, found, "shape")?,
+        recorded: text_of(alloc, found, "RECORD")?,
+        image: option_of(alloc, found, "image")?,
+        first: number_of(found, "first", MAX_NUMBER)?,
+    })
+}
+
 /// The job of a command by its matches.
 fn job_of(alloc: Global, name: CommandName, found: &ArgMatches<'_>) -> Result<Job, Lack>
     ensures { IsReading (IsJob name (rows_in found.now)) result }
 {
     match name {
-        CommandName::Plan => Ok(Job::Plan {
-            file: text_of(alloc, found, "FILE")?,
-            planning: planning_of(found)?,
-            workers: workers_of(found)?,
-        }),
-        CommandName::Check => Ok(Job::Check {
-            batch: text_of(alloc, found, "BATCH")?,
-            schedule: text_of(alloc, found, "SCHEDULE")?,
-        }),
-        CommandName::Draw => Ok(Job::Draw {
-            batch: text_of(alloc, found, "BATCH")?,
-            schedule: text_of(alloc, found, "SCHEDULE")?,
-            settings: option_of(alloc, found, "settings")?,
-        }),
-        CommandName::Switch => Ok(Job::Switch {
-            batch: text_of(alloc, found, "BATCH")?,
-            source: source_of(alloc, found)?,
-            wiring: option_of(alloc, found, "wiring")?,
-            workers: workers_of(found)?,
-        }),
-        CommandName::Orders => Ok(Job::Orders {
-            batch: text_of(alloc, found, "BATCH")?,
-            source: source_of(alloc, found)?,
-            module: number_of(found, "module", LAST_MODULE)?,
-            workers: workers_of(found)?,
-        }),
-        CommandName::Drive => Ok(Job::Drive {
-            batch: text_of(alloc, found, "BATCH")?,
-            port: text_of(alloc, found, "PORT")?,
-            port_b: option_of(alloc, found, "PORT_B")?,
-            source: source_of(alloc, found)?,
-            wiring: option_of(alloc, found, "wiring")?,
-            first: first_of(found)?,
-            goes_on: is_given(found, "go-on"),
-            workers: workers_of(found)?,
-        }),
+        CommandName::Plan => plan_of(alloc, found),
+        CommandName::Check => check_of(alloc, found),
+        CommandName::Draw => draw_of(alloc, found),
+        CommandName::Switch => switch_of(alloc, found),
+        CommandName::Orders => orders_of(alloc, found),
+        CommandName::Drive => drive_of(alloc, found),
         CommandName::C004 => Ok(Job::C004),
-        CommandName::Direct => Ok(Job::Direct {
-            moves: text_of(alloc, found, "MOVES")?,
-        }),
-        CommandName::Apply => Ok(Job::Apply {
-            shape: text_of(alloc, found, "SHAPE")?,
-            batch: text_of(alloc, found, "BATCH")?,
-            image: text_of(alloc, found, "IMAGE")?,
-            workers: workers_of(found)?,
-        }),
-        CommandName::Run => Ok(Job::Run {
-            shape: text_of(alloc, found, "SHAPE")?,
-            batch: text_of(alloc, found, "BATCH")?,
-            source: source_of(alloc, found)?,
-            image: option_of(alloc, found, "image")?,
-            workers: workers_of(found)?,
-        }),
-        CommandName::Serve => Ok(Job::Serve {
-            rack: rack_of(alloc, found)?,
-            scripts: served_of(alloc, found, "SCRIPT")?,
-            workers: workers_of(found)?,
-        }),
-        CommandName::Host => Ok(Job::Host {
-            rack: rack_of(alloc, found)?,
-            clients: served_of(alloc, found, "CLIENT")?,
-            workers: workers_of(found)?,
-        }),
-        CommandName::Talk => Ok(Job::Talk {
-            rack: rack_of(alloc, found)?,
-        }),
-        CommandName::Replay => Ok(Job::Replay {
-            shape: option_of(alloc, found, "shape")?,
-            recorded: text_of(alloc, found, "RECORD")?,
-            image: option_of(alloc, found, "image")?,
-            first: number_of(found, "first", MAX_NUMBER)?,
-        }),
+        CommandName::Direct => direct_of(alloc, found),
+        CommandName::Apply => apply_of(alloc, found),
+        CommandName::Run => run_of(alloc, found),
+        CommandName::Serve => serve_of(alloc, found),
+        CommandName::Host => host_of(alloc, found),
+        CommandName::Talk => talk_of(alloc, found),
+        CommandName::Replay => replay_of(alloc, found),
     }
 }
 

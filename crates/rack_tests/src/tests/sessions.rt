@@ -9,4 +9,3 @@ mod replies;
 mod rows;
 mod served;
 mod streams;
-mod talks;
