@@ -186,23 +186,6 @@ def progress():
     yield host.end(), (["session 0 amy", "session 1 bob"], 0)
 
 
-def readings():
-    """Each reading is of now: behind each of three runs of another client, which have 0, 1 and 2 settings."""
-    host = Host("3x1x1", ["amy", "bob"])
-    amy, bob = Client("amy"), Client("bob")
-    yield bob.ask("progress"), "progress run 0 done 0"
-    batches = ["batch 0", "batch 1\npush 0 0 1 0", "batch 2\npush 0 0 1 0\npush 0 0 2 0"]
-    for done, batch in enumerate(batches):
-        run = done + 1
-        yield amy.ask(batch), f"accepted {run}"
-        yield amy.ask(f"plan {run}"), f"planned {run} settings {done}"
-        yield amy.ask(f"run {run}"), f"ran {run} run {run} settings {done} words {done} bits {117 * done}"
-        yield bob.ask("progress"), f"progress run {run} done {done}"
-    amy.leave()
-    bob.leave()
-    yield host.end(), (["session 0 amy", "session 1 bob"], 0)
-
-
 def hangs_up():
     """A client hangs up in the middle of a batch, and another within a line; a third goes on."""
     host = Host("2x1x1", ["amy", "bob", "eve"])
@@ -408,7 +391,7 @@ def walk():
 
 
 CASES = [
-    numbers, progress, readings, hangs_up, hears_no_more, hears_late, sixteen, comes_late, closes, all_reduce, cannot_lock, is_cut_without_threads, is_moved_before_the_lock, walk,
+    numbers, progress, hangs_up, hears_no_more, hears_late, sixteen, comes_late, closes, all_reduce, cannot_lock, is_cut_without_threads, is_moved_before_the_lock, walk,
 ]  # fmt: skip
 
 

@@ -1,6 +1,6 @@
-//! What rows can't show: a drive over a stream, how ends are framed, a host whose clients' bytes are
-//! known, sessions over a record that breaks, and the rack that sessions leave. The folder `rows` at
-//! the repository's top has what commands print.
+//! What rows can't show: a drive over a stream, what words say of workers and of schedules, how ends
+//! are framed, a host whose clients' bytes are known, sessions over a record that breaks, and the
+//! rack that sessions leave. The folder `rows` at the repository's top has what commands print.
 
 mod books;
 mod driving;
@@ -8,3 +8,4 @@ mod hosting;
 mod racks;
 mod serving;
 mod talking;
+mod words;

@@ -1,13 +1,16 @@
-//! Records that are written call by call: a reply comes behind its entry, and nothing is written
-//! behind an entry that failed.
+//! Records that are written call by call, and such as were cut: a reply comes behind its entry,
+//! nothing is written behind an entry that failed, and a small record is gone on from wherever it
+//! was cut.
 
 ghost use Rattle.std.specs.Prelude.{◌≡◌, None};
 
 use crate::tests::common::{Told, with_wires, zeros};
 use crate::tests::office::FIRST;
 use batch_book::{Book, Call, Silent};
-use book_record::{StreamName, stream_off, stream_on};
+use book_record::{StreamName, session_limit, stream_off, stream_on};
+use exchange_limits::WorkerCount;
 use peek_poke::PlainWires;
+use record_replay::{RecordFault, replay};
 use std::alloc::Global;
 use std::io;
 use std::io::Write;
@@ -47,13 +50,15 @@ impl Write for Sheet<'_> {
 /// A small record behind its head.
 const RECORD: &[u8] = b"0 peek 0 80000800\nword 00000000\n\
                         1 poke 1 80000800 00000005\npoked\n\
-                        0 peek 1 80000800\nword 00000005\n";
+                        0 peek 1 80000800\nword 00000005\n\
+                        end\n";
 
-/// Where an entry of it ends.
-fn end_of(entry: usize) -> usize {
-    match entry {
-        0 => 32,
-        1 => 65,
+/// Where so many of its entries end.
+fn end_of(entries: usize) -> usize {
+    match entries {
+        0 => 0,
+        1 => 32,
+        2 => 65,
         _ => 97,
     }
 }
@@ -77,12 +82,13 @@ fn call_of(entry: usize) -> (usize, Call) {
     }
 }
 
-/// The calls, made on a book that writes to a sheet with this room: how many were told, each behind
-/// its entry, and what is written.
+/// The calls behind so many entries, made on a book that has these, and that writes to a sheet with
+/// this room: how many were told, each behind its entry, and what is written.
 fn ask<R: Threads + Sync, N: StreamName>(
     rt: &R,
     alloc: Global,
     book: Book<Silent>,
+    entries: usize,
     room: usize,
     once: bool,
 ) -> (usize, Vec<u8>)
@@ -100,10 +106,11 @@ fn ask<R: Threads + Sync, N: StreamName>(
     let mut plant = with_wires(PlainWires);
     let times = AtomicUsize::new(0);
     let mut told: usize = 0;
-    for entry in 0..3 {
+    for entry in entries..3 {
         let (session, call) = call_of(entry);
         let made = book.try_apply(rt, session, call, &mut plant, &mut Told::new(&times));
-        if made.is_ok() && count.load(Ordering::SeqCst) == end_of(entry) {
+        let end = end_of(entries).saturating_add(count.load(Ordering::SeqCst));
+        if made.is_ok() && end == end_of(entry + 1) {
             told = told.saturating_add(1);
         }
     }
@@ -121,7 +128,7 @@ fn stops_at<R: AllocGlobal + Threads + Sync>(rt: &R, room: usize, once: bool) ->
     let Ok(book) = Book::with(alloc, rack, Silent::new()) else {
         return false;
     };
-    let (told, taken) = ask::<R, Brand>(rt, alloc, book, room, once);
+    let (told, taken) = ask::<R, Brand>(rt, alloc, book, 0, room, once);
     told == whole_in(room) && Some(taken.as_slice()) == RECORD.get(..room)
 }
 
@@ -131,4 +138,87 @@ fn a_writer_fails_at_each_byte(rt: HostRuntime) {
         assert!(rt; stops_at(&rt, room, false), "{room}");
         assert!(rt; stops_at(&rt, room, true), "once {room}");
     }
+}
+
+/// Whether the entries that stand whole in so many bytes of the record are made again, and the calls
+/// behind them write the rest of it.
+fn is_gone_on_from<R: AllocGlobal + Threads + Sync>(rt: &R, bytes: usize) -> bool {
+    let alloc = rt.alloc();
+    let (Some(rack), Some(text)) = (zeros(alloc, "2x1x1"), RECORD.get(..bytes)) else {
+        return false;
+    };
+    let Ok(remade) = replay(
+        rt,
+        alloc,
+        rack,
+        text,
+        session_limit(0),
+        None,
+        WorkerCount::ONE,
+    ) else {
+        return false;
+    };
+    let entries = whole_in(bytes);
+    let end = end_of(entries);
+    let is_read = remade.entries == entries && Some(remade.rest) == text.get(end..);
+    let (told, taken) = ask::<R, Brand>(rt, alloc, remade.book, entries, usize::MAX, false);
+    is_read && told.saturating_add(entries) == 3 && Some(taken.as_slice()) == RECORD.get(end..97)
+}
+
+#[test]
+fn a_record_is_gone_on_from_each_byte(rt: HostRuntime) {
+    for bytes in 0..102 {
+        assert!(rt; is_gone_on_from(&rt, bytes), "{bytes}");
+    }
+}
+
+/// How many entries of the record are made again where so many are wanted, and how many bytes are
+/// left.
+fn first_made<R: AllocGlobal + Threads + Sync>(rt: &R, first: usize) -> Option<(usize, usize)> {
+    let rack = zeros(rt.alloc(), "2x1x1")?;
+    match replay(
+        rt,
+        rt.alloc(),
+        rack,
+        RECORD,
+        session_limit(0),
+        Some(first),
+        WorkerCount::ONE,
+    ) {
+        Ok(remade) => Some((remade.entries, remade.rest.len())),
+        Err(_) => None,
+    }
+}
+
+#[test]
+fn the_first_entries_are_made_again(rt: HostRuntime) {
+    assert!(rt; first_made(&rt, 0) == Some((0, 101)));
+    assert!(rt; first_made(&rt, 2) == Some((2, 36)));
+    assert!(rt; first_made(&rt, 9) == Some((3, 4)));
+}
+
+/// What is first wrong with a text, and how many bytes stand before it.
+fn wrong<R: AllocGlobal + Threads + Sync>(rt: &R, text: &str) -> Option<(RecordFault, usize)> {
+    let rack = zeros(rt.alloc(), "2x1x1")?;
+    match replay(
+        rt,
+        rt.alloc(),
+        rack,
+        text.as_bytes(),
+        session_limit(0),
+        None,
+        WorkerCount::ONE,
+    ) {
+        Ok(_) => None,
+        Err(error) => Some((error.fault, error.offset)),
+    }
+}
+
+#[test]
+fn damaged_records(rt: HostRuntime) {
+    let other = "0 peek 0 80000800\nword 00000001\n";
+    assert!(rt; wrong(&rt, other) == Some((RecordFault::Reply(0), 18)));
+    let none = "0 peek 0 80000800\nword 00000000\n0 pick\n";
+    assert!(rt; wrong(&rt, none) == Some((RecordFault::Call(1), 32)));
+    assert!(rt; wrong(&rt, "end\nend\n") == Some((RecordFault::More, 4)));
 }

@@ -9,3 +9,4 @@ mod replies;
 mod rows;
 mod served;
 mod streams;
+mod talks;
