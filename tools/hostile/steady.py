@@ -6,6 +6,7 @@ before, and so is the first setting. Partners of a link are those that it shares
 
 import re
 from collections import Counter, defaultdict
+from itertools import combinations_with_replacement
 
 import plain
 
@@ -48,16 +49,32 @@ def most_partners(transfers):
     return max(partners.values(), default=0)
 
 
+def numbers(transfers, settings, link):
+    """How many transfers a link has with each partner, and in how many of so many settings it is idle, where there are any."""
+    shared = Counter(pair for pair in ((transfer[1], transfer[3]) for transfer in transfers) if link in links_of([pair]))
+    idle = settings - sum(shared.values())
+    return [*shared.values(), *([idle] if idle else [])]
+
+
+def two_links(transfers, settings):
+    """How many changes two links show, at least (2 (p + q) - e) / 3 of any schedule with so many settings: they have p and q numbers, and e
+    of these in common."""
+    lists = [Counter(numbers(transfers, settings, link)) for link in links_of(pairs_of(transfers))]
+    shown = [2 * (v.total() + w.total()) - (v & w).total() for v, w in combinations_with_replacement(lists, 2)]
+    return -(-max(shown, default=0) // 3)
+
+
 def bound_words(transfers, settings, told=b""):
     """What the title of a picture says of the changes of a schedule: that none has fewer, or none with so few settings, or how many at least.
-    How many prices show isn't found here: it is read in the answer that was told, and is no less than partners, and no more than the changes."""
+    How many prices show isn't found here. It is read in the answer that was told, and is no less than what two links show, and no more than
+    the changes."""
     count, partners = changes(transfers, settings), most_partners(transfers)
     if count == partners:
         return f"changes {count}, the fewest"
     fewest = len(plain.busiest(transfers)[1]) if transfers else 0
     found = re.search(rb"<title>.*, changes \d+, at least (\d+)", told)
     least = int(found[1]) if found else count
-    if len(settings) != fewest or not partners <= least <= count:
+    if len(settings) != fewest or not min(count, two_links(transfers, fewest)) <= least <= count:
         least = partners
     return f"changes {count}, the fewest with so few settings" if count == least else f"changes {count}, at least {least}"
 

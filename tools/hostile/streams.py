@@ -278,7 +278,7 @@ WRITTEN_TWICE = b"exchange: settings:33: transfers 0 and 31 both write block 0 o
 def long_answers():
     """A picture of 3 MB is written whole, and so are the bytes of as many settings."""
     ended = ask("draw", "settings", "settings.plan")
-    expect("a long picture", ended == Ended(picture.answer_draw(*many_settings()), b"", 0), True)
+    expect("a long picture", ended == Ended(picture.answer_draw(*many_settings(), told=ended.out), b"", 0), True)
     batch, schedule = many_settings()
     for options, judge in [([], plain.is_plan), (["--steady"], steady.is_steady)]:
         ended, plan = (ask(command, "settings", *options) for command in ("switch", "plan"))

@@ -291,7 +291,7 @@ def try_draw(draw):
         answer = ask_of(draw, ["draw"], files)
     else:
         answer = ask_of(draw, ["draw", "--settings=" + os.fsdecode(settings)], files)
-    wanted = picture.answer_draw(batch, text, settings)
+    wanted = picture.answer_draw(batch, text, settings, answer.out)
     asked = notes.Asked("batch", named(answer, "batch", batch), named(answer, "schedule", text), range=settings or b"")
     told = is_well_told(answer, asked, wanted, lambda it: picture.answer_draw(it.list[1], it.other[1], settings))
     return is_answer(answer, wanted) and told, wanted, [batch, text, settings or b""], answer

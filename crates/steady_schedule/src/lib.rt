@@ -12,7 +12,8 @@
 //! later setting uses; and at most as often as there are pairs of links and links in use.
 //! Where a step begins, no matching could be held longer than the step (Gopal and Wong's rule), and
 //! steps don't get longer (`IsSteady` of `specs/Plans.antt`). Mostly the switch changes far less
-//! often than its bound.
+//! often than its bound. Links are tried in up to four orders, and the schedule with the fewest
+//! steps is taken; no contract says so.
 //!
 //! Some counts serve any schedule of a batch: how often it changes the switch ([`count_changes`]);
 //! how many partners a link has at most ([`most_partners`]), since no schedule changes the switch
