@@ -12,12 +12,14 @@ use Rattle.command_words.specs.declared.jobs.RecordFile.{RecordFile}
 use Rattle.command_words.specs.declared.jobs.SharedRack.{SharedRack}
 use Rattle.command_words.specs.declared.uses.Access.TheVariants.{Read}
 use Rattle.drive_answers.specs.Ways.{Ways}
+use Rattle.exchange.proofs.AskedPlan.{some_ask}
 use Rattle.exchange.proofs.AskedJobs.{Answers, Ended, EndsSo, KeepsSo, SessionsCome, all_written, asks_nothing, cut_ends, ended_run, ends_well, sessions_come, text_ends}
 use Rattle.exchange.proofs.HeldFiles.{alone, earlier, held_files, pass}
 use Rattle.exchange.proofs.OneRequest.{one_request}
 use Rattle.exchange.proofs.PromisedSessions.{AreCallsOf}
 use Rattle.exchange.proofs.PromisedCalls.{are_kept, are_part, are_told, before, behind, clients_come, kept_named, none_begun, none_ended, scripts_come, talk_comes}
 use Rattle.exchange.proofs.PromisedDrives.{keeps_drives, keeps_stops, no_drives, no_stops}
+use Rattle.exchange.proofs.PromisedOthers.{keeps_nothing, keeps_others}
 use Rattle.exchange.proofs.PromisedPictures.{keeps_pictures, no_pictures}
 use Rattle.exchange.proofs.PromisedPlans.{keeps_checks, keeps_directions, keeps_plans, no_checks, no_directions, no_plans}
 use Rattle.exchange.proofs.PromisedRefusals.{keeps_refusals, no_refusals}
@@ -26,7 +28,7 @@ use Rattle.exchange.proofs.PromisedReplies.{keeps_replies, no_replies}
 use Rattle.exchange.proofs.PromisedRuns.{keeps_images, keeps_runs, no_images, no_runs}
 use Rattle.exchange.proofs.PromisedSwitches.{keeps_orders, keeps_switches, no_orders, no_switches}
 use Rattle.exchange.specs.Ends.{IsCutFor, Leaving}
-use Rattle.exchange.specs.Promises.{AreKept, AreKeptInPart, AreToldKept, Calls, HoldsText, IsAsItWas, IsEmpty, KeepsClients, KeepsPromises, KeepsScripts, KeepsTalks, KeepsTexts, Run, clients_of, front_of, kept_by, run_of}
+use Rattle.exchange.specs.Promises.{AreKept, AreKeptInPart, AreToldKept, Calls, HoldsText, IsAsItWas, IsEmpty, KeepsClients, KeepsNothing, KeepsOthers, KeepsPromises, KeepsScripts, KeepsTalks, KeepsTexts, Run, clients_of, front_of, kept_by, run_of}
 use Rattle.exchange.specs.Responses.{Given, Named, Response}
 use Rattle.exchange.specs.declared.limits.TheConstants.{UNWRITTEN}
 use Rattle.kept_sessions.specs.Keeping.{AreLiveKept, AreWritten}
@@ -149,14 +151,19 @@ keeps_promises e after received receipts comes had endings known ports so none i
       replays = keeps_replays _ all;
       refusals = keeps_refusals _ all;
       misuse = λ misused request asks. asks_nothing e is request asks misused;
+      some = some_ask;
+      others = keeps_others received receipts comes had endings after e ports so none is;
+      nothing = keeps_nothing received receipts comes had endings after e ports so none is;
       fronts_too = λ unwritten. absurd (all_written e is unwritten);
     }
 
 pub keeps_in_part : {C : Type 0} (words : List Text) (named : Named) (left : Leaving) (given : Given) (out_before out_after : Option (List ℕ)) (code : ℕ) (after : Ways) (received : C → Closed) (receipts : Receipts C) (comes : Text → Option (List ℕ)) (had : Text → List ℕ) (endings : List (Ending (List ℕ)))
     → given.clients ≡ clients_by comes had → ((job : Job) (response : Response) → left.keeps job response → (lost : Lost) × KeepsSo named.holds received receipts (ends_of endings) lost job response) → (left.none → (receipts ≡ none_opened) × (ends_of endings ≡ [])) → code ≡ UNWRITTEN
     → IsCutFor named left words given out_before out_after
+    → KeepsOthers (run_of named.holds given.input out_before out_after words code) given.ports after (kept_by received receipts) (clients_of comes had endings)
+    → KeepsNothing (run_of named.holds given.input out_before out_after words code) given.ports after (kept_by received receipts) (clients_of comes had endings)
     → KeepsPromises (run_of named.holds given.input out_before out_after words code) (front_of named.holds given.input out_before out_after words) given.ports after (kept_by received receipts) (clients_of comes had endings)
-keeps_in_part words named left given out_before out_after code after received receipts comes had endings known so none unwritten is =
+keeps_in_part words named left given out_before out_after code after received receipts comes had endings known so none unwritten is others nothing =
     let cut = cut_ends received receipts (ends_of endings) words named left given out_before out_after so none is in
     record {
       one = one_request words;
@@ -178,6 +185,9 @@ keeps_in_part words named left given out_before out_after code after received re
       replays = no_replays _ unwritten;
       refusals = no_refusals _ unwritten;
       misuse = λ misused request asks. absurd (omega (arith, misused, unwritten));
+      some = some_ask;
+      others = others;
+      nothing = nothing;
       fronts_too = λ same. (
         cut.status,
         record {

@@ -1,6 +1,6 @@
 -- The promises of `serve`, `host` and `talk`: what the files of a record and of an image hold, and how
 -- the program ends.
-use Rattle.std.proofs.Common.{◌≡◌, ◌≢◌, ◌∙◌, ◌++◌, ◌+◌, ◌||◌, ℕ, Bool, true, false, List, [], ◌∷◌, length, take, map, fold, Option, Some, None, inl, inr, ◌⊎◌, refl, sym, ap, ap₂, subst, append-nil, arith}
+use Rattle.std.proofs.Common.{◌≡◌, ◌≢◌, ◌≤◌, ◌∙◌, ◌++◌, ◌+◌, ◌||◌, ℕ, Bool, true, false, List, [], ◌∷◌, length, take, map, fold, Option, Some, None, inl, inr, ◌⊎◌, refl, sym, ap, ap₂, subst, append-nil, arith}
 use Rattle.std.specs.Prelude.{IfSome, codes, is_some, option_map, option_to_list, slice_get}
 use Rattle.std.specs.List.{AllByRecursion, flat_map, list_any}
 use Rattle.std.proofs.lemmas.List.Elements.{recursion_from_All}
@@ -10,12 +10,13 @@ use Rattle.batch_book.specs.History.{Account, new_account}
 use Rattle.batch_book.specs.Machine.{Machine, opened}
 use Rattle.batch_book.specs.Recording.{AreAllBut}
 use Rattle.batch_book.specs.Seats.{own}
+use Rattle.batch_book.specs.Values.{greatest}
 use Rattle.batch_book.specs.declared.entry.Entry.{Entry}
 use Rattle.book_record.specs.Fronts.{end_line}
 use Rattle.book_record.specs.Heads.{session_limit}
 use Rattle.book_record.specs.RecordText.{entry_text}
 use Rattle.clap.specs.Words.{Text}
-use Rattle.client_session.specs.Turns.{turn_text}
+use Rattle.client_session.specs.Turns.{AreReadings, turn_text}
 use Rattle.client_session.specs.declared.fault.ServeFault.{ServeFault}
 use Rattle.command_words.specs.Jobs.{Files, MayHaveName, file, files_of, input_name, recorded_in}
 use Rattle.command_words.specs.declared.jobs.Job.{Job}
@@ -24,7 +25,7 @@ use Rattle.command_words.specs.declared.jobs.RecordFile.{RecordFile}
 use Rattle.command_words.specs.declared.jobs.SharedRack.{SharedRack}
 use Rattle.command_words.specs.declared.uses.Access.TheVariants.{Write}
 use Rattle.command_words.specs.declared.uses.FileUse.{FileUse}
-use Rattle.exchange.proofs.PromisedSessions.{AreCallsOf, HasOwn, all_are_told, all_sessions, are_calls, calls_of, in_order, one_session, opens, shape_of}
+use Rattle.exchange.proofs.PromisedSessions.{AreCallsOf, HasOwn, all_are_told, all_sessions, are_calls, calls_of, in_order, one_session, opens, seen_within, shape_of}
 use Rattle.exchange.specs.Keeping.{AreKeptBut}
 use Rattle.exchange.specs.Promises.{AreHeld, AreAllHeld, AreKept, AreKeptInPart, AreToldKept, Calls, GoesOnFrom, HasHosted, HasRefusedSessions, HasServed, HasTalked, HoldsGiven, Hosted, IsAsItWas, IsBegun, IsEmpty, IsHosted, IsKept, IsKeptInPart, IsSessionOf, IsUnput, Run, Session, calls_told, clients_of, hosted_text, kept_by, name_at, record_of, whole_record}
 use Rattle.exchange.specs.Responses.{Given, IsResponseTo, Named, Response}
@@ -203,7 +204,7 @@ module _ {C : Type 0} (received : C → Closed) (receipts : Receipts C) (lost : 
         held = held;
         numbers = all.1.numbers ∙ of.numbers;
         each = subst (λ (e : Extent). AllByRecursion (λ (s : Session). IsSessionOf e one.told (slice_get texts s.number) s) all.0) (shape_of bytes of_rack.extent opening of_rack.words) all.1.each;
-        order = in_order false opening [] parts book one all.0 (all.1.entries 0);
+        order = in_order false opening [] parts book one all.0 (all.1.entries 0) (all.1.seen (greatest book.history) (recursion_from_All (λ (p : Part). p.seen ≤ greatest book.history) parts one.seen));
         no_earlier = refl;
         whole = all_are_told false opening [] parts book one refl;
         status = status ∙ closing.status ∙ ap status_at all.1.failed;
@@ -313,13 +314,14 @@ module _ (comes : Text → Option (List ℕ)) (had : Text → List ℕ) (names :
     number : h.its.number ≡ v.part.session
     end : h.end ≡ e
     own_are : own h.its.number history ≡ v.part.entries
+    seen : AreReadings b.seen v.part.seen h.its.turns
     is : IsHostedAt h
 
   one_hosted : (part : Part) (end : SessionEnd) (e : Ending (List ℕ)) → end ≡ seen_end Some e → IsHostedSession b Known part end → HasOwn history part → (h : Hosted) × IsHostedOne (record { part = part; end = end }) e h
   one_hosted part end Unopened is hosted own_is =
       let unopened = subst (λ (x : SessionEnd). IsHostedSession b Known part x) is hosted in (
         record { its = record { number = part.session; turns = []; told = []; rest = []; fault = None }; end = Unopened },
-        record { number = refl; end = refl; own_are = sym own_is; is = sym own_is ∙ unopened.entries },
+        record { number = refl; end = refl; own_are = sym own_is; seen = record { low = tt; high = tt; rising = tt }; is = sym own_is ∙ unopened.entries },
       )
   one_hosted part end (Served fault bytes) is hosted own_is =
       let w = subst (λ (x : SessionEnd). IsHostedSession b Known part x) is hosted in
@@ -330,6 +332,7 @@ module _ (comes : Text → Option (List ℕ)) (had : Text → List ℕ) (names :
           number = one.1.number;
           end = refl;
           own_are = one.1.own_are;
+          seen = one.1.seen;
           is = (
             subst (λ (n : Text). IsSessionOf b.shape history (comes (n ++ codes ".in")) one.0) at one.1.is,
             one.1.fault,
@@ -344,10 +347,11 @@ module _ (comes : Text → Option (List ℕ)) (had : Text → List ℕ) (names :
     pub each : AllByRecursion IsHostedAt hs
     pub text : flat_map (text_hosted Known) vs ≡ flat_map (hosted_text names) hs
     pub entries : (n : ℕ) → fold (λ a (s : Session). a + length (own s.number history)) n (map (λ (h : Hosted). h.its) hs) ≡ fold (λ a (p : Part). a + length p.entries) n (map (λ (v : HostedSession). v.part) vs)
+    pub seen : (most : ℕ) → AllByRecursion (λ (p : Part). p.seen ≤ most) (map (λ (v : HostedSession). v.part) vs) → AllByRecursion (λ (s : Session). AreReadings b.seen most s.turns) (map (λ (h : Hosted). h.its) hs)
 
   pub all_hosted : (vs : List HostedSession) (es : List (Ending (List ℕ))) → map (λ (v : HostedSession). v.end) vs ≡ ends_of es → AllByRecursion (λ (v : HostedSession). IsHostedSession b Known v.part v.end) vs → AllByRecursion (HasOwn history) (map (λ (v : HostedSession). v.part) vs)
       → (hs : List Hosted) × AreHostedSo vs es hs
-  all_hosted [] [] same each owns = ([], record { numbers = refl; ends = refl; each = tt; text = refl; entries = λ n. refl })
+  all_hosted [] [] same each owns = ([], record { numbers = refl; ends = refl; each = tt; text = refl; entries = λ n. refl; seen = λ most all. tt })
   all_hosted [] (e ∷ es) same each owns = absurd (cc)
   all_hosted (v ∷ vs) [] same each owns = absurd (cc)
   all_hosted (v ∷ vs) (e ∷ es) same each owns =
@@ -362,6 +366,7 @@ module _ (comes : Text → Option (List ℕ)) (had : Text → List ℕ) (names :
           each = (one.1.is, more.1.each);
           text = ap₂ (λ (x y : List ℕ). x ++ y) (ap₂ (λ (n : ℕ) (l : List ℕ). hosted_heading Known n ++ l) (sym one.1.number) (ap (λ (x : SessionEnd). ending_line x) first ∙ same_line e ∙ ap (λ (x : Ending (List ℕ)). ending_line x) (sym one.1.end))) more.1.text;
           entries = λ n. ap (λ (xs : List Entry). fold (λ a (s : Session). a + length (own s.number history)) (n + length xs) (map (λ (h : Hosted). h.its) more.0)) one.1.own_are ∙ more.1.entries (n + length v.part.entries);
+          seen = λ most all. (seen_within one.0.its.turns b.seen v.part.seen most all.0 one.1.seen, more.1.seen most all.1);
         },
       )
 
@@ -374,7 +379,6 @@ as_came extent history came s is = record {
   each = is.each;
   lines = is.lines;
   entries = is.entries;
-  rising = is.rising;
   ends = is.ends;
 }
 
@@ -408,7 +412,7 @@ module _ {C : Type 0} (received : C → Closed) (receipts : Receipts C) (lost : 
           numbers = all.1.numbers ∙ of.numbers;
           ends = all.1.ends;
           each = subst (λ (e : Extent). AllByRecursion (λ (h : Hosted). IsHosted e one.told (clients_of comes had endings) (name_at names h.its.number) h.its h.end) all.0) extent_is all.1.each;
-          order = in_order (loses rack) was.opening was.history parts book one (map (λ (h : Hosted). h.its) all.0) (all.1.entries 0);
+          order = in_order (loses rack) was.opening was.history parts book one (map (λ (h : Hosted). h.its) all.0) (all.1.entries 0) (all.1.seen (greatest book.history) (recursion_from_All (λ (p : Part). p.seen ≤ greatest book.history) parts one.seen));
           status = status ∙ closing.status ∙ ap (λ (es : List SessionEnd). status_at (list_any has_failed es)) same ∙ ap status_at (same_failures endings);
           prints = subst run.prints (closing.prints ∙ all.1.text) prints;
           kept = keep book calls (are_calls (loses rack) was.opening was.history parts book one) kept;
@@ -462,7 +466,7 @@ module _ {C : Type 0} (received : C → Closed) (receipts : Receipts C) (lost : 
         held = input came s.1.is.read;
         number = s.1.number ∙ first;
         is = as_came of_rack.extent one.told before s.0 (subst (λ (e : Extent). IsSessionOf e one.told before s.0) extent_is s.1.is);
-        order = in_order (loses rack) was.opening was.history parts book one (s.0 ∷ []) (ap (λ (es : List Entry). 0 + length es) s.1.own_are);
+        order = in_order (loses rack) was.opening was.history parts book one (s.0 ∷ []) (ap (λ (es : List Entry). 0 + length es) s.1.own_are) (seen_within s.0.turns b.seen t.part.seen (greatest book.history) (recursion_from_All (λ (p : Part). p.seen ≤ greatest book.history) parts one.seen).0 s.1.seen, tt);
         status = status ∙ closing.status ∙ ap (λ (o : Option ServeFault). status_at (is_some o)) (sym s.1.fault);
         prints = subst run.prints (ap₂ (λ (x y : List ℕ). x ++ y) (sym told_is ∙ sym s.1.told) (closing.prints ∙ ap (λ (o : Option ServeFault). line_of_end o) (sym s.1.fault))) prints;
         kept = keep book calls (are_calls (loses rack) was.opening was.history parts book one) kept;

@@ -17,12 +17,13 @@ use Rattle.board_wiring.specs.Text.{Denotes as DenotesWiring}
 use Rattle.board_wiring.specs.declared.wired_module.WiredModule.{WiredModule}
 use Rattle.c004_commands.specs.Commands.{AreCommands}
 use Rattle.c004_commands.specs.declared.command.Command.{Command}
-use Rattle.clap.specs.Words.{Text}
-use Rattle.command_words.specs.Jobs.{AskFor, Files, files_of, input_name, recorded_in}
+use Rattle.clap.specs.Words.{IsAmong, Text}
+use Rattle.clap.specs.declared.error.kind.ErrorKind.TheVariants.{DisplayHelp, DisplayVersion}
+use Rattle.command_words.specs.Jobs.{AskFor, Files, faults_of, files_of, input_name, recorded_in}
 use Rattle.command_words.specs.declared.jobs.Job.{Job}
 use Rattle.command_words.specs.declared.jobs.Job.TheVariants.{Apply, C004, Check, Direct, Draw, Drive, Host, Orders, Plan, Replay, Run as RunJob, Serve, Switch as SwitchJob, Talk}
 use Rattle.crossbar.specs.Pairs.{switch_of}
-use Rattle.crossbar.specs.Switch.{Switch, after_all, answers, idle}
+use Rattle.crossbar.specs.Switch.{Switch, after_all, answers, enquiries, idle}
 use Rattle.crossbar.specs.declared.board.BoardWiring.{BoardWiring}
 use Rattle.crossbar.specs.declared.chip.Wiring.{Wiring}
 use Rattle.crossbar.specs.declared.chip.Wiring.TheVariants.{Back, Board, Both, Forth}
@@ -94,12 +95,13 @@ use Rattle.switch_driver.specs.Lines.{stage_line}
 use Rattle.switch_settings.specs.declared.fault.SettingFault.{SettingFault}
 use Rattle.switch_settings.specs.Answers.{AllAgree}
 use Rattle.switch_settings.specs.Pairs.{all_enquiries}
-use Rattle.batch_book.specs.History.{IsReplay}
+use Rattle.batch_book.specs.History.{AreUnstopped, IsReplay}
 use Rattle.batch_book.specs.Machine.{Machine, opened}
 use Rattle.batch_book.specs.Seats.{own}
+use Rattle.batch_book.specs.Values.{greatest}
 use Rattle.batch_book.specs.declared.entry.Entry.{Entry}
-use Rattle.client_session.specs.Sessions.{EndByBye, added_entries, lines_of}
-use Rattle.client_session.specs.Turns.{AreRising, IsTurn, Turn as Turned, turn_text}
+use Rattle.client_session.specs.Sessions.{EndByBye, GoOn, added_entries, lines_of}
+use Rattle.client_session.specs.Turns.{AreReadings, IsTurn, Turn as Turned, turn_text}
 use Rattle.command_words.specs.declared.jobs.Request.{Request}
 use Rattle.command_words.specs.declared.jobs.SharedRack.{SharedRack}
 use Rattle.session_answers.specs.Frames.{end_line as line_of_end, end_text, heading}
@@ -375,11 +377,13 @@ abbrev pub wirings : Option BoardWiring → List Transfer → List Wiring
 wirings (Some board) batch = Board board ∷ []
 wirings None batch = if is_wide batch then Forth ∷ Back ∷ [] else Both ∷ []
 
--- The commands are those of a C004. Whatever the switch was, behind those for the settings up to
--- each it joins just the pairs of links that this one needs, and is ready.
+-- The commands are those of a C004, and none of them asks for a reply. Whatever the switch was,
+-- behind those for the settings up to each it joins just the pairs of links that this one needs,
+-- and is ready.
 pub record Turn (wiring : Wiring) (batch : List Transfer) (settings : List (List ℕ))
     (commands : ℕ → List Command) : Type 0 where
   pub are : (k : ℕ) → k < length settings → AreCommands (commands k)
+  pub quiet : (k : ℕ) → k < length settings → enquiries (commands k) ≡ 0
   pub turn : (switch : Switch) (k : ℕ) → k < length settings
       → after_all (flat_map commands (range_with_len 0 (k + 1))) switch
       ≡ switch_of wiring (setting_pairs batch (numbers_in settings k))
@@ -414,9 +418,15 @@ ObeyedIsMoved told batch settings =
     (opening left : Store) → IsWhole opening → FitsIn opening.shape batch
     → AreObeyed told batch settings opening left → IsPlaced opening batch left
 
+-- on each such rack they can obey all of them
+abbrev pub CanBeObeyed : RackTold → List Transfer → List (List ℕ) → Type 0
+CanBeObeyed told batch settings =
+    (opening : Store) → IsWhole opening → FitsIn opening.shape batch
+    → (left : Store) × AreObeyed told batch settings opening left
+
 -- The file held a batch, of which no two transfers write one block. Printed was the text of the
 -- orders for a schedule, and nothing else: those of all modules that have some, or of one alone.
--- Modules that obey them move the batch.
+-- Modules can obey them, and move the batch so.
 pub record HasOrdered (run : Run) (batch : Text) (scheduled : Source Text) (only : Option ℕ)
     : Type 0 where
   pub transfers : List Transfer
@@ -428,6 +438,7 @@ pub record HasOrdered (run : Run) (batch : Text) (scheduled : Source Text) (only
   pub apart : IsApart transfers
   pub schedule : IsScheduled run scheduled transfers settings
   pub obeyed : ObeyedIsMoved (told_to None orders) transfers settings
+  pub can : CanBeObeyed (told_to None orders) transfers settings
   pub tells : Tells printed (told_to only orders)
   pub prints : run.prints printed
 
@@ -717,20 +728,20 @@ pub record Session : Type 0 where
 -- How a session ended, where this of its commands' lines wasn't told, and no command that was told
 -- made these entries. By itself: all was told, and all was read, or `bye` was the last command.
 -- Where it couldn't be told, an end of its last line is missing. Where a call couldn't be recorded,
--- its command may have made one entry before.
+-- its command may have made one entry before. No command was done behind `bye`.
 abbrev pub EndsSo : Option ServeFault → List Turned → (rest untold : List ℕ) → List Entry → Type 0
 EndsSo None turns rest untold unseen =
-    (untold ≡ []) × (unseen ≡ []) × ((rest ≡ []) ⊎ EndByBye turns)
+    (untold ≡ []) × (unseen ≡ []) × ((GoOn turns × (rest ≡ [])) ⊎ EndByBye turns)
 EndsSo (Some Write) turns rest untold unseen =
     (unseen ≡ []) × ((before : List Turned) × (last : Turned) × (front : List ℕ)
-    × (turns ≡ before ++ last ∷ []) × (last.did.line ≡ front ++ untold))
-EndsSo (Some Record) turns rest untold unseen = (untold ≡ []) × (length unseen ≤ 1)
-EndsSo (Some fault) turns rest untold unseen = (untold ≡ []) × (unseen ≡ [])
+    × (turns ≡ before ++ last ∷ []) × GoOn before × (last.did.line ≡ front ++ untold))
+EndsSo (Some Record) turns rest untold unseen =
+    (untold ≡ []) × (length unseen ≤ 1) × GoOn turns
+EndsSo (Some fault) turns rest untold unseen = (untold ≡ []) × (unseen ≡ []) × GoOn turns
 
 -- It read what came, where that is known, command by command, and did what each asks for. It was
 -- told the lines of what they did, in their order. The entries of this history that have its number
--- are those that its commands made, in their order. No progress that it was told is behind what it
--- was told before.
+-- are those that its commands made, in their order.
 pub record IsSessionOf (extent : Extent) (history : List Entry) (came : Option (List ℕ))
     (s : Session) : Type 0 where
   pub untold : List ℕ
@@ -739,7 +750,6 @@ pub record IsSessionOf (extent : Extent) (history : List Entry) (came : Option (
   pub each : AllByRecursion (IsTurn extent s.number) s.turns
   pub lines : lines_of s.turns ≡ s.told ++ untold
   pub entries : own s.number history ≡ added_entries s.turns ++ unseen
-  pub rising : AreRising s.turns
   pub ends : EndsSo s.fault s.turns s.rest untold unseen
 
 -- Calls, in one order: the words with which their rack began; those of an earlier record, with which
@@ -755,12 +765,24 @@ pub record Calls : Type 0 where
 abbrev pub calls_told : Calls → List Entry
 calls_told calls = calls.earlier ++ calls.told
 
--- Each answer follows from the calls before it. Just the calls of these sessions stand there behind
--- the earlier ones, and at most one more, of which nobody was told.
+-- how far the runs of these calls have come, first of the earlier ones, and then of all
+abbrev pub seen_before : Calls → ℕ
+seen_before calls = greatest calls.earlier
+
+abbrev pub seen_behind : Calls → ℕ
+seen_behind calls = greatest (calls_told calls ++ calls.untold)
+
+-- Each answer follows from the calls before it, and no run was stopped. Just the calls of these
+-- sessions stand there behind the earlier ones, and at most one more, of which nobody was told. The
+-- progress that a session saw never fell back, was no less than that of the earlier calls, and no
+-- more than that of all.
 pub record HaveOneOrder (calls : Calls) (sessions : List Session) : Type 0 where
   pub right : IsReplay (opened calls.opening) (calls_told calls ++ calls.untold) calls.left
   pub no_other : length calls.told ≡ sum_by (λ s. length (own s.number calls.told)) sessions
   pub few : length calls.untold ≤ 1
+  pub unstopped : AreUnstopped (calls_told calls ++ calls.untold)
+  pub seen : AllByRecursion
+      (λ s. AreReadings (seen_before calls) (seen_behind calls) s.turns) sessions
 
 -- what is left of the files that were opened for a record, and for an image
 pub record Kept : Type 0 where
@@ -1082,13 +1104,34 @@ pub record CanBeRun (from : Source (List ℕ)) (shape text : List ℕ)
   pub apart : IsApart batch
   pub fits : IsRightImage extent image
 
--- the texts of a job are right (for `draw` and `switch` this says nothing)
+-- a picture of such a schedule can be drawn, with the settings that are wanted
+pub record CanBeDrawn (text schedule : List ℕ) (chosen : Option Text) : Type 0 where
+  pub range : Option SettingRange
+  pub shown : Shown
+  pub batch : List Transfer
+  pub settings : List (List ℕ)
+  pub wanted : AreWanted chosen range
+  pub read : IsScheduleRead widest text schedule batch settings
+  pub are_shown : AreShown range (length settings) shown
+
+-- the switches of a rack that is wired as usual can be set for such a batch
+pub record CanBeSwitched (from : Source (List ℕ)) (text : List ℕ) (wiring : Option (List ℕ))
+    : Type 0 where
+  pub batch : List Transfer
+  pub usual : wiring ≡ None
+  pub right : AreRight from widest text batch
+
+-- the texts of a job are right (for `switch` with a wiring this says nothing)
 abbrev pub AreRightTexts : Job → Files (List ℕ) → Type 0
 AreRightTexts (Plan file planning workers) texts =
     (batch : List Transfer) × Denotes widest (text_in texts.list) batch
 AreRightTexts (Check batch schedule) texts =
     (transfers : List Transfer) × (count : ℕ) × Denotes widest (text_in texts.list) transfers
     × IsShown transfers (text_in texts.other) count
+AreRightTexts (Draw batch schedule chosen) texts =
+    CanBeDrawn (text_in texts.list) (text_in texts.other) chosen
+AreRightTexts (SwitchJob batch scheduled wiring workers) texts =
+    CanBeSwitched (source_in scheduled (text_in texts.other)) (text_in texts.list) texts.wiring
 AreRightTexts (Orders batch scheduled only workers) texts =
     (transfers : List Transfer)
     × AreRight (source_in scheduled (text_in texts.other)) widest (text_in texts.list) transfers
@@ -1152,6 +1195,76 @@ abbrev pub KeepsMisuse : Run → Type 0
 KeepsMisuse run =
     run.status ≡ MISUSED → (request : Request) → AskFor run.words request → ⊥
 
+-- ---- nothing but what is asked for
+
+-- no file was opened for a record, nor for an image
+abbrev pub HasNoFiles : Kept → Type 0
+HasNoFiles kept = (kept.recorded ≡ None) × (kept.image ≡ None)
+
+-- nor was a port, and no live client had a session
+abbrev pub LeavesAll : (before after : Ways) → Kept → Clients → Type 0
+LeavesAll before after kept clients =
+    (after ≡ before) × HasNoFiles kept × (clients.ends ≡ [])
+
+-- none was that isn't asked for
+abbrev pub HasOnlyFiles : SharedRack → Kept → Type 0
+HasOnlyFiles rack kept =
+    (rack.record_out ≡ None → kept.recorded ≡ None) × (rack.image_out ≡ None → kept.image ≡ None)
+
+-- what a job doesn't ask for stays as it was: only `drive` opens ports, only sessions leave files,
+-- and only `host` has live clients
+abbrev pub LeavesOthers : Job → (before after : Ways) → Kept → Clients → Type 0
+LeavesOthers (Drive batch port port_b scheduled wiring first goes_on workers) before after kept
+    clients =
+    HasNoFiles kept × (clients.ends ≡ [])
+LeavesOthers (Serve rack scripts workers) before after kept clients =
+    (after ≡ before) × HasOnlyFiles rack kept × (clients.ends ≡ [])
+LeavesOthers (Host rack names workers) before after kept clients =
+    (after ≡ before) × HasOnlyFiles rack kept
+LeavesOthers (Talk rack) before after kept clients =
+    (after ≡ before) × HasOnlyFiles rack kept × (clients.ends ≡ [])
+LeavesOthers job before after kept clients = LeavesAll before after kept clients
+
+abbrev pub KeepsOthers : Run → (before after : Ways) → Kept → Clients → Type 0
+KeepsOthers run before after kept clients =
+    (job : Job) → AsksFor run job → LeavesOthers job before after kept clients
+
+-- some arguments ask for something: these for a plan
+abbrev pub SomeAsk : Type 0
+SomeAsk =
+    AskFor (codes "exchange" ∷ codes "plan" ∷ codes "batch.txt" ∷ [])
+    (record { job = Plan (codes "batch.txt") Plain 1; is_quiet = false })
+
+-- the grammar finds that the arguments ask for help, or for the version
+abbrev pub AskForHelp : List Text → Type 0
+AskForHelp words =
+    IsAmong DisplayHelp (faults_of words) ⊎ IsAmong DisplayVersion (faults_of words)
+
+-- The status is 2, and nothing was printed; or there was no memory to say so; or not all could be
+-- written.
+abbrev pub IsMisused : Run → Type 0
+IsMisused run =
+    ((run.status ≡ MISUSED) × run.prints [])
+    ⊎ (((run.status ≡ REFUSED) × run.prints (codes "refused no memory\n"))
+    ⊎ (run.status ≡ UNWRITTEN))
+
+-- nothing was opened, and the status says so, or help was asked for
+pub record HasDoneNothing (run : Run) (before after : Ways) (kept : Kept) (clients : Clients)
+    : Type 0 where
+  pub left : LeavesAll before after kept clients
+  pub ends : IsMisused run ⊎ ((run.status ≡ DONE) × AskForHelp run.words)
+
+-- so it is where nothing is asked for
+abbrev pub KeepsNothing : Run → (before after : Ways) → Kept → Clients → Type 0
+KeepsNothing run before after kept clients =
+    ((request : Request) → AskFor run.words request → ⊥)
+    → HasDoneNothing run before after kept clients
+
+-- so it is, without help, where the arguments can't be had as texts
+abbrev pub KeepsUnread : Run → (before after : Ways) → Kept → Clients → Type 0
+KeepsUnread run before after kept clients =
+    LeavesAll before after kept clients × IsMisused run
+
 -- ---- all promises
 
 -- A run of the program keeps them, and its status is 3 at most: it, and where a front was printed;
@@ -1178,4 +1291,7 @@ pub record KeepsPromises (run : Run) (fronts : ℕ → Run) (before after : Ways
   pub replays : KeepsReplays run
   pub refusals : KeepsRefusals run
   pub misuse : KeepsMisuse run
+  pub some : SomeAsk
+  pub others : KeepsOthers run before after kept clients
+  pub nothing : KeepsNothing run before after kept clients
   pub fronts_too : KeepsFronts fronts kept clients run.status

@@ -3,10 +3,10 @@
 //! [`answer`] is all that `main` calls. Its clause is what the program promises, over the
 //! definitions of `specs/Promises.antt`: who reads these has read what it is proved to do.
 
-ghost use Rattle.std.specs.Prelude.{◌≡◌, [], IfOk};
+ghost use Rattle.std.specs.Prelude.{◌≡◌, [], IfOk, OnErr};
 ghost use Rattle.std.specs.Process.{exit_status};
 ghost use Rattle.command_words.specs.Jobs.{texts_of};
-ghost use Rattle.exchange.specs.Promises.{KeepsPromises, clients_of, front_of, kept_by, run_of};
+ghost use Rattle.exchange.specs.Promises.{KeepsPromises, KeepsUnread, clients_of, front_of, kept_by, run_of};
 
 use crate::peers::Peers;
 use crate::responding::{Left, respond};
@@ -30,11 +30,18 @@ pub fn answer<R: Runtime, S: System, P: Ports, I: Read, O: Write, E: Write>(
     err: &mut E,
 ) -> Left<S::Receipt>
     requires { peers.old.endings.items ≡ [] }
-    ensures { IfOk arguments (λ w. KeepsPromises
+    ensures arguments { IfOk arguments (λ w. KeepsPromises
         (run_of (S.holds system.now) (I.remaining input.old) (O.contents out.old)
         (O.contents out.new) (texts_of w.items) (exit_status result.code))
         (front_of (S.holds system.now) (I.remaining input.old) (O.contents out.old)
         (O.contents out.new) (texts_of w.items))
+        (P.ways peers.old.ports) (P.ways peers.new.ports)
+        (kept_by S.received result.receipts)
+        (clients_of (S.says system.now) (S.had system.now) peers.new.endings.items)) }
+    // Where the arguments can't be read as texts.
+    ensures none { OnErr arguments (KeepsUnread
+        (run_of (S.holds system.now) (I.remaining input.old) (O.contents out.old)
+        (O.contents out.new) [] (exit_status result.code))
         (P.ways peers.old.ports) (P.ways peers.new.ports)
         (kept_by S.received result.receipts)
         (clients_of (S.says system.now) (S.had system.now) peers.new.endings.items)) }
