@@ -13,13 +13,12 @@ use Rattle.command_words.specs.Jobs.{Files}
 use Rattle.command_words.specs.declared.jobs.Job.{Job}
 use Rattle.command_words.specs.declared.jobs.Job.TheVariants.{Apply, Check, Direct, Draw, Orders, Plan, Run as RunJob, Switch as SwitchJob}
 use Rattle.exchange.proofs.AskedJobs.{Answers, IsAnswered}
+use Rattle.exchange.proofs.EndStatuses.{gave_up}
 use Rattle.exchange.proofs.PromisedRights.{drawings_right, switches_right}
-use Rattle.exchange.specs.Promises.{AreRightTexts, CanBeRun, HasGivenUp, HasRefused, IsFirstOverlapIn, IsFirstWrongDrawn, IsFirstWrongIn, IsFirstWrongOn, IsOfTextsAlone, IsShown, KeepsRefusals, Run, invalid, lacking, no_range, outside, texts_wrong, wiring_wrong}
+use Rattle.exchange.specs.Promises.{AreRightTexts, CanBeRun, HasRefused, IsFirstOverlapIn, IsFirstWrongDrawn, IsFirstWrongIn, IsFirstWrongOn, IsOfTextsAlone, IsShown, KeepsRefusals, Run, invalid, lacking, no_range, outside, texts_wrong, wiring_wrong}
 use Rattle.exchange.specs.Responses.{IsOfTexts, IsTextAnswer, source_in, text_in}
 use Rattle.exchange.specs.declared.limits.TheConstants.{UNWRITTEN}
 use Rattle.move_directions.proofs.OneReading as moves_reading
-use Rattle.named_files.specs.Notes.{unanswered}
-use Rattle.named_files.specs.declared.unanswered.Unanswered.{Unanswered}
 use Rattle.named_files.specs.declared.unanswered.Unanswered.TheVariants as why
 use Rattle.plan_answers.proofs.OneSource.{from_right, right_denoted, right_or_wrong}
 use Rattle.plan_answers.proofs.OneVerdict.{one_verdict}
@@ -161,11 +160,6 @@ refused run job alone is status =
       not_right = not_right job is.files wrong.refusal wrong.wrong;
       prints = subst run.prints wrong.line.line is.prints;
     }
-
-pub gave_up : (run : Run) (reason : Unanswered) → run.prints (unanswered reason).text → HasGivenUp run
-gave_up run why.File prints = inr prints
-gave_up run why.Output prints = inr prints
-gave_up run why.NoMemory prints = inl prints
 
 pub keeps_refusals : (run : Run) → Answers run → KeepsRefusals run
 keeps_refusals run all job alone asks status = elim (all job (of_texts job alone) asks) [

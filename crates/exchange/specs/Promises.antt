@@ -81,7 +81,7 @@ use Rattle.rack_answers.specs.Openings.{IsRightImage}
 use Rattle.refusals.specs.Refusals.{refusal_line}
 use Rattle.refusals.specs.Sources.{of_batch}
 use Rattle.refusals.specs.declared.refusal.Refusal.{Refusal}
-use Rattle.refusals.specs.declared.refusal.Refusal.TheVariants.{NoSetting, Overlap, Settings}
+use Rattle.refusals.specs.declared.refusal.Refusal.TheVariants.{NoSetting, Overlap, RecordHead, Settings, Threads}
 use Rattle.c004_commands.specs.declared.command.Command.TheVariants.{Settle}
 use Rattle.c004_commands.specs.declared.port.TheConstants.{PORTS}
 use Rattle.crossbar.specs.Traffic.{bytes_to, conversed}
@@ -117,8 +117,13 @@ use Rattle.named_files.specs.declared.outputs.Receipts.{Receipts}
 use Rattle.kept_sessions.specs.Records.{IsBegun as BeginsRecord, head_for}
 use Rattle.book_record.specs.Fronts.{end_line}
 use Rattle.book_record.specs.RecordText.{entry_text}
-use Rattle.book_record.specs.Heads.{AreNames, IsHeadOf, session_limit}
-use Rattle.record_replay.specs.Replays.{IsRemade}
+use Rattle.book_record.specs.Heads.{AreNames, BeginsWithNoHead, IsHeadOf, session_limit}
+use Rattle.kept_sessions.specs.Records.{IsWrongFor}
+use Rattle.rack_answers.specs.Openings.{IsRackOf, IsWrongRack}
+use Rattle.record_replay.specs.ReplayAnswers.{IsNoRecordOn, IsRecordOn, IsShapeOf, of_record}
+use Rattle.record_replay.specs.Replays.{IsRecordError, IsRemade}
+use Rattle.record_replay.specs.declared.fault.RecordError.{RecordError}
+use Rattle.record_replay.specs.declared.fault.RecordFault.{RecordFault}
 use Rattle.exchange.specs.declared.limits.TheConstants.{MISUSED, UNWRITTEN}
 use Rattle.named_files.specs.Notes.{IsToldInPart}
 
@@ -221,10 +226,6 @@ pub record AreHeld (holds : Text → List ℕ → Type 0) (names : Files Text) (
   pub other : HoldsGiven holds names.other texts.other
   pub wiring : HoldsGiven holds names.wiring texts.wiring
   pub scripts : AreAllHeld holds names.scripts texts.scripts
-
--- printed was the one line of a refusal
-abbrev pub HasPrintedRefusal : Run → Type 0
-HasPrintedRefusal run = (refusal : Refusal) × run.prints (refusal_line refusal)
 
 -- There was no answer: so a run may end at any time.
 abbrev pub HasGivenUp : Run → Type 0
@@ -630,7 +631,7 @@ pub record HasReplied (run : Run) : Type 0 where
   pub replied : HasRun (record { switch = idle; begun = [] }) came replies told left
   pub prints : run.prints replies
 
--- The same of the first part of that, where no more could be read.
+-- The same of the first part of that, where no more could be read, or be written.
 pub record HasRepliedInPart (run : Run) : Type 0 where
   pub came : List ℕ
   pub rest : List ℕ
@@ -796,25 +797,25 @@ kept_by received receipts =
       image = option_map received receipts.image;
     }
 
--- The file that was opened for this name, if there is one, holds the text, and was put in its place.
--- Without a name none was opened.
-abbrev pub IsKept : Option Text → List ℕ → Option Closed → Type 0
-IsKept None text file = file ≡ None
-IsKept (Some name) text None = ⊥
-IsKept (Some name) text (Some file) = (file.bytes ≡ Some text) × (file.stands ≡ true)
+-- Where a file is asked for, one was opened, holds the text, and was put in its place. Else none was
+-- opened.
+abbrev pub IsKept : (asked : Bool) → List ℕ → Option Closed → Type 0
+IsKept false text file = file ≡ None
+IsKept true text None = ⊥
+IsKept true text (Some file) = (file.bytes ≡ Some text) × (file.stands ≡ true)
 
--- a front of the text, and then it wasn't put there; or all of it
-abbrev pub IsKeptInPart : Option Text → List ℕ → Option Closed → Type 0
-IsKeptInPart None text file = file ≡ None
-IsKeptInPart (Some name) text None = ⊥
-IsKeptInPart (Some name) text (Some file) =
+-- it holds a front of the text, and then it wasn't put there; or all of it
+abbrev pub IsKeptInPart : (asked : Bool) → List ℕ → Option Closed → Type 0
+IsKeptInPart false text file = file ≡ None
+IsKeptInPart true text None = ⊥
+IsKeptInPart true text (Some file) =
     IsFrontOf text file.bytes × (file.stands ≡ true → file.bytes ≡ Some text)
 
--- such a file begins with the text
-abbrev pub IsBegun : Option Text → List ℕ → Option Closed → Type 0
-IsBegun None text file = file ≡ None
-IsBegun (Some name) text None = ⊥
-IsBegun (Some name) text (Some file) = (rest : List ℕ) × (file.bytes ≡ Some (text ++ rest))
+-- it begins with the text
+abbrev pub IsBegun : (asked : Bool) → List ℕ → Option Closed → Type 0
+IsBegun false text file = file ≡ None
+IsBegun true text None = ⊥
+IsBegun true text (Some file) = (rest : List ℕ) × (file.bytes ≡ Some (text ++ rest))
 
 -- a file that was opened wasn't put in its place
 abbrev pub IsUnput : Option Closed → Type 0
@@ -829,24 +830,29 @@ abbrev pub whole_record : List Text → Calls → List ℕ
 whole_record names calls =
     record_of names calls.opening (calls_told calls ++ calls.untold) ++ end_line
 
+-- what sessions leave of the calls of clients with these names
+abbrev pub Leave : Type 1
+Leave = SharedRack → List Text → Calls → Type 0
+
 -- Both files are whole, and in their places: the record of all calls, and the image of the words to
 -- which they lead.
 abbrev pub AreKept : Kept → SharedRack → List Text → Calls → Type 0
 AreKept kept rack names calls =
-    IsKept (recorded_in rack) (whole_record names calls) kept.recorded
-    × IsKept rack.image_out (image_of calls.left.store) kept.image
+    IsKept (is_some (recorded_in rack)) (whole_record names calls) kept.recorded
+    × IsKept (is_some rack.image_out) (image_of calls.left.store) kept.image
 
 -- both hold fronts of that
 abbrev pub AreKeptInPart : Kept → SharedRack → List Text → Calls → Type 0
 AreKeptInPart kept rack names calls =
-    IsKeptInPart (recorded_in rack) (whole_record names calls) kept.recorded
-    × IsKeptInPart rack.image_out (image_of calls.left.store) kept.image
+    IsKeptInPart (is_some (recorded_in rack)) (whole_record names calls) kept.recorded
+    × IsKeptInPart (is_some rack.image_out) (image_of calls.left.store) kept.image
 
 -- The record of live sessions has all of which somebody was told. The image is as above.
 abbrev pub AreToldKept : Kept → SharedRack → List Text → Calls → Type 0
 AreToldKept kept rack names calls =
-    IsBegun (recorded_in rack) (record_of names calls.opening (calls_told calls)) kept.recorded
-    × IsKeptInPart rack.image_out (image_of calls.left.store) kept.image
+    IsBegun (is_some (recorded_in rack)) (record_of names calls.opening (calls_told calls))
+    kept.recorded
+    × IsKeptInPart (is_some rack.image_out) (image_of calls.left.store) kept.image
 
 -- what a session was told, below its heading; where a fault ended it, a line says so behind that
 abbrev pub told_text : Session → List ℕ
@@ -885,20 +891,36 @@ IsAsItWas run record_out names file =
     × run.holds out.name held × (file.bytes ≡ Some text)
     × ((text ≡ held) ⊎ BeginsRecord out.resumes held names text)))
 
--- No session began: printed was the one line of a refusal, or there was no answer. The file for a
--- record was left so, and no image was put in its place.
-pub record HasRefusedSessions (run : Run) (kept : Kept) (is_left : Option Closed → Type 0)
-    : Type 0 where
+-- the rack of sessions is none: its word is that of no shape, or its file hasn't just its words
+abbrev pub IsWrongRackOf : Run → SharedRack → Refusal → Type 0
+IsWrongRackOf run rack refusal =
+    (image : Option (List ℕ)) × HoldsGiven run.holds rack.image image
+    × IsWrongRack rack.shape image refusal
+
+-- so it is, or live sessions can't go on with the record in the file of its name
+abbrev pub IsWrongLive : Run → SharedRack → List Text → Refusal → Type 0
+IsWrongLive run rack names refusal =
+    IsWrongRackOf run rack refusal
+    ⊎ ((extent : Extent) × (opening : Store) × BeginsOn run rack extent opening
+    × (fault : RecordFault) × IsWrongFor run.holds rack.record_out opening names fault
+    × (refusal ≡ of_record fault))
+
+-- No session began: printed was the one line of a refusal, of what is so wrong, or there was no
+-- answer. The file for a record was left so, and no image was put in its place.
+pub record HasRefusedSessions (run : Run) (kept : Kept) (is_wrong : Refusal → Type 0)
+    (is_left : Option Closed → Type 0) : Type 0 where
   pub status : run.status ≡ REFUSED
-  pub refuses : HasPrintedRefusal run
+  pub refuses : ((refusal : Refusal) × is_wrong refusal × run.prints (refusal_line refusal))
+      ⊎ HasGivenUp run
   pub recorded : is_left kept.recorded
   pub unput : IsUnput kept.image
 
-abbrev pub KeepsScripts : Run → Kept → (SharedRack → List Text → Calls → Type 0) → Type 0
+abbrev pub KeepsScripts : Run → Kept → Leave → Type 0
 KeepsScripts run kept keeps =
     (rack : SharedRack) (scripts : List Text) (workers : ℕ)
     → AsksFor run (Serve rack scripts workers) → run.status ≢ UNWRITTEN
-    → HasServed run rack scripts (keeps rack []) ⊎ HasRefusedSessions run kept IsEmpty
+    → HasServed run rack scripts (keeps rack [])
+    ⊎ HasRefusedSessions run kept (IsWrongRackOf run rack) IsEmpty
 
 -- ---- live clients
 
@@ -971,13 +993,14 @@ pub record HasHosted (run : Run) (rack : SharedRack) (names : List Text) (client
   pub prints : run.prints (flat_map (hosted_text names) sessions)
   pub kept : keeps calls
 
-abbrev pub KeepsClients : Run → Kept → Clients → (SharedRack → List Text → Calls → Type 0)
-    → Type 0
+abbrev pub KeepsClients : Run → Kept → Clients → Leave → Type 0
 KeepsClients run kept clients keeps =
     (rack : SharedRack) (names : List Text) (workers : ℕ) → AsksFor run (Host rack names workers)
     → run.status ≢ UNWRITTEN
     → HasHosted run rack names clients (keeps rack names)
-    ⊎ (HasRefusedSessions run kept (IsAsItWas run rack.record_out names) × (clients.ends ≡ []))
+    ⊎ (HasRefusedSessions run kept
+    (λ refusal. IsWrongLive run rack names refusal ⊎ (refusal ≡ Threads))
+    (IsAsItWas run rack.record_out names) × (clients.ends ≡ []))
 
 -- The one client had a session with what comes of standard input. Printed was what it was told; and
 -- behind that, where a fault ended it, a line says so.
@@ -996,11 +1019,11 @@ pub record HasTalked (run : Run) (rack : SharedRack) (keeps : Calls → Type 0) 
   pub prints : run.prints (its.told ++ line_of_end its.fault)
   pub kept : keeps calls
 
-abbrev pub KeepsTalks : Run → Kept → (SharedRack → List Text → Calls → Type 0) → Type 0
+abbrev pub KeepsTalks : Run → Kept → Leave → Type 0
 KeepsTalks run kept keeps =
     (rack : SharedRack) → AsksFor run (Talk rack) → run.status ≢ UNWRITTEN
     → HasTalked run rack (keeps rack [])
-    ⊎ HasRefusedSessions run kept (IsAsItWas run rack.record_out [])
+    ⊎ HasRefusedSessions run kept (IsWrongLive run rack []) (IsAsItWas run rack.record_out [])
 
 -- ---- `replay`
 
@@ -1026,14 +1049,41 @@ pub record HasReplayed (run : Run) (shape : Option Text) (recorded : Text) (imag
   pub right : IsRemade (session_limit (length names)) body opening first history left rest
   pub prints : run.prints (image_of left.store)
 
--- at status 1 no image is printed
+-- What is first wrong: the record has no head, by which to know the shape that wasn't given; the
+-- shape or the image; the head, which is that of another rack; or an entry, or what stands in its
+-- place.
+pub data IsFirstWrongReplayed (shape : Option Text) (text : List ℕ) (image : Option (List ℕ))
+    (first : Option ℕ) (refusal : Refusal) : Type 0 where
+  no_head : shape ≡ None → BeginsWithNoHead text → refusal ≡ RecordHead
+      → IsFirstWrongReplayed shape text image first refusal
+  rack_wrong : (word : List ℕ) → IsShapeOf shape text word → IsWrongRack word image refusal
+      → IsFirstWrongReplayed shape text image first refusal
+  other_head : (word : List ℕ) (opening : Store) → IsShapeOf shape text word
+      → IsRackOf word image opening → IsNoRecordOn opening text → refusal ≡ RecordHead
+      → IsFirstWrongReplayed shape text image first refusal
+  entry_wrong : (word body : List ℕ) (opening : Store) (limit : ℕ) (error : RecordError)
+      → IsShapeOf shape text word → IsRackOf word image opening
+      → IsRecordOn opening text body limit → IsRecordError limit body opening first error
+      → refusal ≡ of_record error.fault → IsFirstWrongReplayed shape text image first refusal
+
+-- Printed was the one line of the refusal of what is first wrong with what the files held.
+pub record HasRefusedReplay (run : Run) (shape : Option Text) (recorded : Text)
+    (image : Option Text) (first : Option ℕ) : Type 0 where
+  pub text : List ℕ
+  pub bytes : Option (List ℕ)
+  pub refusal : Refusal
+  pub held : run.holds recorded text
+  pub held_image : HoldsGiven run.holds image bytes
+  pub wrong : IsFirstWrongReplayed shape text bytes first refusal
+  pub prints : run.prints (refusal_line refusal)
+
 abbrev pub KeepsReplays : Run → Type 0
 KeepsReplays run =
     (shape : Option Text) (recorded : Text) (image : Option Text) (first : Option ℕ)
     → (HasDone run (Replay shape recorded image first)
     → HasReplayed run shape recorded image first)
     × (AsksFor run (Replay shape recorded image first) → run.status ≡ REFUSED
-    → HasPrintedRefusal run)
+    → HasRefusedReplay run shape recorded image first ⊎ HasGivenUp run)
 
 -- ---- 9: texts
 
@@ -1159,35 +1209,6 @@ KeepsRefusals run =
     (job : Job) → IsOfTextsAlone job → AsksFor run job → run.status ≡ REFUSED
     → HasRefused run job ⊎ HasGivenUp run
 
--- ---- where not all could be written
-
--- all that is promised of commands that need nothing but texts
-pub record KeepsTexts (run : Run) : Type 0 where
-  pub plans : KeepsPlans run
-  pub checks : KeepsChecks run
-  pub runs : KeepsRuns run
-  pub images : KeepsImages run
-  pub directions : KeepsDirections run
-  pub switches : KeepsSwitches run
-  pub orders : KeepsOrders run
-  pub pictures : KeepsPictures run
-  pub replays : KeepsReplays run
-  pub refusals : KeepsRefusals run
-
--- A front was printed of what a run prints that ends with status 0, or with 1; so it is with the
--- files of sessions, but that the record of live ones has all of which somebody was told.
-pub record KeepsInPart (run : Run) (kept : Kept) (clients : Clients) : Type 0 where
-  pub ends : (run.status ≡ DONE) ⊎ (run.status ≡ REFUSED)
-  pub texts : KeepsTexts run
-  pub scripts : KeepsScripts run kept (AreKeptInPart kept)
-  pub live : KeepsClients run kept clients (AreToldKept kept)
-  pub talks : KeepsTalks run kept (AreToldKept kept)
-
--- so it is where not all could be written
-abbrev pub KeepsFronts : (ℕ → Run) → Kept → Clients → ℕ → Type 0
-KeepsFronts fronts kept clients status =
-    status ≡ UNWRITTEN → (other : ℕ) × KeepsInPart (fronts other) kept clients
-
 -- ---- where the arguments ask for nothing
 
 -- status 2 is only for such
@@ -1267,13 +1288,11 @@ KeepsUnread run before after kept clients =
 
 -- ---- all promises
 
--- A run of the program keeps them, and its status is 3 at most: it, and where a front was printed;
--- the ways to ports before it and behind it; the files of a record and of an image; and live
--- clients.
-pub record KeepsPromises (run : Run) (fronts : ℕ → Run) (before after : Ways) (kept : Kept)
-    (clients : Clients) : Type 0 where
-  pub one : AskForOne run.words
-  pub ends : run.status ≤ UNWRITTEN
+-- What is promised of a run that ends with status 0 or 1, with the ways to ports before it and behind
+-- it, the files of a record and of an image, and live clients; and what sessions of scripts leave,
+-- and live ones.
+pub record KeepsAll (run : Run) (before after : Ways) (kept : Kept) (clients : Clients)
+    (scripts_leave live_leave : Leave) : Type 0 where
   pub plans : KeepsPlans run
   pub checks : KeepsChecks run
   pub runs : KeepsRuns run
@@ -1285,13 +1304,29 @@ pub record KeepsPromises (run : Run) (fronts : ℕ → Run) (before after : Ways
   pub stops : KeepsStops run before after
   pub replies : KeepsReplies run
   pub pictures : KeepsPictures run
-  pub scripts : KeepsScripts run kept (AreKept kept)
-  pub live : KeepsClients run kept clients (AreKept kept)
-  pub talks : KeepsTalks run kept (AreKept kept)
+  pub scripts : KeepsScripts run kept scripts_leave
+  pub live : KeepsClients run kept clients live_leave
+  pub talks : KeepsTalks run kept live_leave
   pub replays : KeepsReplays run
   pub refusals : KeepsRefusals run
+
+-- Where not all could be written, a front was printed of what such a run prints, and what passed over
+-- ports is as there; so it is with the files of sessions, but that the record of live ones has all of
+-- which somebody was told.
+abbrev pub KeepsFronts : (ℕ → Run) → Ways → Ways → Kept → Clients → ℕ → Type 0
+KeepsFronts fronts before after kept clients status =
+    status ≡ UNWRITTEN → (other : ℕ) × ((other ≡ DONE) ⊎ (other ≡ REFUSED))
+    × KeepsAll (fronts other) before after kept clients (AreKeptInPart kept) (AreToldKept kept)
+
+-- A run of the program keeps them, and its status is 3 at most: it, and where a front was printed.
+-- Its arguments ask for one thing at most.
+pub record KeepsPromises (run : Run) (fronts : ℕ → Run) (before after : Ways) (kept : Kept)
+    (clients : Clients) : Type 0 where
+  pub one : AskForOne run.words
+  pub ends : run.status ≤ UNWRITTEN
+  pub all : KeepsAll run before after kept clients (AreKept kept) (AreKept kept)
   pub misuse : KeepsMisuse run
   pub some : SomeAsk
   pub others : KeepsOthers run before after kept clients
   pub nothing : KeepsNothing run before after kept clients
-  pub fronts_too : KeepsFronts fronts kept clients run.status
+  pub fronts_too : KeepsFronts fronts before after kept clients run.status

@@ -1,7 +1,12 @@
 //! The program, by what it promises.
 //!
-//! [`answer`] is all that `main` calls. Its clause is what the program promises, over the
-//! definitions of `specs/Promises.antt`: who reads these has read what it is proved to do.
+//! `main` takes the standard streams, reads the arguments, and hands both to [`answer`], with whose
+//! status it ends. The clause of that is what the program promises, over the definitions of
+//! `specs/Promises.antt`: who reads these has read what it is proved to do.
+//!
+//! By its bounds `answer` may wait, and so may `respond`, `print_response` and `answer_to` below
+//! it. These are short, without a loop, and hand on a job without sessions to `answer_alone`, which
+//! by its bounds can't wait.
 
 ghost use Rattle.std.specs.Prelude.{◌≡◌, [], IfOk, OnErr};
 ghost use Rattle.std.specs.Process.{exit_status};
