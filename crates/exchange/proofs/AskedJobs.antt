@@ -15,8 +15,8 @@ use Rattle.exchange.proofs.HeldFiles.{held_files}
 use Rattle.exchange.proofs.PromisedCalls.{Comes, HasNone}
 use Rattle.exchange.specs.Ends.{IsCutFor, IsDone, IsDoneInPart, IsEndForArguments, IsPrinted, Keeping, Leaving, Streams, printed_of}
 use Rattle.exchange.specs.Keeping.{AreKeptBut}
-use Rattle.exchange.specs.Promises.{AreHeld, AsksFor, HasDone, Run, front_of, run_of}
-use Rattle.exchange.specs.Responses.{Given, IsAnswerTo, IsJobAnswer, IsOfTexts, IsTextAnswer, IsToldCut, Named, Response}
+use Rattle.exchange.specs.Promises.{AreHeld, AsksFor, HasDone, HoldsText, Run, front_of, run_of}
+use Rattle.exchange.specs.Responses.{Given, HasSessions, IsAnswerTo, IsJobAnswer, IsJobCut, IsOfTexts, IsResponseTo, IsTextAnswer, IsToldCut, Named, Response}
 use Rattle.exchange.specs.declared.limits.TheConstants.{MISUSED, UNWRITTEN}
 use Rattle.named_files.specs.Contents.{Holding}
 use Rattle.named_files.specs.Notes.{IsToldInPart, unanswered}
@@ -129,12 +129,6 @@ text_done run job texts all done = elim (all job texts done.0) [
 
 -- ---- jobs that have sessions
 
-abbrev pub HasSessions : Job → Type 0
-HasSessions (Serve rack scripts workers) = ⊤
-HasSessions (Host rack clients workers) = ⊤
-HasSessions (Talk rack) = ⊤
-HasSessions job = ⊥
-
 -- what belongs to their files went there, but for this, which is lost
 abbrev pub KeepsSo : {C : Type 0} → Holding → (C → Closed) → Receipts C → List SessionEnd → Lost → Job → Response → Type 0
 KeepsSo holds received receipts ends lost job response = AreKeptBut holds received job response.left receipts lost × (response.ends ≡ ends)
@@ -150,6 +144,46 @@ pub sessions_come : {C : Type 0} (e : Ended) (received : C → Closed) (receipts
 sessions_come {C} e received receipts ends so none_so is request has asks = elim (end_of e request asks is) [
   | inl done ↦ inl (lost_none, refl, record { response = done.0; is = done.1; kept = (so request.job done.0 done.2).0; ends_are = (so request.job done.0 done.2).1; prints = done.3.text; status = done.3.status })
   | inr gives_up ↦ inr (record { prints = gives_up.1.text; status = gives_up.1.status; recorded = ap (λ (r : Receipts C). r.recorded) (none_so gives_up.0).0; image = ap (λ (r : Receipts C). r.image) (none_so gives_up.0).0; none_ended = (none_so gives_up.0).1 })
+]
+
+-- ---- jobs that tell something before their answer
+
+-- a run where this is given, with these arguments, and with this status
+abbrev pub the_run : Named → Given → List Text → (List ℕ → Type 0) → ℕ → Run
+the_run named given words prints status = record { words = words; holds = HoldsText named.holds given.input; prints = prints; status = status }
+
+-- the response to a job was printed, or a front of it, and ports were left so
+pub record Responded (named : Named) (given : Given) (ports : Ways) (run : Run) (job : Job) : Type 0 where
+  pub response : Response
+  pub is : IsResponseTo named given job response
+  pub ports_are : response.ports ≡ ports
+  pub prints : run.prints (response.told ++ response.end.text)
+  pub status : run.status ≡ response.end.status
+
+-- not all that it tells before could be written
+pub record ToldInPart (named : Named) (given : Given) (ports : Ways) (run : Run) (job : Job) : Type 0 where
+  pub told : List ℕ
+  pub ends : List SessionEnd
+  pub cut : IsJobCut named.holds given job ports ends told
+  pub prints : (missing : List ℕ) → run.prints (told ++ missing)
+  pub status : run.status ≡ REFUSED
+
+-- there was no memory to read the arguments
+pub record NoneRead (given : Given) (ports : Ways) (run : Run) : Type 0 where
+  pub prints : run.prints (unanswered why.NoMemory).text
+  pub status : run.status ≡ REFUSED
+  pub ports_are : ports ≡ given.ports
+
+abbrev pub JobComes : Named → Given → Ways → Run → Job → Type 0
+JobComes named given ports run job = Responded named given ports run job ⊎ (ToldInPart named given ports run job ⊎ NoneRead given ports run)
+
+abbrev pub JobsCome : Named → Given → Ways → Run → Type 0
+JobsCome named given ports run = (request : Request) → AskFor run.words request → JobComes named given ports run request.job
+
+pub jobs_come : (e : Ended) (after : Ways) → ((job : Job) (response : Response) → e.keeps job response → response.ports ≡ after) → (e.none → after ≡ e.given.ports) → EndsSo e → JobsCome e.named e.given after (ended_run e)
+jobs_come e after same none_so is request asks = elim (end_of e request asks is) [
+  | inl done ↦ inl (record { response = done.0; is = done.1; ports_are = same request.job done.0 done.2; prints = done.3.text; status = done.3.status })
+  | inr gives_up ↦ inr (inr (record { prints = gives_up.1.text; status = gives_up.1.status; ports_are = none_so gives_up.0 }))
 ]
 
 -- ---- where the arguments ask for nothing
@@ -179,7 +213,8 @@ no_session_cut (Talk rack) files input was opens told has cut = cut
 no_session_cut job files input was opens told has cut = has
 
 module _ {C : Type 0} (received : C → Closed) (receipts : Receipts C) (ends : List SessionEnd) (words : List Text) (named : Named) (left : Leaving) (given : Given) (before after : Option (List ℕ))
-    (so : (job : Job) (response : Response) → left.keeps job response → (lost : Lost) × KeepsSo named.holds received receipts ends lost job response) (none_so : left.none → (receipts ≡ none_opened) × (ends ≡ [])) where
+    (so : (job : Job) (response : Response) → left.keeps job response → (lost : Lost) × KeepsSo named.holds received receipts ends lost job response) (none_so : left.none → (receipts ≡ none_opened) × (ends ≡ []))
+    (ports_so : (job : Job) (response : Response) → left.keeps job response → response.ports ≡ left.ports) (none_ports : left.none → left.ports ≡ given.ports) where
   abbrev Front : ℕ → Run
   Front status = front_of named.holds given.input before after words status
 
@@ -189,6 +224,7 @@ module _ {C : Type 0} (received : C → Closed) (receipts : Receipts C) (ends : 
     either : IsEither status
     texts : IsOfTexts request.job → AskFor words request → IsAnswered (Front status) request.job ⊎ IsGivenUp (Front status)
     sessions : HasSessions request.job → ((lost : Lost) × ⊤ × Comes named given received receipts ends (Front status) request.job lost) ⊎ HasNone receipts ends (Front status)
+    comes : JobComes named given left.ports (Front status) request.job
 
   in_part : (request : Request) → IsDoneInPart named left given request before after → CutSo request
   in_part request (inl (response, inl comes, keeping, part)) = record {
@@ -206,6 +242,7 @@ module _ {C : Type 0} (received : C → Closed) (receipts : Receipts C) (ends : 
           status = refl;
         });
     sessions = λ has. let kept = so request.job response keeping in inl (kept.0, tt, record { response = response; is = inl comes; kept = kept.1.0; ends_are = kept.1.1; prints = part; status = refl });
+    comes = inl (record { response = response; is = inl comes; ports_are = ports_so request.job response keeping; prints = part; status = refl });
   }
   in_part request (inl (response, inr none, keeping, part)) = record {
     status = response.end.status;
@@ -217,12 +254,14 @@ module _ {C : Type 0} (received : C → Closed) (receipts : Receipts C) (ends : 
           ap (λ (p : Printed). p.status) none.4.1,
         );
     sessions = λ has. let kept = so request.job response keeping in inl (kept.0, tt, record { response = response; is = inr none; kept = kept.1.0; ends_are = kept.1.1; prints = part; status = refl });
+    comes = inl (record { response = response; is = inr none; ports_are = ports_so request.job response keeping; prints = part; status = refl });
   }
   in_part request (inr (told, cut, keeping, part)) = record {
     status = REFUSED;
     either = inr refl;
     texts = λ texts asks. absurd (none_cut request.job cut.0 cut.1 _ _ told texts cut.3);
     sessions = λ has. absurd (no_session_cut request.job cut.0 cut.1 _ _ told has cut.3);
+    comes = inr (inl (record { told = told; ends = left.ends; cut = cut; prints = λ missing. (told, missing, refl, part); status = refl }));
   }
 
   -- what a front was printed of
@@ -231,6 +270,7 @@ module _ {C : Type 0} (received : C → Closed) (receipts : Receipts C) (ends : 
     pub either : IsEither status
     pub texts : Answers (Front status)
     pub sessions : SessionsCome named given received receipts ends (λ lost. ⊤) (Front status)
+    pub jobs : JobsCome named given left.ports (Front status)
 
   pub cut_ends : IsCutFor named left words given before after → IsCutSo
   cut_ends (Ok other, has, wrong, done) =
@@ -244,18 +284,21 @@ module _ {C : Type 0} (received : C → Closed) (receipts : Receipts C) (ends : 
         sessions = λ request sessions asks.
             let same = one_request words other request has asks in
             subst (λ (r : Request). ((lost : Lost) × ⊤ × Comes named given received receipts ends (Front part.status) r.job lost) ⊎ HasNone receipts ends (Front part.status)) same (part.sessions (subst (λ (r : Request). HasSessions r.job) (sym same) sessions));
+        jobs = λ request asks. subst (λ (r : Request). JobComes named given left.ports (Front part.status) r.job) (one_request words other request has asks) part.comes;
       }
   cut_ends (Err NoMemory, has, wrong, none) = record {
     status = REFUSED;
     either = inr refl;
     texts = λ job texts asks. inr (why.NoMemory, none.1, refl);
     sessions = λ request sessions asks. inr (record { prints = none.1; status = refl; recorded = ap (λ (r : Receipts C). r.recorded) (none_so none.0).0; image = ap (λ (r : Receipts C). r.image) (none_so none.0).0; none_ended = (none_so none.0).1 });
+    jobs = λ request asks. inr (inr (record { prints = none.1; status = refl; ports_are = none_ports none.0 }));
   }
   cut_ends (Err (Clap error), has, wrong, none) = record {
     status = REFUSED;
     either = inr refl;
     texts = λ job texts asks. absurd (no_fault words (record { job = job; is_quiet = asks.0 }) error asks.1 wrong);
     sessions = λ request sessions asks. absurd (no_fault words request error asks wrong);
+    jobs = λ request asks. absurd (no_fault words request error asks wrong);
   }
 
 -- ---- a promise about a run

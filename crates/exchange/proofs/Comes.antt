@@ -106,6 +106,10 @@ pub always : {X E : Type 0} (r : Result X E) (P : Type 0) → P → OnOk r P
 always (Ok x) P so = so
 always (Err e) P so = tt
 
+pub always_err : {X E : Type 0} (r : Result X E) (P : Type 0) → P → OnErr r P
+always_err (Ok x) P so = tt
+always_err (Err e) P so = so
+
 pub err_finished : (r : Result Found NoAnswer) (lost : Lost) (done : Result Answered NoAnswer) (P : Type 0) → IsFinished r lost done → OnErr r P → OnErr done P
 err_finished r lost (Ok done) P is so = tt
 err_finished (Ok found) lost (Err e) P is so = absurd is

@@ -11,9 +11,13 @@ use Rattle.drive_answers.specs.Answers as drives
 use Rattle.drive_answers.specs.Answers.{IsDriveAnswer}
 use Rattle.drive_answers.specs.Endings.{IsEnding}
 use Rattle.drive_answers.specs.Ways.{Names, Ways}
+use Rattle.exchange.specs.Promises.{HasGivenUp, Run}
 use Rattle.exchange.specs.Responses.{Given, IsAnswerTo, IsC004By, IsResponseTo, IsTextAnswer, Named, Response, source_in, text_in}
 use Rattle.kept_sessions.specs.Answers.{IsLiveAnswer, hosting, talking}
 use Rattle.named_files.specs.Contents.{Holding}
+use Rattle.named_files.specs.Notes.{unanswered}
+use Rattle.named_files.specs.declared.unanswered.Unanswered.{Unanswered}
+use Rattle.named_files.specs.declared.unanswered.Unanswered.TheVariants as why
 use Rattle.plan_answers.specs.Answers as answers
 use Rattle.plan_answers.specs.Directing as directing
 use Rattle.plan_answers.specs.Drawings.{drawn, undrawn}
@@ -32,6 +36,12 @@ use Rattle.switch_driver.specs.Hearings.{Hearing}
 use Rattle.switch_driver.specs.declared.driving.Driven.{Driven}
 use Rattle.switch_driver.specs.declared.driving.Driven.TheVariants.{Completed, Halted, Stopped}
 use Rattle.switch_driver.specs.declared.stage.Halt.TheVariants.{Left, Unheard, Untold}
+
+-- there was no answer
+pub gave_up : (run : Run) (reason : Unanswered) → run.prints (unanswered reason).text → HasGivenUp run
+gave_up run why.File prints = inr prints
+gave_up run why.Output prints = inr prints
+gave_up run why.NoMemory prints = inl prints
 
 abbrev pub IsEither : ℕ → Type 0
 IsEither status = (status ≡ DONE) ⊎ (status ≡ REFUSED)

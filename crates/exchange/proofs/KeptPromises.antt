@@ -1,5 +1,5 @@
 -- The program keeps its promises.
-use Rattle.std.proofs.Common.{◌≡◌, ◌≢◌, ◌∙◌, ◌++◌, ℕ, Bool, List, [], ◌∷◌, map, Option, Some, None, inl, inr, refl, sym, ap, subst, arith}
+use Rattle.std.proofs.Common.{◌≡◌, ◌≢◌, ◌∙◌, ◌++◌, ℕ, Bool, List, [], ◌∷◌, map, Option, Some, None, inl, inr, ◌⊎◌, refl, sym, ap, subst, arith}
 use Rattle.std.specs.Prelude.{IfSome, option_map, option_to_list, ⊤}
 use Rattle.std.specs.List.{AllByRecursion}
 use Rattle.std.proofs.lemmas.List.Elements.{recursion_from_All}
@@ -12,12 +12,14 @@ use Rattle.command_words.specs.declared.jobs.RecordFile.{RecordFile}
 use Rattle.command_words.specs.declared.jobs.SharedRack.{SharedRack}
 use Rattle.command_words.specs.declared.uses.Access.TheVariants.{Read}
 use Rattle.drive_answers.specs.Ways.{Ways}
-use Rattle.exchange.proofs.AskedJobs.{Answers, Ended, EndsSo, KeepsSo, SessionsCome, all_written, asks_nothing, cut_ends, ended_run, ends_well, sessions_come, text_ends}
+use Rattle.exchange.proofs.AskedPlan.{some_ask}
+use Rattle.exchange.proofs.AskedJobs.{Answers, Ended, EndsSo, JobsCome, KeepsSo, SessionsCome, all_written, asks_nothing, cut_ends, ended_run, ends_well, jobs_come, sessions_come, text_ends, the_run}
 use Rattle.exchange.proofs.HeldFiles.{alone, earlier, held_files, pass}
 use Rattle.exchange.proofs.OneRequest.{one_request}
 use Rattle.exchange.proofs.PromisedSessions.{AreCallsOf}
 use Rattle.exchange.proofs.PromisedCalls.{are_kept, are_part, are_told, before, behind, clients_come, kept_named, none_begun, none_ended, scripts_come, talk_comes}
 use Rattle.exchange.proofs.PromisedDrives.{keeps_drives, keeps_stops, no_drives, no_stops}
+use Rattle.exchange.proofs.PromisedOthers.{keeps_nothing, keeps_others}
 use Rattle.exchange.proofs.PromisedPictures.{keeps_pictures, no_pictures}
 use Rattle.exchange.proofs.PromisedPlans.{keeps_checks, keeps_directions, keeps_plans, no_checks, no_directions, no_plans}
 use Rattle.exchange.proofs.PromisedRefusals.{keeps_refusals, no_refusals}
@@ -26,7 +28,7 @@ use Rattle.exchange.proofs.PromisedReplies.{keeps_replies, no_replies}
 use Rattle.exchange.proofs.PromisedRuns.{keeps_images, keeps_runs, no_images, no_runs}
 use Rattle.exchange.proofs.PromisedSwitches.{keeps_orders, keeps_switches, no_orders, no_switches}
 use Rattle.exchange.specs.Ends.{IsCutFor, Leaving}
-use Rattle.exchange.specs.Promises.{AreKept, AreKeptInPart, AreToldKept, Calls, HoldsText, IsAsItWas, IsEmpty, KeepsClients, KeepsPromises, KeepsScripts, KeepsTalks, KeepsTexts, Run, clients_of, front_of, kept_by, run_of}
+use Rattle.exchange.specs.Promises.{AreKept, AreKeptInPart, AreToldKept, Calls, HoldsText, IsAsItWas, IsEmpty, IsWrongLive, IsWrongRackOf, Clients, Kept, KeepsAll, KeepsClients, KeepsNothing, KeepsOthers, KeepsPromises, KeepsScripts, KeepsTalks, Leave, Run, clients_of, front_of, kept_by, run_of}
 use Rattle.exchange.specs.Responses.{Given, Named, Response}
 use Rattle.exchange.specs.declared.limits.TheConstants.{UNWRITTEN}
 use Rattle.kept_sessions.specs.Keeping.{AreLiveKept, AreWritten}
@@ -36,23 +38,8 @@ use Rattle.named_files.specs.Outputs.{lost_none, none_opened}
 use Rattle.named_files.specs.Streams.{Closed}
 use Rattle.named_files.specs.declared.lost.Lost.{Lost}
 use Rattle.named_files.specs.declared.outputs.Receipts.{Receipts}
+use Rattle.refusals.specs.declared.refusal.Refusal.TheVariants.{Threads}
 use Rattle.session_answers.specs.declared.ended_session.Ending.{Ending}
-
--- ---- commands that need nothing but texts
-
-texts : (run : Run) → Answers run → KeepsTexts run
-texts run all = record {
-  plans = keeps_plans run all;
-  checks = keeps_checks run all;
-  runs = keeps_runs run all;
-  images = keeps_images run all;
-  directions = keeps_directions run all;
-  switches = keeps_switches run all;
-  orders = keeps_orders run all;
-  pictures = keeps_pictures run all;
-  replays = keeps_replays run all;
-  refusals = keeps_refusals run all;
-}
 
 -- ---- sessions
 
@@ -89,28 +76,28 @@ module _ {C : Type 0} (received : C → Closed) (receipts : Receipts C) (comes :
   The = record { words = words; holds = HoldsText named.holds given.input; prints = prints; status = status }
 
   module _ (come : SessionsCome named given received receipts (ends_of endings) may The) where
-    scripts_kept : (keeps : SharedRack → List Text → Calls → Type 0) → ((lost : Lost) → may lost → (rack : SharedRack) (book : Account) (calls : Calls) → AreCallsOf calls book → AreWritten received (recorded_in rack) rack.image_out [] book receipts lost → keeps rack [] calls) → KeepsScripts The (kept_by received receipts) keeps
+    scripts_kept : (keeps : Leave) → ((lost : Lost) → may lost → (rack : SharedRack) (book : Account) (calls : Calls) → AreCallsOf calls book → AreWritten received (recorded_in rack) rack.image_out [] book receipts lost → keeps rack [] calls) → KeepsScripts The (kept_by received receipts) keeps
     scripts_kept keeps keep rack scripts workers asks written = elim (come (record { job = Serve rack scripts workers; is_quiet = asks.0 }) tt asks.1) [
       | inl c ↦ scripts_come received receipts c.0 The rack scripts (keeps rack []) (keep c.0 c.1 rack) named given (ends_of endings) workers (λ files rest reads. held_files words (record { job = Serve rack scripts workers; is_quiet = asks.0 }) named.holds given.input files rest asks.1 reads) c.2
-      | inr none ↦ inr (none_begun received receipts (ends_of endings) The IsEmpty tt none)
+      | inr none ↦ inr (none_begun received receipts (ends_of endings) The (IsWrongRackOf The rack) IsEmpty tt none)
     ]
 
-    abbrev LiveKeeps : (SharedRack → List Text → Calls → Type 0) → Type 0
+    abbrev LiveKeeps : Leave → Type 0
     LiveKeeps keeps = (lost : Lost) → may lost → (rack : SharedRack) (names : List Text) (book : Account) (calls : Calls) → AreCallsOf calls book → AreLiveKept named.holds received rack names (Some book) receipts lost → keeps rack names calls
 
-    clients_kept : (keeps : SharedRack → List Text → Calls → Type 0) → LiveKeeps keeps → KeepsClients The (kept_by received receipts) (clients_of comes had endings) keeps
+    clients_kept : (keeps : Leave) → LiveKeeps keeps → KeepsClients The (kept_by received receipts) (clients_of comes had endings) keeps
     clients_kept keeps keep rack names workers asks written = elim (come (record { job = Host rack names workers; is_quiet = asks.0 }) tt asks.1) [
       | inl c ↦ clients_come received receipts c.0 named given The rack names (keeps rack names) (keep c.0 c.1 rack names) (λ out text is holds. (λ input. absurd (host_named rack names workers words asks.0 asks.1 out is input), λ other. holds)) comes had endings workers (ap (λ clients. clients names) known)
           (λ files rest reads. held_files words (record { job = Host rack names workers; is_quiet = asks.0 }) named.holds given.input files rest asks.1 reads) c.2
-      | inr none ↦ inr (none_begun received receipts (ends_of endings) The (IsAsItWas The rack.record_out names) tt none, none_ended endings none.none_ended)
+      | inr none ↦ inr (none_begun received receipts (ends_of endings) The (λ refusal. IsWrongLive The rack names refusal ⊎ (refusal ≡ Threads)) (IsAsItWas The rack.record_out names) tt none, none_ended endings none.none_ended)
     ]
 
-    talks_kept : (keeps : SharedRack → List Text → Calls → Type 0) → LiveKeeps keeps → KeepsTalks The (kept_by received receipts) keeps
+    talks_kept : (keeps : Leave) → LiveKeeps keeps → KeepsTalks The (kept_by received receipts) keeps
     talks_kept keeps keep rack asks written = elim (come (record { job = Talk rack; is_quiet = asks.0 }) tt asks.1) [
       | inl c ↦ talk_comes received receipts c.0 named given The rack (keeps rack []) (keep c.0 c.1 rack []) (λ out text is holds. (λ input. absurd (talk_named rack words asks.0 asks.1 out is input), λ other. holds)) (ends_of endings)
           (λ rest files reads came is. (λ same. known_came given.input came (subst (λ (o : Option (List ℕ)). IfSome o (λ text. text ≡ came)) (talk_reads named.holds given.input rack words asks.0 asks.1 files rest reads) is), λ other. absurd (other refl)))
           (λ files rest reads. held_files words (record { job = Talk rack; is_quiet = asks.0 }) named.holds given.input files rest asks.1 reads) c.2
-      | inr none ↦ inr (none_begun received receipts (ends_of endings) The (IsAsItWas The rack.record_out []) tt none)
+      | inr none ↦ inr (none_begun received receipts (ends_of endings) The (IsWrongLive The rack []) (IsAsItWas The rack.record_out []) tt none)
     ]
 
 live_whole : {C : Type 0} (received : C → Closed) (receipts : Receipts C) (holds : Holding) (lost : Lost) → lost ≡ lost_none → (rack : SharedRack) (names : List Text) (book : Account) (calls : Calls) → AreCallsOf calls book → AreLiveKept holds received rack names (Some book) receipts lost → AreKept (kept_by received receipts) rack names calls
@@ -121,71 +108,90 @@ live_told received receipts holds lost any rack names book calls are kept = are_
 
 -- ---- all promises
 
+keeps_all : (named : Named) (given : Given) (ports : Ways) (words : List Text) (prints : List ℕ → Type 0) (status : ℕ) (files : Kept) (clients : Clients) (scripts_leave live_leave : Leave) → let run = the_run named given words prints status in Answers run → JobsCome named given ports run
+    → KeepsScripts run files scripts_leave → KeepsClients run files clients live_leave → KeepsTalks run files live_leave → KeepsAll run given.ports ports files clients scripts_leave live_leave
+keeps_all named given ports words prints status files clients scripts_leave live_leave all jobs scripts live talks = record {
+  plans = keeps_plans _ all;
+  checks = keeps_checks _ all;
+  runs = keeps_runs _ all;
+  images = keeps_images _ all;
+  directions = keeps_directions _ all;
+  switches = keeps_switches _ all;
+  orders = keeps_orders _ all;
+  drives = keeps_drives named given ports words prints status jobs;
+  stops = keeps_stops named given ports words prints status jobs;
+  replies = keeps_replies named given ports words prints status jobs;
+  pictures = keeps_pictures _ all;
+  scripts = scripts;
+  live = live;
+  talks = talks;
+  replays = keeps_replays _ all;
+  refusals = keeps_refusals _ all;
+}
+
 pub keeps_promises : {C : Type 0} (e : Ended) (after : Ways) (received : C → Closed) (receipts : Receipts C) (comes : Text → Option (List ℕ)) (had : Text → List ℕ) (endings : List (Ending (List ℕ))) → e.given.clients ≡ clients_by comes had
     → ((job : Job) (response : Response) → e.keeps job response → response.ports ≡ after) → ((job : Job) (response : Response) → e.keeps job response → KeepsSo e.named.holds received receipts (ends_of endings) lost_none job response)
     → (e.none → (receipts ≡ none_opened) × (after ≡ e.given.ports) × (ends_of endings ≡ [])) → EndsSo e
     → KeepsPromises (ended_run e) (front_of e.named.holds e.given.input e.streams.out_before e.streams.out_after e.words) e.given.ports after (kept_by received receipts) (clients_of comes had endings)
 keeps_promises e after received receipts comes had endings known ports so none is =
-    let all = text_ends e is in
     let come = sessions_come e received receipts (ends_of endings) so (λ n. ((none n).0, (none n).2)) is in
+    let files = kept_by received receipts in
     record {
       one = one_request e.words;
       ends = ends_well e is;
-      plans = keeps_plans _ all;
-      checks = keeps_checks _ all;
-      runs = keeps_runs _ all;
-      images = keeps_images _ all;
-      directions = keeps_directions _ all;
-      switches = keeps_switches _ all;
-      orders = keeps_orders _ all;
-      drives = keeps_drives e after ports is;
-      stops = keeps_stops e after ports (λ n. (none n).1) is;
-      replies = keeps_replies e is;
-      pictures = keeps_pictures _ all;
-      scripts = scripts_kept received receipts comes had endings e.named e.given known e.words _ e.code (λ lost. lost ≡ lost_none) come (AreKept (kept_by received receipts))
-          (λ lost same rack book calls are written. are_kept received rack [] receipts book calls are (subst (λ (l : Lost). AreWritten received (recorded_in rack) rack.image_out [] book receipts l) same written));
-      live = clients_kept received receipts comes had endings e.named e.given known e.words _ e.code (λ lost. lost ≡ lost_none) come (AreKept (kept_by received receipts)) (live_whole received receipts e.named.holds);
-      talks = talks_kept received receipts comes had endings e.named e.given known e.words _ e.code (λ lost. lost ≡ lost_none) come (AreKept (kept_by received receipts)) (live_whole received receipts e.named.holds);
-      replays = keeps_replays _ all;
-      refusals = keeps_refusals _ all;
+      all = keeps_all e.named e.given after e.words _ e.code files (clients_of comes had endings) (AreKept files) (AreKept files) (text_ends e is) (jobs_come e after ports (λ n. (none n).1) is)
+          (scripts_kept received receipts comes had endings e.named e.given known e.words _ e.code (λ lost. lost ≡ lost_none) come (AreKept files)
+          (λ lost same rack book calls are written. are_kept received rack [] receipts book calls are (subst (λ (l : Lost). AreWritten received (recorded_in rack) rack.image_out [] book receipts l) same written)))
+          (clients_kept received receipts comes had endings e.named e.given known e.words _ e.code (λ lost. lost ≡ lost_none) come (AreKept files) (live_whole received receipts e.named.holds))
+          (talks_kept received receipts comes had endings e.named e.given known e.words _ e.code (λ lost. lost ≡ lost_none) come (AreKept files) (live_whole received receipts e.named.holds));
       misuse = λ misused request asks. asks_nothing e is request asks misused;
+      some = some_ask;
+      others = keeps_others received receipts comes had endings after e ports so none is;
+      nothing = keeps_nothing received receipts comes had endings after e ports so none is;
       fronts_too = λ unwritten. absurd (all_written e is unwritten);
     }
 
-pub keeps_in_part : {C : Type 0} (words : List Text) (named : Named) (left : Leaving) (given : Given) (out_before out_after : Option (List ℕ)) (code : ℕ) (after : Ways) (received : C → Closed) (receipts : Receipts C) (comes : Text → Option (List ℕ)) (had : Text → List ℕ) (endings : List (Ending (List ℕ)))
-    → given.clients ≡ clients_by comes had → ((job : Job) (response : Response) → left.keeps job response → (lost : Lost) × KeepsSo named.holds received receipts (ends_of endings) lost job response) → (left.none → (receipts ≡ none_opened) × (ends_of endings ≡ [])) → code ≡ UNWRITTEN
+pub keeps_in_part : {C : Type 0} (words : List Text) (named : Named) (left : Leaving) (given : Given) (out_before out_after : Option (List ℕ)) (code : ℕ) (received : C → Closed) (receipts : Receipts C) (comes : Text → Option (List ℕ)) (had : Text → List ℕ) (endings : List (Ending (List ℕ)))
+    → given.clients ≡ clients_by comes had → ((job : Job) (response : Response) → left.keeps job response → (lost : Lost) × KeepsSo named.holds received receipts (ends_of endings) lost job response) → (left.none → (receipts ≡ none_opened) × (ends_of endings ≡ []))
+    → ((job : Job) (response : Response) → left.keeps job response → response.ports ≡ left.ports) → (left.none → left.ports ≡ given.ports) → code ≡ UNWRITTEN
     → IsCutFor named left words given out_before out_after
-    → KeepsPromises (run_of named.holds given.input out_before out_after words code) (front_of named.holds given.input out_before out_after words) given.ports after (kept_by received receipts) (clients_of comes had endings)
-keeps_in_part words named left given out_before out_after code after received receipts comes had endings known so none unwritten is =
-    let cut = cut_ends received receipts (ends_of endings) words named left given out_before out_after so none is in
+    → KeepsOthers (run_of named.holds given.input out_before out_after words code) given.ports left.ports (kept_by received receipts) (clients_of comes had endings)
+    → KeepsNothing (run_of named.holds given.input out_before out_after words code) given.ports left.ports (kept_by received receipts) (clients_of comes had endings)
+    → KeepsPromises (run_of named.holds given.input out_before out_after words code) (front_of named.holds given.input out_before out_after words) given.ports left.ports (kept_by received receipts) (clients_of comes had endings)
+keeps_in_part words named left given out_before out_after code received receipts comes had endings known so none ports none_ports unwritten is others nothing =
+    let cut = cut_ends received receipts (ends_of endings) words named left given out_before out_after so none ports none_ports is in
+    let files = kept_by received receipts in
     record {
       one = one_request words;
       ends = omega (arith, unwritten);
-      plans = no_plans _ unwritten;
-      checks = no_checks _ unwritten;
-      runs = no_runs _ unwritten;
-      images = no_images _ unwritten;
-      directions = no_directions _ unwritten;
-      switches = no_switches _ unwritten;
-      orders = no_orders _ unwritten;
-      drives = no_drives _ _ _ unwritten;
-      stops = no_stops _ _ _ unwritten;
-      replies = no_replies _ unwritten;
-      pictures = no_pictures _ unwritten;
-      scripts = λ rack scripts workers asks written. absurd (written unwritten);
-      live = λ rack names workers asks written. absurd (written unwritten);
-      talks = λ rack asks written. absurd (written unwritten);
-      replays = no_replays _ unwritten;
-      refusals = no_refusals _ unwritten;
+      all = record {
+        plans = no_plans _ unwritten;
+        checks = no_checks _ unwritten;
+        runs = no_runs _ unwritten;
+        images = no_images _ unwritten;
+        directions = no_directions _ unwritten;
+        switches = no_switches _ unwritten;
+        orders = no_orders _ unwritten;
+        drives = no_drives _ _ _ unwritten;
+        stops = no_stops _ _ _ unwritten;
+        replies = no_replies _ unwritten;
+        pictures = no_pictures _ unwritten;
+        scripts = λ rack scripts workers asks written. absurd (written unwritten);
+        live = λ rack names workers asks written. absurd (written unwritten);
+        talks = λ rack asks written. absurd (written unwritten);
+        replays = no_replays _ unwritten;
+        refusals = no_refusals _ unwritten;
+      };
       misuse = λ misused request asks. absurd (omega (arith, misused, unwritten));
+      some = some_ask;
+      others = others;
+      nothing = nothing;
       fronts_too = λ same. (
         cut.status,
-        record {
-          ends = cut.either;
-          texts = texts _ cut.texts;
-          scripts = scripts_kept received receipts comes had endings named given known words _ cut.status (λ lost. ⊤) cut.sessions (AreKeptInPart (kept_by received receipts)) (λ lost may rack book calls are written. are_part received rack [] receipts book calls are lost written);
-          live = clients_kept received receipts comes had endings named given known words _ cut.status (λ lost. ⊤) cut.sessions (AreToldKept (kept_by received receipts)) (live_told received receipts named.holds);
-          talks = talks_kept received receipts comes had endings named given known words _ cut.status (λ lost. ⊤) cut.sessions (AreToldKept (kept_by received receipts)) (live_told received receipts named.holds);
-        },
+        cut.either,
+        keeps_all named given left.ports words _ cut.status files (clients_of comes had endings) (AreKeptInPart files) (AreToldKept files) cut.texts cut.jobs
+            (scripts_kept received receipts comes had endings named given known words _ cut.status (λ lost. ⊤) cut.sessions (AreKeptInPart files) (λ lost may rack book calls are written. are_part received rack [] receipts book calls are lost written))
+            (clients_kept received receipts comes had endings named given known words _ cut.status (λ lost. ⊤) cut.sessions (AreToldKept files) (live_told received receipts named.holds))
+            (talks_kept received receipts comes had endings named given known words _ cut.status (λ lost. ⊤) cut.sessions (AreToldKept files) (live_told received receipts named.holds)),
       );
     }

@@ -1,6 +1,6 @@
 -- The promises of `serve`, `host` and `talk`: what the files of a record and of an image hold, and how
 -- the program ends.
-use Rattle.std.proofs.Common.{◌≡◌, ◌≢◌, ◌∙◌, ◌++◌, ◌+◌, ◌||◌, ℕ, Bool, true, false, List, [], ◌∷◌, length, take, map, fold, Option, Some, None, inl, inr, ◌⊎◌, refl, sym, ap, ap₂, subst, append-nil, arith}
+use Rattle.std.proofs.Common.{◌≡◌, ◌≢◌, ◌≤◌, ◌∙◌, ◌++◌, ◌+◌, ◌||◌, ℕ, Bool, true, false, List, [], ◌∷◌, length, take, map, fold, Option, Some, None, inl, inr, ◌⊎◌, refl, sym, ap, ap₂, subst, append-nil, arith}
 use Rattle.std.specs.Prelude.{IfSome, codes, is_some, option_map, option_to_list, slice_get}
 use Rattle.std.specs.List.{AllByRecursion, flat_map, list_any}
 use Rattle.std.proofs.lemmas.List.Elements.{recursion_from_All}
@@ -10,12 +10,13 @@ use Rattle.batch_book.specs.History.{Account, new_account}
 use Rattle.batch_book.specs.Machine.{Machine, opened}
 use Rattle.batch_book.specs.Recording.{AreAllBut}
 use Rattle.batch_book.specs.Seats.{own}
+use Rattle.batch_book.specs.Values.{greatest}
 use Rattle.batch_book.specs.declared.entry.Entry.{Entry}
 use Rattle.book_record.specs.Fronts.{end_line}
 use Rattle.book_record.specs.Heads.{session_limit}
 use Rattle.book_record.specs.RecordText.{entry_text}
 use Rattle.clap.specs.Words.{Text}
-use Rattle.client_session.specs.Turns.{turn_text}
+use Rattle.client_session.specs.Turns.{AreReadings, turn_text}
 use Rattle.client_session.specs.declared.fault.ServeFault.{ServeFault}
 use Rattle.command_words.specs.Jobs.{Files, MayHaveName, file, files_of, input_name, recorded_in}
 use Rattle.command_words.specs.declared.jobs.Job.{Job}
@@ -24,31 +25,34 @@ use Rattle.command_words.specs.declared.jobs.RecordFile.{RecordFile}
 use Rattle.command_words.specs.declared.jobs.SharedRack.{SharedRack}
 use Rattle.command_words.specs.declared.uses.Access.TheVariants.{Write}
 use Rattle.command_words.specs.declared.uses.FileUse.{FileUse}
-use Rattle.exchange.proofs.PromisedSessions.{AreCallsOf, HasOwn, all_are_told, all_sessions, are_calls, calls_of, in_order, one_session, opens, shape_of}
+use Rattle.exchange.proofs.EndStatuses.{gave_up}
+use Rattle.exchange.proofs.PromisedSessions.{AreCallsOf, HasOwn, all_are_told, all_sessions, are_calls, calls_of, in_order, one_session, opens, seen_within, shape_of}
 use Rattle.exchange.specs.Keeping.{AreKeptBut}
-use Rattle.exchange.specs.Promises.{AreHeld, AreAllHeld, AreKept, AreKeptInPart, AreToldKept, Calls, GoesOnFrom, HasHosted, HasRefusedSessions, HasServed, HasTalked, HoldsGiven, Hosted, IsAsItWas, IsBegun, IsEmpty, IsHosted, IsKept, IsKeptInPart, IsSessionOf, IsUnput, Run, Session, calls_told, clients_of, hosted_text, kept_by, name_at, record_of, whole_record}
+use Rattle.exchange.specs.Promises.{AreHeld, AreAllHeld, AreKept, AreKeptInPart, AreToldKept, Calls, GoesOnFrom, HasHosted, HasRefusedSessions, HasServed, HasTalked, HoldsGiven, Hosted, IsAsItWas, IsBegun, IsEmpty, IsHosted, IsKept, IsKeptInPart, IsSessionOf, IsUnput, IsWrongLive, IsWrongRackOf, Run, Session, calls_told, clients_of, hosted_text, kept_by, name_at, record_of, whole_record}
 use Rattle.exchange.specs.Responses.{Given, IsResponseTo, Named, Response}
-use Rattle.kept_sessions.specs.Answers.{IsLiveAnswer, hosting, loses, talking}
+use Rattle.kept_sessions.specs.Answers.{IsLiveAnswer, IsWrongStart, hosting, loses, talking}
 use Rattle.kept_sessions.specs.Keeping.{AreLiveKept, AreScriptsKept, AreWritten, HasAllTold}
-use Rattle.kept_sessions.specs.Records.{BeginsFor, IsAsBegun, head_for, whole_record as whole_of}
+use Rattle.kept_sessions.specs.Records.{BeginsFor, IsAsBegun, IsWrongFor, head_for, whole_record as whole_of}
 use Rattle.module_memory.specs.Images.{image_of}
 use Rattle.module_memory.specs.Store.{Store}
 use Rattle.named_files.specs.Clients.{clients_by, ends_of}
 use Rattle.named_files.specs.Contents.{AreContents, Holding}
-use Rattle.named_files.specs.Notes.{refusal_of, unanswered}
+use Rattle.named_files.specs.Notes.{unanswered}
 use Rattle.named_files.specs.Outputs.{HasNothingGone, IsFileWritten, lost_none}
 use Rattle.named_files.specs.Streams.{Closed}
 use Rattle.named_files.specs.declared.lost.Lost.{Lost}
 use Rattle.named_files.specs.declared.lost.Reason.{Reason}
 use Rattle.named_files.specs.declared.outputs.Receipts.{Receipts}
 use Rattle.named_files.specs.declared.unanswered.Unanswered.{Unanswered}
+use Rattle.named_files.specs.declared.unanswered.Unanswered.TheVariants as why
 use Rattle.plan_answers.specs.Refusals.{Printed, Refuses}
 use Rattle.plan_answers.specs.declared.limits.TheConstants.{REFUSED}
 use Rattle.rack_answers.specs.Openings.{IsOfImageOrZeros}
 use Rattle.record_replay.specs.Replays.{IsRemade}
+use Rattle.record_replay.specs.declared.fault.RecordFault.{RecordFault}
 use Rattle.refusals.specs.Refusals.{refusal_line}
 use Rattle.refusals.specs.declared.refusal.Refusal.{Refusal}
-use Rattle.refusals.specs.declared.refusal.Refusal.TheVariants.{NoMemory}
+use Rattle.refusals.specs.declared.refusal.Refusal.TheVariants.{NoMemory, Threads}
 use Rattle.session_answers.specs.Frames.{Transcript, end_line as line_of_end}
 use Rattle.session_answers.specs.Histories.{Part, status_at}
 use Rattle.session_answers.specs.HostAnswers.{HostedSession, IsHostedSession, KnownClients, SessionEnd, ending_line, has_failed, hosted_heading, hosted_text as text_hosted, seen_end}
@@ -67,19 +71,19 @@ same_front whole a b all x y =
     x.0 ∙ ap (λ (n : ℕ). take n all) same ∙ sym y.0
 
 module _ {C : Type 0} (received : C → Closed) where
-  whole_kept : (name : Option Text) (bytes : List ℕ) (receipt : Option C) → IsFileWritten received name bytes receipt None → IsKept name bytes (option_map received receipt)
+  whole_kept : (name : Option Text) (bytes : List ℕ) (receipt : Option C) → IsFileWritten received name bytes receipt None → IsKept (is_some name) bytes (option_map received receipt)
   whole_kept None bytes receipt is = ap (λ (r : Option C). option_map received r) is.0
   whole_kept (Some name) bytes None is = absurd is
   whole_kept (Some name) bytes (Some receipt) is = (is.0, is.1)
 
-  part_kept : (name : Option Text) (bytes : List ℕ) (receipt : Option C) (lost : Option Reason) → IsFileWritten received name bytes receipt lost → IsKeptInPart name bytes (option_map received receipt)
+  part_kept : (name : Option Text) (bytes : List ℕ) (receipt : Option C) (lost : Option Reason) → IsFileWritten received name bytes receipt lost → IsKeptInPart (is_some name) bytes (option_map received receipt)
   part_kept None bytes receipt lost is = ap (λ (r : Option C). option_map received r) is.0
   part_kept (Some name) bytes None lost is = absurd is
   part_kept (Some name) bytes (Some receipt) None is = ((bytes, [], sym (append-nil bytes), is.0), λ stands. is.0)
   part_kept (Some name) bytes (Some receipt) (Some lost) is = (is.0, λ stands. absurd (let bad : true ≡ false = sym stands ∙ is.1 in cc))
 
   front_kept : (name : Option Text) (bytes : List ℕ) (receipt : Option C) (lost : Option Reason) (names : List Text) (book : Account) (calls : Calls) → AreCallsOf calls book → IsFileWritten received name bytes receipt lost → IfSome receipt (λ r. HasAllTold names book (received r).bytes)
-      → IsBegun name (record_of names calls.opening (calls_told calls)) (option_map received receipt)
+      → IsBegun (is_some name) (record_of names calls.opening (calls_told calls)) (option_map received receipt)
   front_kept None bytes receipt lost names book calls are is told = ap (λ (r : Option C). option_map received r) is.0
   front_kept (Some name) bytes None lost names book calls are is told = absurd is
   front_kept (Some name) bytes (Some receipt) lost names book calls are is told =
@@ -137,10 +141,10 @@ pub record HasNone {C : Type 0} (receipts : Receipts C) (ends : List SessionEnd)
 unput_none : {C : Type 0} (received : C → Closed) (receipts : Receipts C) → receipts.image ≡ None → IsUnput (kept_by received receipts).image
 unput_none received receipts none = subst (λ r. IsUnput (option_map received r)) (sym none) tt
 
-pub none_begun : {C : Type 0} (received : C → Closed) (receipts : Receipts C) (ends : List SessionEnd) (run : Run) (is_left : Option Closed → Type 0) → is_left None → HasNone receipts ends run → HasRefusedSessions run (kept_by received receipts) is_left
-none_begun {C} received receipts ends run is_left none_left none = record {
+pub none_begun : {C : Type 0} (received : C → Closed) (receipts : Receipts C) (ends : List SessionEnd) (run : Run) (is_wrong : Refusal → Type 0) (is_left : Option Closed → Type 0) → is_left None → HasNone receipts ends run → HasRefusedSessions run (kept_by received receipts) is_wrong is_left
+none_begun {C} received receipts ends run is_wrong is_left none_left none = record {
   status = none.status;
-  refuses = (NoMemory, none.prints);
+  refuses = inr (gave_up run why.NoMemory none.prints);
   recorded = subst (λ (r : Option C). is_left (option_map received r)) (sym none.recorded) none_left;
   unput = unput_none received receipts none.image;
 }
@@ -158,24 +162,34 @@ as_it_was holds received (Some out) names (Some receipt) run by_name (held, text
     (held, text, by_name out held refl holds_so, ap (λ (c : Closed). c.bytes) so, begins)
 
 -- a refusal was printed
-refused_so : {C : Type 0} (received : C → Closed) (receipts : Receipts C) (name : Option Text) (run : Run) (is_left : Option Closed → Type 0) (refusal : Refusal) (printed : Printed) → Refuses refusal printed → run.prints printed.text → run.status ≡ printed.status → is_left (option_map received receipts.recorded) → HasNothingGone received name receipts.image
-    → HasRefusedSessions run (kept_by received receipts) is_left
-refused_so received receipts name run is_left refusal printed refuses prints status left gone = record {
+refused_so : {C : Type 0} (received : C → Closed) (receipts : Receipts C) (name : Option Text) (run : Run) (is_wrong : Refusal → Type 0) (is_left : Option Closed → Type 0) (refusal : Refusal) (printed : Printed) → is_wrong refusal → Refuses refusal printed → run.prints printed.text → run.status ≡ printed.status → is_left (option_map received receipts.recorded) → HasNothingGone received name receipts.image
+    → HasRefusedSessions run (kept_by received receipts) is_wrong is_left
+refused_so received receipts name run is_wrong is_left refusal printed wrong refuses prints status left gone = record {
   recorded = left;
   status = status ∙ refuses.1.status;
-  refuses = (refusal, subst run.prints refuses.1.line prints);
+  refuses = inl (refusal, wrong, subst run.prints refuses.1.line prints);
   unput = unput received name receipts.image gone;
 }
 
 -- there was no answer
-unanswered_so : {C : Type 0} (received : C → Closed) (receipts : Receipts C) (name : Option Text) (run : Run) (is_left : Option Closed → Type 0) (told : List ℕ) (printed : Printed) (why : Unanswered) → told ≡ [] → printed ≡ unanswered why → run.prints (told ++ printed.text) → run.status ≡ printed.status → is_left (option_map received receipts.recorded) → HasNothingGone received name receipts.image
-    → HasRefusedSessions run (kept_by received receipts) is_left
-unanswered_so received receipts name run is_left told printed why none is prints status left gone = record {
+unanswered_so : {C : Type 0} (received : C → Closed) (receipts : Receipts C) (name : Option Text) (run : Run) (is_wrong : Refusal → Type 0) (is_left : Option Closed → Type 0) (told : List ℕ) (printed : Printed) (reason : Unanswered) → told ≡ [] → printed ≡ unanswered reason → run.prints (told ++ printed.text) → run.status ≡ printed.status → is_left (option_map received receipts.recorded) → HasNothingGone received name receipts.image
+    → HasRefusedSessions run (kept_by received receipts) is_wrong is_left
+unanswered_so received receipts name run is_wrong is_left told printed reason none is prints status left gone = record {
   recorded = left;
   status = status ∙ ap (λ (p : Printed). p.status) is;
-  refuses = (refusal_of why, subst (λ (p : Printed). run.prints p.text) is (subst (λ (x : List ℕ). run.prints (x ++ printed.text)) none prints));
+  refuses = inr (gave_up run reason (subst (λ (p : Printed). run.prints p.text) is (subst (λ (x : List ℕ). run.prints (x ++ printed.text)) none prints)));
   unput = unput received name receipts.image gone;
 }
+
+-- why live sessions don't begin
+wrong_for : (run : Run) (holds : Holding) (record_out : Option RecordFile) (opening : Store) (names : List Text) (fault : RecordFault) → ((out : RecordFile) (text : List ℕ) → record_out ≡ Some out → holds out.name text → run.holds out.name text) → IsWrongFor holds record_out opening names fault → IsWrongFor run.holds record_out opening names fault
+wrong_for run holds None opening names fault by_name is = is
+wrong_for run holds (Some out) opening names fault by_name is = (is.0, is.1, by_name out is.1 refl is.2, is.3)
+
+wrong_live : (run : Run) (holds : Holding) (rack : SharedRack) (names : List Text) (bytes : Option (List ℕ)) (refusal : Refusal) → ((out : RecordFile) (text : List ℕ) → rack.record_out ≡ Some out → holds out.name text → run.holds out.name text) → HoldsGiven run.holds rack.image bytes → IsWrongStart holds rack names bytes refusal → IsWrongLive run rack names refusal
+wrong_live run holds rack names bytes refusal by_name held (inl wrong) = inl (bytes, held, wrong)
+wrong_live run holds rack names bytes refusal by_name held (inr (opening, of_rack, error, wrong, is)) =
+    inr (of_rack.extent, opening, record { shaped = of_rack.shape_read; opens = opens run rack.image bytes of_rack.extent opening held of_rack.words }, error, wrong_for run holds rack.record_out opening names error by_name wrong, is)
 
 -- ---- `serve`
 
@@ -183,10 +197,10 @@ module _ {C : Type 0} (received : C → Closed) (receipts : Receipts C) (lost : 
     (keep : (book : Account) (calls : Calls) → AreCallsOf calls book → AreWritten received (recorded_in rack) rack.image_out [] book receipts lost → keeps calls) where
   served_so : (bytes : Option (List ℕ)) (texts : List (List ℕ)) (printed : Printed) (left : Option Account)
       → HoldsGiven run.holds rack.image bytes → AreAllHeld run.holds scripts texts → run.prints printed.text → run.status ≡ printed.status → AreScriptsKept received (recorded_in rack) rack.image_out left receipts lost → IsServeAnswer rack.shape bytes texts printed left
-      → HasServed run rack scripts keeps ⊎ HasRefusedSessions run (kept_by received receipts) IsEmpty
+      → HasServed run rack scripts keeps ⊎ HasRefusedSessions run (kept_by received receipts) (IsWrongRackOf run rack) IsEmpty
   served_so bytes texts printed left held_image held prints status kept (refused refusal wrong refuses none) =
       let gone = subst (λ (l : Option Account). AreScriptsKept received (recorded_in rack) rack.image_out l receipts lost) none kept in
-      inr (refused_so received receipts rack.image_out run IsEmpty refusal printed refuses prints status (is_empty received (recorded_in rack) receipts.recorded gone.0) gone.1)
+      inr (refused_so received receipts rack.image_out run (IsWrongRackOf run rack) IsEmpty refusal printed (bytes, held_image, wrong) refuses prints status (is_empty received (recorded_in rack) receipts.recorded gone.0) gone.1)
   served_so bytes texts printed left held_image held prints status kept (served opening of_rack (sessions, of, book, is_left, few, closing)) =
       let one = closing.one in
       let b = beginning false (new_account opening) in
@@ -203,7 +217,7 @@ module _ {C : Type 0} (received : C → Closed) (receipts : Receipts C) (lost : 
         held = held;
         numbers = all.1.numbers ∙ of.numbers;
         each = subst (λ (e : Extent). AllByRecursion (λ (s : Session). IsSessionOf e one.told (slice_get texts s.number) s) all.0) (shape_of bytes of_rack.extent opening of_rack.words) all.1.each;
-        order = in_order false opening [] parts book one all.0 (all.1.entries 0);
+        order = in_order false opening [] parts book one all.0 (all.1.entries 0) (all.1.seen (greatest book.history) (recursion_from_All (λ (p : Part). p.seen ≤ greatest book.history) parts one.seen));
         no_earlier = refl;
         whole = all_are_told false opening [] parts book one refl;
         status = status ∙ closing.status ∙ ap status_at all.1.failed;
@@ -213,17 +227,17 @@ module _ {C : Type 0} (received : C → Closed) (receipts : Receipts C) (lost : 
 
   pub scripts_come : (named : Named) (given : Given) (ends : List SessionEnd) (workers : ℕ)
       → ((files : Files (List ℕ)) (rest : Option (List ℕ)) → AreContents named.holds given.input (files_of (Serve rack scripts workers)) files rest → AreHeld run.holds (files_of (Serve rack scripts workers)) files)
-      → Comes named given received receipts ends run (Serve rack scripts workers) lost → HasServed run rack scripts keeps ⊎ HasRefusedSessions run (kept_by received receipts) IsEmpty
+      → Comes named given received receipts ends run (Serve rack scripts workers) lost → HasServed run rack scripts keeps ⊎ HasRefusedSessions run (kept_by received receipts) (IsWrongRackOf run rack) IsEmpty
   scripts_come named given ends workers held c = by c.is
     where
-      by : IsResponseTo named given (Serve rack scripts workers) c.response → HasServed run rack scripts keeps ⊎ HasRefusedSessions run (kept_by received receipts) IsEmpty
+      by : IsResponseTo named given (Serve rack scripts workers) c.response → HasServed run rack scripts keeps ⊎ HasRefusedSessions run (kept_by received receipts) (IsWrongRackOf run rack) IsEmpty
       by (inl comes) =
           let is = comes.1 in
           let h = held is.0 is.1 is.2 in
           served_so is.0.image is.0.scripts c.response.end c.response.left h.image h.scripts (subst (λ (x : List ℕ). run.prints (x ++ c.response.end.text)) is.3.0 c.prints) c.status c.kept is.3.1
       by (inr none) =
           let gone = subst (λ (l : Option Account). AreScriptsKept received (recorded_in rack) rack.image_out l receipts lost) none.3 c.kept in
-          inr (unanswered_so received receipts rack.image_out run IsEmpty c.response.told c.response.end none.4.0 none.0 none.4.1 c.prints c.status (is_empty received (recorded_in rack) receipts.recorded gone.0) gone.1)
+          inr (unanswered_so received receipts rack.image_out run (IsWrongRackOf run rack) IsEmpty c.response.told c.response.end none.4.0 none.0 none.4.1 c.prints c.status (is_empty received (recorded_in rack) receipts.recorded gone.0) gone.1)
 
 -- ---- live sessions
 
@@ -313,13 +327,14 @@ module _ (comes : Text → Option (List ℕ)) (had : Text → List ℕ) (names :
     number : h.its.number ≡ v.part.session
     end : h.end ≡ e
     own_are : own h.its.number history ≡ v.part.entries
+    seen : AreReadings b.seen v.part.seen h.its.turns
     is : IsHostedAt h
 
   one_hosted : (part : Part) (end : SessionEnd) (e : Ending (List ℕ)) → end ≡ seen_end Some e → IsHostedSession b Known part end → HasOwn history part → (h : Hosted) × IsHostedOne (record { part = part; end = end }) e h
   one_hosted part end Unopened is hosted own_is =
       let unopened = subst (λ (x : SessionEnd). IsHostedSession b Known part x) is hosted in (
         record { its = record { number = part.session; turns = []; told = []; rest = []; fault = None }; end = Unopened },
-        record { number = refl; end = refl; own_are = sym own_is; is = sym own_is ∙ unopened.entries },
+        record { number = refl; end = refl; own_are = sym own_is; seen = record { low = tt; high = tt; rising = tt }; is = sym own_is ∙ unopened.entries },
       )
   one_hosted part end (Served fault bytes) is hosted own_is =
       let w = subst (λ (x : SessionEnd). IsHostedSession b Known part x) is hosted in
@@ -330,6 +345,7 @@ module _ (comes : Text → Option (List ℕ)) (had : Text → List ℕ) (names :
           number = one.1.number;
           end = refl;
           own_are = one.1.own_are;
+          seen = one.1.seen;
           is = (
             subst (λ (n : Text). IsSessionOf b.shape history (comes (n ++ codes ".in")) one.0) at one.1.is,
             one.1.fault,
@@ -344,10 +360,11 @@ module _ (comes : Text → Option (List ℕ)) (had : Text → List ℕ) (names :
     pub each : AllByRecursion IsHostedAt hs
     pub text : flat_map (text_hosted Known) vs ≡ flat_map (hosted_text names) hs
     pub entries : (n : ℕ) → fold (λ a (s : Session). a + length (own s.number history)) n (map (λ (h : Hosted). h.its) hs) ≡ fold (λ a (p : Part). a + length p.entries) n (map (λ (v : HostedSession). v.part) vs)
+    pub seen : (most : ℕ) → AllByRecursion (λ (p : Part). p.seen ≤ most) (map (λ (v : HostedSession). v.part) vs) → AllByRecursion (λ (s : Session). AreReadings b.seen most s.turns) (map (λ (h : Hosted). h.its) hs)
 
   pub all_hosted : (vs : List HostedSession) (es : List (Ending (List ℕ))) → map (λ (v : HostedSession). v.end) vs ≡ ends_of es → AllByRecursion (λ (v : HostedSession). IsHostedSession b Known v.part v.end) vs → AllByRecursion (HasOwn history) (map (λ (v : HostedSession). v.part) vs)
       → (hs : List Hosted) × AreHostedSo vs es hs
-  all_hosted [] [] same each owns = ([], record { numbers = refl; ends = refl; each = tt; text = refl; entries = λ n. refl })
+  all_hosted [] [] same each owns = ([], record { numbers = refl; ends = refl; each = tt; text = refl; entries = λ n. refl; seen = λ most all. tt })
   all_hosted [] (e ∷ es) same each owns = absurd (cc)
   all_hosted (v ∷ vs) [] same each owns = absurd (cc)
   all_hosted (v ∷ vs) (e ∷ es) same each owns =
@@ -362,6 +379,7 @@ module _ (comes : Text → Option (List ℕ)) (had : Text → List ℕ) (names :
           each = (one.1.is, more.1.each);
           text = ap₂ (λ (x y : List ℕ). x ++ y) (ap₂ (λ (n : ℕ) (l : List ℕ). hosted_heading Known n ++ l) (sym one.1.number) (ap (λ (x : SessionEnd). ending_line x) first ∙ same_line e ∙ ap (λ (x : Ending (List ℕ)). ending_line x) (sym one.1.end))) more.1.text;
           entries = λ n. ap (λ (xs : List Entry). fold (λ a (s : Session). a + length (own s.number history)) (n + length xs) (map (λ (h : Hosted). h.its) more.0)) one.1.own_are ∙ more.1.entries (n + length v.part.entries);
+          seen = λ most all. (seen_within one.0.its.turns b.seen v.part.seen most all.0 one.1.seen, more.1.seen most all.1);
         },
       )
 
@@ -374,7 +392,6 @@ as_came extent history came s is = record {
   each = is.each;
   lines = is.lines;
   entries = is.entries;
-  rising = is.rising;
   ends = is.ends;
 }
 
@@ -384,13 +401,18 @@ module _ {C : Type 0} (received : C → Closed) (receipts : Receipts C) (lost : 
   -- ---- `host`
 
   module _ (comes : Text → Option (List ℕ)) (had : Text → List ℕ) (endings : List (Ending (List ℕ))) where
+    abbrev IsWrongHost : Refusal → Type 0
+    IsWrongHost refusal = IsWrongLive run rack names refusal ⊎ (refusal ≡ Threads)
+
     abbrev HostedOr : Type 0
-    HostedOr = HasHosted run rack names (clients_of comes had endings) keeps ⊎ (HasRefusedSessions run (kept_by received receipts) (IsAsItWas run rack.record_out names) × (endings ≡ []))
+    HostedOr = HasHosted run rack names (clients_of comes had endings) keeps ⊎ (HasRefusedSessions run (kept_by received receipts) IsWrongHost (IsAsItWas run rack.record_out names) × (endings ≡ []))
 
     hosted_so : (bytes : Option (List ℕ)) (ends : List SessionEnd) (printed : Printed) (left : Option Account) → ends ≡ ends_of endings → HoldsGiven run.holds rack.image bytes → run.prints printed.text → run.status ≡ printed.status → AreLiveKept named.holds received rack names left receipts lost
         → IsLiveAnswer named.holds rack names bytes (hosting rack (clients_by comes had names) ends printed) printed left → HostedOr
-    hosted_so bytes ends printed None same held prints status kept (unserved, (refusal, refuses, why)) =
-        inr (refused_so received receipts rack.image_out run (IsAsItWas run rack.record_out names) refusal printed refuses prints status (as_it_was named.holds received rack.record_out names receipts.recorded run by_name kept.0) kept.1, none_ended endings (sym same ∙ unserved))
+    hosted_so bytes ends printed None same held prints status kept (unserved, (refusal, refuses, inl wrong)) =
+        inr (refused_so received receipts rack.image_out run IsWrongHost (IsAsItWas run rack.record_out names) refusal printed (inl (wrong_live run named.holds rack names bytes refusal by_name held wrong)) refuses prints status (as_it_was named.holds received rack.record_out names receipts.recorded run by_name kept.0) kept.1, none_ended endings (sym same ∙ unserved))
+    hosted_so bytes ends printed None same held prints status kept (unserved, (refusal, refuses, inr threads)) =
+        inr (refused_so received receipts rack.image_out run IsWrongHost (IsAsItWas run rack.record_out names) refusal printed (inr threads.2) refuses prints status (as_it_was named.holds received rack.record_out names receipts.recorded run by_name kept.0) kept.1, none_ended endings (sym same ∙ unserved))
     hosted_so bytes ends printed (Some book) same held prints status kept (opening, of_rack, was, begins, (sessions, ended, of, closing)) =
         let one = closing.one in
         let b = beginning (loses rack) was in
@@ -408,7 +430,7 @@ module _ {C : Type 0} (received : C → Closed) (receipts : Receipts C) (lost : 
           numbers = all.1.numbers ∙ of.numbers;
           ends = all.1.ends;
           each = subst (λ (e : Extent). AllByRecursion (λ (h : Hosted). IsHosted e one.told (clients_of comes had endings) (name_at names h.its.number) h.its h.end) all.0) extent_is all.1.each;
-          order = in_order (loses rack) was.opening was.history parts book one (map (λ (h : Hosted). h.its) all.0) (all.1.entries 0);
+          order = in_order (loses rack) was.opening was.history parts book one (map (λ (h : Hosted). h.its) all.0) (all.1.entries 0) (all.1.seen (greatest book.history) (recursion_from_All (λ (p : Part). p.seen ≤ greatest book.history) parts one.seen));
           status = status ∙ closing.status ∙ ap (λ (es : List SessionEnd). status_at (list_any has_failed es)) same ∙ ap status_at (same_failures endings);
           prints = subst run.prints (closing.prints ∙ all.1.text) prints;
           kept = keep book calls (are_calls (loses rack) was.opening was.history parts book one) kept;
@@ -427,7 +449,7 @@ module _ {C : Type 0} (received : C → Closed) (receipts : Receipts C) (lost : 
             (subst (λ (k : KnownClients). IsLiveAnswer named.holds rack names is.0.image (hosting rack k c.response.ends c.response.end) c.response.end c.response.left) known is.3.1)
         by (inr none) =
             let gone = subst (λ (l : Option Account). AreLiveKept named.holds received rack names l receipts lost) none.3 c.kept in
-            inr (unanswered_so received receipts rack.image_out run (IsAsItWas run rack.record_out names) c.response.told c.response.end none.4.0 none.0 none.4.1 c.prints c.status (as_it_was named.holds received rack.record_out names receipts.recorded run by_name gone.0) gone.1, none_ended endings (sym c.ends_are ∙ none.2))
+            inr (unanswered_so received receipts rack.image_out run IsWrongHost (IsAsItWas run rack.record_out names) c.response.told c.response.end none.4.0 none.0 none.4.1 c.prints c.status (as_it_was named.holds received rack.record_out names receipts.recorded run by_name gone.0) gone.1, none_ended endings (sym c.ends_are ∙ none.2))
 
 -- ---- `talk`
 
@@ -435,13 +457,14 @@ module _ {C : Type 0} (received : C → Closed) (receipts : Receipts C) (lost : 
     (keeps : Calls → Type 0) (keep : (book : Account) (calls : Calls) → AreCallsOf calls book → AreLiveKept named.holds received rack [] (Some book) receipts lost → keeps calls)
     (by_name : (out : RecordFile) (text : List ℕ) → rack.record_out ≡ Some out → named.holds out.name text → run.holds out.name text) where
   abbrev TalkedOr : Type 0
-  TalkedOr = HasTalked run rack keeps ⊎ HasRefusedSessions run (kept_by received receipts) (IsAsItWas run rack.record_out [])
+  TalkedOr = HasTalked run rack keeps ⊎ HasRefusedSessions run (kept_by received receipts) (IsWrongLive run rack []) (IsAsItWas run rack.record_out [])
 
   talked_so : (bytes : Option (List ℕ)) (before after : Option (List ℕ)) (told : List ℕ) (printed : Printed) (left : Option Account) → ((came : List ℕ) → IfSome before (λ text. text ≡ came) → run.holds input_name came)
       → HoldsGiven run.holds rack.image bytes → run.prints (told ++ printed.text) → run.status ≡ printed.status → AreLiveKept named.holds received rack [] left receipts lost
       → IsLiveAnswer named.holds rack [] bytes (talking rack before after told printed) printed left → TalkedOr
-  talked_so bytes before after told printed None input held prints status kept (untouched, (refusal, refuses, why)) =
-      inr (refused_so received receipts rack.image_out run (IsAsItWas run rack.record_out []) refusal printed refuses (subst (λ (x : List ℕ). run.prints (x ++ printed.text)) untouched.1 prints) status (as_it_was named.holds received rack.record_out [] receipts.recorded run by_name kept.0) kept.1)
+  talked_so bytes before after told printed None input held prints status kept (untouched, (refusal, refuses, inr none)) = absurd none.2
+  talked_so bytes before after told printed None input held prints status kept (untouched, (refusal, refuses, inl wrong)) =
+      inr (refused_so received receipts rack.image_out run (IsWrongLive run rack []) (IsAsItWas run rack.record_out []) refusal printed (wrong_live run named.holds rack [] bytes refusal by_name held wrong) refuses (subst (λ (x : List ℕ). run.prints (x ++ printed.text)) untouched.1 prints) status (as_it_was named.holds received rack.record_out [] receipts.recorded run by_name kept.0) kept.1)
   talked_so bytes before after told printed (Some book) input held prints status kept (opening, of_rack, was, begins, (t, first, told_is, session, closing)) =
       let one = closing.one in
       let b = beginning (loses rack) was in
@@ -462,7 +485,7 @@ module _ {C : Type 0} (received : C → Closed) (receipts : Receipts C) (lost : 
         held = input came s.1.is.read;
         number = s.1.number ∙ first;
         is = as_came of_rack.extent one.told before s.0 (subst (λ (e : Extent). IsSessionOf e one.told before s.0) extent_is s.1.is);
-        order = in_order (loses rack) was.opening was.history parts book one (s.0 ∷ []) (ap (λ (es : List Entry). 0 + length es) s.1.own_are);
+        order = in_order (loses rack) was.opening was.history parts book one (s.0 ∷ []) (ap (λ (es : List Entry). 0 + length es) s.1.own_are) (seen_within s.0.turns b.seen t.part.seen (greatest book.history) (recursion_from_All (λ (p : Part). p.seen ≤ greatest book.history) parts one.seen).0 s.1.seen, tt);
         status = status ∙ closing.status ∙ ap (λ (o : Option ServeFault). status_at (is_some o)) (sym s.1.fault);
         prints = subst run.prints (ap₂ (λ (x y : List ℕ). x ++ y) (sym told_is ∙ sym s.1.told) (closing.prints ∙ ap (λ (o : Option ServeFault). line_of_end o) (sym s.1.fault))) prints;
         kept = keep book calls (are_calls (loses rack) was.opening was.history parts book one) kept;
@@ -480,4 +503,4 @@ module _ {C : Type 0} (received : C → Closed) (receipts : Receipts C) (lost : 
           talked_so is.0.image is.1 is.3.0 c.response.told c.response.end c.response.left (input is.1 is.0 is.2) h.image c.prints c.status c.kept is.3.1
       by (inr none) =
           let gone = subst (λ (l : Option Account). AreLiveKept named.holds received rack [] l receipts lost) none.3 c.kept in
-          inr (unanswered_so received receipts rack.image_out run (IsAsItWas run rack.record_out []) c.response.told c.response.end none.4.0 none.0 none.4.1 c.prints c.status (as_it_was named.holds received rack.record_out [] receipts.recorded run by_name gone.0) gone.1)
+          inr (unanswered_so received receipts rack.image_out run (IsWrongLive run rack []) (IsAsItWas run rack.record_out []) c.response.told c.response.end none.4.0 none.0 none.4.1 c.prints c.status (as_it_was named.holds received rack.record_out [] receipts.recorded run by_name gone.0) gone.1)

@@ -1,7 +1,6 @@
 -- The promise of `drive`.
 use Rattle.std.proofs.Common.{◌≡◌, ◌<◌, ◌≤◌, ◌+◌, ◌∙◌, ◌++◌, ℕ, zero, suc, Bool, true, false, not, List, [], ◌∷◌, length, Option, Some, None, Err, inl, inr, ◌⊎◌, refl, sym, ap, subst, append_assoc, arith}
 use Rattle.std.specs.Prelude.{IfSome, codes, if◌then◌else◌}
-use Rattle.std.specs.Io.KnownBytes.{Appends}
 use Rattle.std.specs.List.{AllByRecursion}
 use Rattle.std.proofs.lemmas.List.{append-nil}
 use Rattle.batch.specs.Batches.{IsBatch}
@@ -15,7 +14,6 @@ use Rattle.c004_commands.specs.Commands.{text}
 use Rattle.c004_commands.specs.declared.command.Command.TheVariants.{Settle}
 use Rattle.clap.specs.Words.{Text}
 use Rattle.command_words.specs.Jobs.{AskFor, Files, files_of, schedule_in}
-use Rattle.command_words.specs.declared.jobs.Job.{Job}
 use Rattle.command_words.specs.declared.jobs.Job.TheVariants.{Drive}
 use Rattle.crossbar.proofs.Conversed.{conversed_bytes}
 use Rattle.crossbar.specs.Pairs.{room_of, switch_of}
@@ -34,15 +32,15 @@ use Rattle.drive_answers.specs.Answers as drives
 use Rattle.drive_answers.specs.Answers.{IsDriveAnswer, IsDrivenOver, IsFirstDriveWrong, IsTried, rack_for, switches_in}
 use Rattle.drive_answers.specs.Endings.{completed_line, fault_words, left_line, stopped_line}
 use Rattle.drive_answers.specs.Ways.{IsUnopened, Names, Ways, used}
-use Rattle.exchange.proofs.AskedJobs.{Ended, EndsSo, end_of, ended_run, never_done, not_done}
+use Rattle.exchange.proofs.AskedJobs.{JobsCome, Responded, ToldInPart, never_done, not_done, the_run}
+use Rattle.exchange.proofs.EndStatuses.{gave_up}
 use Rattle.exchange.proofs.HeldFiles.{given_text, held_files}
-use Rattle.exchange.proofs.PromisedRefusals.{done_is, gave_up, unwritten_is}
+use Rattle.exchange.proofs.PromisedRefusals.{done_is, unwritten_is}
 use Rattle.exchange.proofs.PromisedPlans.{plan_is}
 use Rattle.exchange.proofs.PromisedRuns.{denoted, scheduled}
 use Rattle.exchange.proofs.PromisedSwitches.{HoldsBoard, schedule_of, wired_so}
-use Rattle.exchange.specs.Ends.{IsDone}
 use Rattle.exchange.specs.Promises.{AreHeld, AreNoWays, HasAnswered, HasDriven, HasGivenUp, HasRefusedDrive, HasStopped, HoldsBatch, HoldsGiven, IsFirstWrongOn, IsScheduled, IsWired, KeepsDrives, KeepsStops, Ports, Run, Stands, StoodInTurn, lines_told, SaySchedule, lacking, no_setting, ports_of, switches_of, texts_wrong, wiring_wrong}
-use Rattle.exchange.specs.Responses.{Response, source_in, text_in}
+use Rattle.exchange.specs.Responses.{Given as Knows, Named, source_in, text_in}
 use Rattle.exchange.specs.declared.limits.TheConstants.{UNWRITTEN}
 use Rattle.link_graph.specs.Schedules.{IsScheduleOf}
 use Rattle.named_files.specs.declared.unanswered.Unanswered.TheVariants as why
@@ -360,24 +358,27 @@ answered run batch from file first names was opens waits text other wiring start
     driven run batch from file first names was opens waits text other board filled transfers settings start final printed held held_schedule (board_held run file wiring board held_wiring of) none prints status is ways fills tries
 answered run batch from file first names was opens waits text other wiring start final printed held held_schedule held_wiring none prints status (drives.wrong refusal wrong refuses same left) = absurd (never_done printed.status refuses.1.status status)
 
-keeps : (e : Ended) (after : Ways) → ((job : Job) (response : Response) → e.keeps job response → response.ports ≡ after)
-    → (batch port : Text) (port_b : Option Text) (from : Source Text) (wiring : Option Text) (first : ℕ) (goes_on : Bool) (workers : ℕ) (quiet : Bool) → AskFor e.words (record { job = Drive batch port port_b from wiring first goes_on workers; is_quiet = quiet })
-    → IsDone e.named e.keeps e.given (record { job = Drive batch port port_b from wiring first goes_on workers; is_quiet = quiet }) e.streams e.code → e.code ≡ DONE
-    → HasDriven (ended_run e) (ports_of port port_b e.given.ports after) batch from wiring first
-keeps e after ports batch port port_b from wiring first goes_on workers quiet asks (response, inl comes, keeping, printed, noted) done =
-    let is = comes.1 in
-    let held = held_files e.words (record { job = Drive batch port port_b from wiring first goes_on workers; is_quiet = quiet }) e.named.holds e.given.input is.0 is.1 asks is.2 in
-    let holds = (ended_run e).holds in
-    let by = is.3.1 in
-    subst (λ (w : Ways). HasDriven (ended_run e) (ports_of port port_b e.given.ports w) batch from wiring first) (ports _ response keeping)
-    (answered (ended_run e) batch from wiring first (record { port = port; port_b = port_b }) e.given.ports response.ports (not goes_on) (text_in is.0.list) is.0.other is.0.wiring
-    (record { told = []; left = is.1 }) (record { told = response.told; left = by.0 }) response.end (given_text holds batch is.0.list held.list) held.other held.wiring refl printed.text (sym printed.status ∙ done) by.1)
-keeps e after ports batch port port_b from wiring first goes_on workers quiet asks (response, inr none, keeping, printed, noted) done = absurd (never_done e.code (printed.status ∙ ap (λ (p : Printed). p.status) none.4.1) done)
+done_so : (named : Named) (known : Knows) (after : Ways) (words : List Text) (prints : List ℕ → Type 0) (status : ℕ) (batch port : Text) (port_b : Option Text) (from : Source Text) (wiring : Option Text) (first : ℕ) (goes_on : Bool) (workers : ℕ) (quiet : Bool) → AskFor words (record { job = Drive batch port port_b from wiring first goes_on workers; is_quiet = quiet })
+    → Responded named known after (the_run named known words prints status) (Drive batch port port_b from wiring first goes_on workers) → status ≡ DONE → HasDriven (the_run named known words prints status) (ports_of port port_b known.ports after) batch from wiring first
+done_so named known after words prints status batch port port_b from wiring first goes_on workers quiet asks r done = elim r.is [
+  | inl comes ↦
+      let is = comes.1 in
+      let run = the_run named known words prints status in
+      let held = held_files words (record { job = Drive batch port port_b from wiring first goes_on workers; is_quiet = quiet }) named.holds known.input is.0 is.1 asks is.2 in
+      let by = is.3.1 in
+      subst (λ (w : Ways). HasDriven run (ports_of port port_b known.ports w) batch from wiring first) r.ports_are
+      (answered run batch from wiring first (record { port = port; port_b = port_b }) known.ports r.response.ports (not goes_on) (text_in is.0.list) is.0.other is.0.wiring
+      (record { told = []; left = is.1 }) (record { told = r.response.told; left = by.0 }) r.response.end (given_text run.holds batch is.0.list held.list) held.other held.wiring refl r.prints (sym r.status ∙ done) by.1)
+  | inr none ↦ absurd (never_done status (r.status ∙ ap (λ (p : Printed). p.status) none.4.1) done)
+]
 
-pub keeps_drives : (e : Ended) (after : Ways) → ((job : Job) (response : Response) → e.keeps job response → response.ports ≡ after) → EndsSo e → KeepsDrives (ended_run e) e.given.ports after
-keeps_drives e after ports ends batch port port_b from wiring first goes_on workers done = elim (end_of e (record { job = Drive batch port port_b from wiring first goes_on workers; is_quiet = done.0.0 }) done.0.1 ends) [
-  | inl is ↦ keeps e after ports batch port port_b from wiring first goes_on workers done.0.0 done.0.1 is done.1
-  | inr gives_up ↦ absurd (never_done e.code gives_up.1.status done.1)
+pub keeps_drives : (named : Named) (known : Knows) (after : Ways) (words : List Text) (prints : List ℕ → Type 0) (status : ℕ) → JobsCome named known after (the_run named known words prints status) → KeepsDrives (the_run named known words prints status) known.ports after
+keeps_drives named known after words prints status come batch port port_b from wiring first goes_on workers done = elim (come (record { job = Drive batch port port_b from wiring first goes_on workers; is_quiet = done.0.0 }) done.0.1) [
+  | inl r ↦ done_so named known after words prints status batch port port_b from wiring first goes_on workers done.0.0 done.0.1 r done.1
+  | inr other ↦ elim other [
+    | inl cut ↦ absurd (never_done status cut.status done.1)
+    | inr none ↦ absurd (never_done status none.status done.1)
+  ]
 ]
 
 pub no_drives : (run : Run) (before after : Ways) → run.status ≡ UNWRITTEN → KeepsDrives run before after
@@ -420,6 +421,36 @@ ended_at Unheard waits old k numbers new which is = is.0
 ended_at Untold waits old k numbers new (inl which) is = absurd (cc)
 ended_at Untold waits old k numbers new (inr which) is = absurd (cc)
 
+module _ (run : Run) (batch : Text) (from : Source Text) (file : Option Text) (first : ℕ) (waits : Bool) (filled : Option BoardWiring) (transfers : List Transfer) (settings : List (List ℕ)) (start final : Dialogue) (r : Read run batch from file filled transfers settings) (none : start.told ≡ []) where
+  -- what was told before the last setting that stood
+  told_before : (halt : Halt) (k : ℕ) (carried : Option (List Passing)) → (went : EndsWith (TellsLine waits) halt (rack_for filled transfers) transfers settings first k (Some []) start carried final) → went.telling.told ≡ lines_told settings first went.count
+  told_before halt k carried went = (have_stood filled transfers settings r.given waits first went.count start went.telling went.mid (omega (arith, went.at, went.within)) none went.before).lines
+
+  -- it stood itself, and nothing more passed
+  last_stood : (names : Names) (was opens : Ways) (halt : Halt) (k : ℕ) (line : List ℕ) (carried : Option (List Passing)) (failed : ℕ) → (went : EndsWith (TellsLine waits) halt (rack_for filled transfers) transfers settings first k (Some []) start carried final)
+      → opens ≡ used names carried failed was → (line ≡ left_line k) ⊎ (line ≡ stopped_line k (codes "input")) → run.prints (lines_told settings first (went.count + 1) ++ line)
+      → HasStopped run (record { names = names; before = was; after = opens }) batch from file first
+  last_stood names was opens halt k line carried failed went ways is prints =
+      let t = have_stood filled transfers settings r.given waits first went.count start went.telling went.mid (omega (arith, went.at, went.within)) none went.before in
+      let grown = one_more filled transfers settings r.given first went.count t.passed carried (omega (arith, went.at, went.within)) t.last (subst (λ (o : Option (List Passing)). Stood (rack_for filled transfers) transfers settings first went.count o carried) t.known went.stood) in
+      record {
+        transfers = transfers;
+        settings = settings;
+        board = filled;
+        earlier = grown.passed;
+        more = [];
+        count = went.count + 1;
+        failed = failed;
+        line = line;
+        held = r.held;
+        schedule = r.schedule;
+        wired = r.wired;
+        opened = ways ∙ ap (λ (c : Option (List Passing)). used names c failed was) (grown.known ∙ ap Some (sym (append-nil grown.passed)));
+        stood = stood_more filled transfers settings first went.count t.passed grown.more grown.passed grown.parts t.stood (turned_all filled transfers settings r.given (first + went.count) (pairs_at transfers settings (first + went.count)) grown.passed refl (omega (arith, went.at, went.within)) grown.is);
+        last = inr (k, omega (arith, went.at), went.within, omega (arith, went.at), refl, is);
+        prints = prints;
+      }
+
 module _ (run : Run) (batch : Text) (from : Source Text) (file : Option Text) (first : ℕ) (names : Names) (was opens : Ways) (waits : Bool) (filled : Option BoardWiring) (transfers : List Transfer) (settings : List (List ℕ)) (start final : Dialogue) (printed : Printed)
     (r : Read run batch from file filled transfers settings) (none : start.told ≡ []) (prints : run.prints (final.told ++ printed.text)) where
   stopped_at : (k : ℕ) (fault : SettingFault) → IsDrivenOver (TellsLine waits) (rack_for filled transfers) transfers settings first (Stopped k fault) names was opens start final → printed.text ≡ stopped_line k (fault_words fault)
@@ -450,26 +481,9 @@ module _ (run : Run) (batch : Text) (from : Source Text) (file : Option Text) (f
       → opens ≡ used names carried failed was → printed.text ≡ line → (line ≡ left_line k) ⊎ (line ≡ stopped_line k (codes "input"))
       → HasStopped run (record { names = names; before = was; after = opens }) batch from file first
   left_at halt k line carried failed which went ways text is =
-      let t = have_stood filled transfers settings r.given waits first went.count start went.telling went.mid (omega (arith, went.at, went.within)) none went.before in
-      let grown = one_more filled transfers settings r.given first went.count t.passed carried (omega (arith, went.at, went.within)) t.last (subst (λ (o : Option (List Passing)). Stood (rack_for filled transfers) transfers settings first went.count o carried) t.known went.stood) in
-      let told : final.told ≡ lines_told settings first (went.count + 1) = ended_at halt waits went.telling k (numbers_in settings k) final which went.said ∙ ap (λ (x : List ℕ). x ++ stage_line k (numbers_in settings k)) t.lines ∙ more_lines settings first went.count k went.at in
-      record {
-        transfers = transfers;
-        settings = settings;
-        board = filled;
-        earlier = grown.passed;
-        more = [];
-        count = went.count + 1;
-        failed = failed;
-        line = line;
-        held = r.held;
-        schedule = r.schedule;
-        wired = r.wired;
-        opened = ways ∙ ap (λ (c : Option (List Passing)). used names c failed was) (grown.known ∙ ap Some (sym (append-nil grown.passed)));
-        stood = stood_more filled transfers settings first went.count t.passed grown.more grown.passed grown.parts t.stood (turned_all filled transfers settings r.given (first + went.count) (pairs_at transfers settings (first + went.count)) grown.passed refl (omega (arith, went.at, went.within)) grown.is);
-        last = inr (k, omega (arith, went.at), went.within, omega (arith, went.at), refl, is);
-        prints = subst (λ (x : List ℕ). run.prints (x ++ line)) told (subst (λ (x : List ℕ). run.prints (final.told ++ x)) text prints);
-      }
+      let told : final.told ≡ lines_told settings first (went.count + 1) = ended_at halt waits went.telling k (numbers_in settings k) final which went.said
+      ∙ ap (λ (x : List ℕ). x ++ stage_line k (numbers_in settings k)) (told_before run batch from file first waits filled transfers settings start final r none halt k carried went) ∙ more_lines settings first went.count k went.at in
+      last_stood run batch from file first waits filled transfers settings start final r none names was opens halt k line carried failed went ways is (subst (λ (x : List ℕ). run.prints (x ++ line)) told (subst (λ (x : List ℕ). run.prints (final.told ++ x)) text prints))
 
 -- what is first wrong with the texts
 says : (from : Source (List ℕ)) (text : List ℕ) (batch : List Transfer) (settings : List (List ℕ)) → IsScheduleFrom from widest text batch settings → SaySchedule from text batch settings
@@ -544,29 +558,58 @@ module _ (run : Run) (batch port : Text) (port_b : Option Text) (from : Source T
   stops_so (drives.wrong refusal wrong refuses same left) =
       inr (refused_so run (ports_of port port_b was opens) batch port port_b from file first goes_on workers texts refusal start final printed held none same prints refuses.1 left (inl (wrong_on _ (text_in texts.list) texts.wiring first refusal wrong)))
 
-stops : (e : Ended) (after : Ways) → ((job : Job) (response : Response) → e.keeps job response → response.ports ≡ after)
-    → (batch port : Text) (port_b : Option Text) (from : Source Text) (wiring : Option Text) (first : ℕ) (goes_on : Bool) (workers : ℕ) (quiet : Bool) → AskFor e.words (record { job = Drive batch port port_b from wiring first goes_on workers; is_quiet = quiet })
-    → IsDone e.named e.keeps e.given (record { job = Drive batch port port_b from wiring first goes_on workers; is_quiet = quiet }) e.streams e.code → e.code ≡ REFUSED
-    → HasStopped (ended_run e) (ports_of port port_b e.given.ports after) batch from wiring first
-    ⊎ (HasRefusedDrive (ended_run e) (ports_of port port_b e.given.ports after) (Drive batch port port_b from wiring first goes_on workers) from first ⊎ (HasGivenUp (ended_run e) × (after ≡ e.given.ports)))
-stops e after ports batch port port_b from wiring first goes_on workers quiet asks (response, inl comes, keeping, printed, noted) refused =
-    let is = comes.1 in
-    let held = held_files e.words (record { job = Drive batch port port_b from wiring first goes_on workers; is_quiet = quiet }) e.named.holds e.given.input is.0 is.1 asks is.2 in
-    let by = is.3.1 in
-    let came = stops_so (ended_run e) batch port port_b from wiring first goes_on workers is.0 e.given.ports response.ports (record { told = []; left = is.1 }) (record { told = response.told; left = by.0 }) response.end held refl printed.text (sym printed.status ∙ refused) by.1 in
-    let moved = subst (λ (w : Ways). HasStopped (ended_run e) (ports_of port port_b e.given.ports w) batch from wiring first ⊎ HasRefusedDrive (ended_run e) (ports_of port port_b e.given.ports w) (Drive batch port port_b from wiring first goes_on workers) from first) (ports _ response keeping) came in
-    elim moved [
-      | inl stopped ↦ inl stopped
-      | inr refuses ↦ inr (inl refuses)
-    ]
-stops e after ports batch port port_b from wiring first goes_on workers quiet asks (response, inr none, keeping, printed, noted) refused =
-    let text = subst (λ (told : List ℕ). Appends e.streams.out_before e.streams.out_after (told ++ response.end.text)) none.0 printed.text in
-    inr (inr (gave_up (ended_run e) none.4.0 (subst (λ (p : Printed). Appends e.streams.out_before e.streams.out_after p.text) none.4.1 text), sym (ports _ response keeping) ∙ none.1))
+module _ (named : Named) (known : Knows) (after : Ways) (words : List Text) (prints : List ℕ → Type 0) (status : ℕ) (batch port : Text) (port_b : Option Text) (from : Source Text) (wiring : Option Text) (first : ℕ) (goes_on : Bool) (workers : ℕ) (quiet : Bool)
+    (asks : AskFor words (record { job = Drive batch port port_b from wiring first goes_on workers; is_quiet = quiet })) where
+  abbrev Stopped1 : Type 0
+  Stopped1 = HasStopped (the_run named known words prints status) (ports_of port port_b known.ports after) batch from wiring first
 
-pub keeps_stops : (e : Ended) (after : Ways) → ((job : Job) (response : Response) → e.keeps job response → response.ports ≡ after) → (e.none → after ≡ e.given.ports) → EndsSo e → KeepsStops (ended_run e) e.given.ports after
-keeps_stops e after ports same ends batch port port_b from wiring first goes_on workers asks refused = elim (end_of e (record { job = Drive batch port port_b from wiring first goes_on workers; is_quiet = asks.0 }) asks.1 ends) [
-  | inl is ↦ stops e after ports batch port port_b from wiring first goes_on workers asks.0 asks.1 is refused
-  | inr gives_up ↦ inr (inr (gave_up (ended_run e) why.NoMemory gives_up.1.text, same gives_up.0))
+  refused_or : Responded named known after (the_run named known words prints status) (Drive batch port port_b from wiring first goes_on workers) → status ≡ REFUSED
+      → Stopped1 ⊎ (HasRefusedDrive (the_run named known words prints status) (ports_of port port_b known.ports after) (Drive batch port port_b from wiring first goes_on workers) from first ⊎ (HasGivenUp (the_run named known words prints status) × (after ≡ known.ports)))
+  refused_or r refused = elim r.is [
+    | inl comes ↦
+        let is = comes.1 in
+        let run = the_run named known words prints status in
+        let held = held_files words (record { job = Drive batch port port_b from wiring first goes_on workers; is_quiet = quiet }) named.holds known.input is.0 is.1 asks is.2 in
+        let by = is.3.1 in
+        let came = stops_so run batch port port_b from wiring first goes_on workers is.0 known.ports r.response.ports (record { told = []; left = is.1 }) (record { told = r.response.told; left = by.0 }) r.response.end held refl r.prints (sym r.status ∙ refused) by.1 in
+        let moved = subst (λ (w : Ways). HasStopped run (ports_of port port_b known.ports w) batch from wiring first ⊎ HasRefusedDrive run (ports_of port port_b known.ports w) (Drive batch port port_b from wiring first goes_on workers) from first) r.ports_are came in
+        elim moved [
+          | inl stopped ↦ inl stopped
+          | inr refuses ↦ inr (inl refuses)
+        ]
+    | inr none ↦
+        let text = subst (λ (told : List ℕ). prints (told ++ r.response.end.text)) none.0 r.prints in
+        inr (inr (gave_up (the_run named known words prints status) none.4.0 (subst (λ (p : Printed). prints p.text) none.4.1 text), sym r.ports_are ∙ none.1))
+  ]
+
+  -- settings stood, and the line of the last one couldn't all be written
+  cut_so : ToldInPart named known after (the_run named known words prints status) (Drive batch port port_b from wiring first goes_on workers) → Stopped1
+  cut_so t =
+      let is = t.cut in
+      let run = the_run named known words prints status in
+      let held = held_files words (record { job = Drive batch port port_b from wiring first goes_on workers; is_quiet = quiet }) named.holds known.input is.0 is.1 asks is.2 in
+      let failed = is.3.1 in
+      let over = failed.8.1 in
+      let start : Dialogue = record { told = []; left = is.1 } in
+      let final : Dialogue = record { told = t.told; left = is.3.0 } in
+      let read = read_so run batch from wiring (text_in is.0.list) is.0.other failed.0 failed.1 failed.2 failed.3 (given_text run.holds batch is.0.list held.list) held.other (board_held run wiring is.0.wiring failed.0 held.wiring failed.4) failed.5 failed.6 failed.7 in
+      let lines = told_before run batch from wiring first (not goes_on) failed.1 failed.2 failed.3 start final read refl Untold failed.8.0 over.carried over.went in
+      let said = over.went.said in
+      let line = stage_line failed.8.0 (numbers_in failed.3 failed.8.0) in
+      let more = said.1 ++ left_line failed.8.0 in
+      let whole : t.told ++ more ≡ lines_told failed.3 first (over.went.count + 1) ++ left_line failed.8.0 =
+      ap (λ (x : List ℕ). x ++ more) (said.3 ∙ ap (λ (x : List ℕ). x ++ said.0) lines) ∙ append_assoc (lines_told failed.3 first over.went.count) said.0 more
+      ∙ ap (λ (x : List ℕ). lines_told failed.3 first over.went.count ++ x) (sym (append_assoc said.0 said.1 (left_line failed.8.0)) ∙ ap (λ (x : List ℕ). x ++ left_line failed.8.0) (sym said.2))
+      ∙ sym (append_assoc (lines_told failed.3 first over.went.count) line (left_line failed.8.0)) ∙ ap (λ (x : List ℕ). x ++ left_line failed.8.0) (more_lines failed.3 first over.went.count failed.8.0 over.went.at) in
+      last_stood run batch from wiring first (not goes_on) failed.1 failed.2 failed.3 start final read refl (record { port = port; port_b = port_b }) known.ports after Untold failed.8.0 (left_line failed.8.0) over.carried over.failed over.went over.ways (inl refl) (subst prints whole (t.prints more))
+
+pub keeps_stops : (named : Named) (known : Knows) (after : Ways) (words : List Text) (prints : List ℕ → Type 0) (status : ℕ) → JobsCome named known after (the_run named known words prints status) → KeepsStops (the_run named known words prints status) known.ports after
+keeps_stops named known after words prints status come batch port port_b from wiring first goes_on workers asks refused = elim (come (record { job = Drive batch port port_b from wiring first goes_on workers; is_quiet = asks.0 }) asks.1) [
+  | inl r ↦ refused_or named known after words prints status batch port port_b from wiring first goes_on workers asks.0 asks.1 r refused
+  | inr other ↦ elim other [
+    | inl cut ↦ inl (cut_so named known after words prints status batch port port_b from wiring first goes_on workers asks.0 asks.1 cut)
+    | inr none ↦ inr (inr (gave_up (the_run named known words prints status) why.NoMemory none.prints, none.ports_are))
+  ]
 ]
 
 pub no_stops : (run : Run) (before after : Ways) → run.status ≡ UNWRITTEN → KeepsStops run before after

@@ -13,12 +13,12 @@ use Rattle.command_words.specs.Jobs.{Files}
 use Rattle.command_words.specs.declared.jobs.Job.{Job}
 use Rattle.command_words.specs.declared.jobs.Job.TheVariants.{Apply, Check, Direct, Draw, Orders, Plan, Run as RunJob, Switch as SwitchJob}
 use Rattle.exchange.proofs.AskedJobs.{Answers, IsAnswered}
-use Rattle.exchange.specs.Promises.{AreRightTexts, CanBeRun, HasGivenUp, HasRefused, IsFirstOverlapIn, IsFirstWrongDrawn, IsFirstWrongIn, IsFirstWrongOn, IsOfTextsAlone, IsShown, KeepsRefusals, Run, invalid, lacking, no_range, outside, texts_wrong, wiring_wrong}
+use Rattle.exchange.proofs.EndStatuses.{gave_up}
+use Rattle.exchange.proofs.PromisedRights.{drawings_right, switches_right}
+use Rattle.exchange.specs.Promises.{AreRightTexts, CanBeRun, HasRefused, IsFirstOverlapIn, IsFirstWrongDrawn, IsFirstWrongIn, IsFirstWrongOn, IsOfTextsAlone, IsShown, KeepsRefusals, Run, invalid, lacking, no_range, outside, texts_wrong, wiring_wrong}
 use Rattle.exchange.specs.Responses.{IsOfTexts, IsTextAnswer, source_in, text_in}
 use Rattle.exchange.specs.declared.limits.TheConstants.{UNWRITTEN}
 use Rattle.move_directions.proofs.OneReading as moves_reading
-use Rattle.named_files.specs.Notes.{unanswered}
-use Rattle.named_files.specs.declared.unanswered.Unanswered.{Unanswered}
 use Rattle.named_files.specs.declared.unanswered.Unanswered.TheVariants as why
 use Rattle.plan_answers.proofs.OneSource.{from_right, right_denoted, right_or_wrong}
 use Rattle.plan_answers.proofs.OneVerdict.{one_verdict}
@@ -128,6 +128,8 @@ orders_right from text transfers refusal right apart (inr over) = of_apart wides
 not_right : (job : Job) (texts : Files (List ℕ)) (refusal : Refusal) → IsFirstWrongIn job texts refusal → AreRightTexts job texts → ⊥
 not_right (Plan file planning workers) texts refusal wrong right = batch_reading.apart widest widest_fits (text_in texts.list) right.0 wrong.0 right.1 wrong.1
 not_right (Check batch schedule) texts refusal wrong right = checks_right (text_in texts.list) (text_in texts.other) right.0 right.1 refusal right.2 right.3 wrong
+not_right (Draw batch schedule chosen) texts refusal wrong right = drawings_right (text_in texts.list) (text_in texts.other) chosen refusal right wrong
+not_right (SwitchJob batch scheduled wiring workers) texts refusal wrong right = switches_right (source_in scheduled (text_in texts.other)) (text_in texts.list) texts.wiring refusal right wrong
 not_right (Orders batch scheduled only workers) texts refusal wrong right = orders_right (source_in scheduled (text_in texts.other)) (text_in texts.list) right.0 refusal right.1 right.2 wrong
 not_right (Direct moves) texts refusal wrong right = moves_reading.apart (text_in texts.list) right.0 wrong.0 right.1 wrong.1
 not_right (Apply shape batch image workers) texts refusal wrong right = runs_right _ shape (text_in texts.list) (Some (text_in texts.other)) refusal right wrong
@@ -158,11 +160,6 @@ refused run job alone is status =
       not_right = not_right job is.files wrong.refusal wrong.wrong;
       prints = subst run.prints wrong.line.line is.prints;
     }
-
-pub gave_up : (run : Run) (reason : Unanswered) → run.prints (unanswered reason).text → HasGivenUp run
-gave_up run why.File prints = inr prints
-gave_up run why.Output prints = inr prints
-gave_up run why.NoMemory prints = inl prints
 
 pub keeps_refusals : (run : Run) → Answers run → KeepsRefusals run
 keeps_refusals run all job alone asks status = elim (all job (of_texts job alone) asks) [

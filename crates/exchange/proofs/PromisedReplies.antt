@@ -1,21 +1,23 @@
 -- The promise of `c004`.
-use Rattle.std.proofs.Common.{◌≡◌, ◌∙◌, ◌++◌, ℕ, List, [], Bool, Option, Some, None, inl, inr, ◌⊎◌, refl, sym, ap, subst}
+use Rattle.std.proofs.Common.{◌≡◌, ◌∙◌, ◌++◌, ℕ, List, [], Option, Some, None, inl, inr, ◌⊎◌, refl, sym, ap, subst}
 use Rattle.std.specs.Prelude.{IfSome, option_to_list}
-use Rattle.std.specs.Io.KnownBytes.{Appends, Consumes, IsAtEnd}
+use Rattle.std.specs.Io.KnownBytes.{Consumes, IsAtEnd}
 use Rattle.std.proofs.lemmas.List.{append-nil}
+use Rattle.clap.specs.Words.{Text}
 use Rattle.command_words.specs.Jobs.{Files, files_of}
 use Rattle.command_words.specs.declared.jobs.Job.TheVariants.{C004}
-use Rattle.exchange.proofs.AskedJobs.{Ended, EndsSo, end_of, ended_run, never_done, not_done}
+use Rattle.drive_answers.specs.Ways.{Ways}
+use Rattle.exchange.proofs.AskedJobs.{JobsCome, Responded, ToldInPart, never_done, not_done, the_run}
+use Rattle.exchange.proofs.EndStatuses.{gave_up}
 use Rattle.exchange.proofs.HeldFiles.{pass}
-use Rattle.exchange.proofs.PromisedRefusals.{done_is, gave_up, unwritten_is}
-use Rattle.exchange.specs.Ends.{IsDone}
-use Rattle.exchange.specs.Promises.{AsksFor, HasDone, HasGivenUp, HasReplied, HasRepliedInPart, KeepsReplies, Run}
-use Rattle.exchange.specs.Responses.{IsC004By}
+use Rattle.exchange.proofs.PromisedRefusals.{unwritten_is}
+use Rattle.exchange.specs.Promises.{HasGivenUp, HasReplied, HasRepliedInPart, KeepsReplies, Run}
+use Rattle.exchange.specs.Responses.{Given, IsC004By, Named}
 use Rattle.exchange.specs.declared.limits.TheConstants.{UNWRITTEN}
 use Rattle.named_files.specs.Contents.{AreContents, Holding}
 use Rattle.named_files.specs.declared.unanswered.Unanswered.TheVariants as why
 use Rattle.plan_answers.specs.Refusals.{Printed}
-use Rattle.plan_answers.specs.declared.limits.TheConstants.{DONE, REFUSED}
+use Rattle.plan_answers.specs.declared.limits.TheConstants.{DONE}
 
 -- no file was read
 none_read : (holds : Holding) (input : Option (List ℕ)) (texts : Files (List ℕ)) (rest : Option (List ℕ)) → AreContents holds input (files_of C004) texts rest → rest ≡ input
@@ -29,67 +31,83 @@ all_came None after came c end = tt
 all_came (Some xs) None came c end = absurd c
 all_came (Some xs) (Some ys) came c end = sym (c ∙ ap (λ (t : List ℕ). came ++ t) end ∙ append-nil came)
 
-replied : (e : Ended) (rest : Option (List ℕ)) (told : List ℕ) (end : Printed) → rest ≡ e.given.input → end.status ≡ DONE → Appends e.streams.out_before e.streams.out_after (told ++ end.text) → IsC004By rest told end → HasReplied (ended_run e)
-replied e rest told end same status prints (came, dropped, after, switch, consumed, ran, none, inr refused) = absurd (never_done end.status refused status)
-replied e rest told end same status prints (came, dropped, after, switch, consumed, ran, none, inl at_end) = record {
-  came = came;
-  replies = told;
-  told = dropped;
-  left = switch;
-  held = (λ is. subst (λ (b : Option (List ℕ)). IfSome b (λ known. came ≡ known)) same (all_came rest after came consumed at_end.0), λ other. absurd (other refl));
-  replied = ran;
-  prints = subst (λ (t : List ℕ). Appends e.streams.out_before e.streams.out_after t) (ap (λ (t : List ℕ). told ++ t) none ∙ append-nil told) prints;
-}
-
-keeps : (e : Ended) (quiet : Bool) → IsDone e.named e.keeps e.given (record { job = C004; is_quiet = quiet }) e.streams e.code → e.code ≡ DONE → HasReplied (ended_run e)
-keeps e quiet (response, inl comes, kept, printed, noted) done =
-    let is = comes.1 in
-    replied e is.1 response.told response.end (none_read e.named.holds e.given.input is.0 is.1 is.2) (sym printed.status ∙ done) printed.text is.3.1
-keeps e quiet (response, inr none, kept, printed, noted) done = absurd (never_done e.code (printed.status ∙ ap (λ (p : Printed). p.status) none.4.1) done)
-
 -- some of it came
 some_came : (input after : Option (List ℕ)) (came : List ℕ) → Consumes input after came → (rest : List ℕ) × IfSome input (λ known. came ++ rest ≡ known)
 some_came None after came c = ([], tt)
 some_came (Some xs) None came c = absurd c
 some_came (Some xs) (Some ys) came c = (ys, sym c)
 
-replied_part : (e : Ended) (rest : Option (List ℕ)) (told : List ℕ) (end : Printed) → rest ≡ e.given.input → end.status ≡ REFUSED → Appends e.streams.out_before e.streams.out_after (told ++ end.text) → IsC004By rest told end → HasRepliedInPart (ended_run e)
-replied_part e rest told end same status prints (came, dropped, after, switch, consumed, ran, none, inl at_end) = absurd (done_is end.status at_end.1 status)
-replied_part e rest told end same status prints (came, dropped, after, switch, consumed, ran, none, inr refused) =
-    let some = some_came rest after came consumed in
-    record {
-      came = came;
-      rest = some.0;
-      replies = told;
-      told = dropped;
-      left = switch;
-      held = (λ is. subst (λ (b : Option (List ℕ)). IfSome b (λ known. came ++ some.0 ≡ known)) same some.1, λ other. absurd (other refl));
-      replied = ran;
-      prints = subst (λ (t : List ℕ). Appends e.streams.out_before e.streams.out_after t) (ap (λ (t : List ℕ). told ++ t) none ∙ append-nil told) prints;
-    }
+module _ (named : Named) (given : Given) (ports : Ways) (words : List Text) (prints : List ℕ → Type 0) (status : ℕ) where
+  abbrev The : Run
+  The = the_run named given words prints status
 
-keeps_part : (e : Ended) (quiet : Bool) → IsDone e.named e.keeps e.given (record { job = C004; is_quiet = quiet }) e.streams e.code → e.code ≡ REFUSED → HasRepliedInPart (ended_run e) ⊎ HasGivenUp (ended_run e)
-keeps_part e quiet (response, inl comes, kept, printed, noted) refused =
-    let is = comes.1 in
-    inl (replied_part e is.1 response.told response.end (none_read e.named.holds e.given.input is.0 is.1 is.2) (sym printed.status ∙ refused) printed.text is.3.1)
-keeps_part e quiet (response, inr none, kept, printed, noted) refused =
-    let text = subst (λ (told : List ℕ). Appends e.streams.out_before e.streams.out_after (told ++ response.end.text)) none.0 printed.text in
-    inr (gave_up (ended_run e) none.4.0 (subst (λ (p : Printed). Appends e.streams.out_before e.streams.out_after p.text) none.4.1 text))
+  replied : (rest : Option (List ℕ)) (told : List ℕ) (end : Printed) → rest ≡ given.input → end.status ≡ DONE → prints (told ++ end.text) → IsC004By rest told end → HasReplied The
+  replied rest told end same done printed (came, dropped, after, switch, consumed, ran, none, inr refused) = absurd (never_done end.status refused done)
+  replied rest told end same done printed (came, dropped, after, switch, consumed, ran, none, inl at_end) = record {
+    came = came;
+    replies = told;
+    told = dropped;
+    left = switch;
+    held = (λ is. subst (λ (b : Option (List ℕ)). IfSome b (λ known. came ≡ known)) same (all_came rest after came consumed at_end.0), λ other. absurd (other refl));
+    replied = ran;
+    prints = subst prints (ap (λ (t : List ℕ). told ++ t) none ∙ append-nil told) printed;
+  }
 
-c004_done : (e : Ended) → EndsSo e → HasDone (ended_run e) C004 → HasReplied (ended_run e)
-c004_done e ends done = elim (end_of e (record { job = C004; is_quiet = done.0.0 }) done.0.1 ends) [
-  | inl is ↦ keeps e done.0.0 is done.1
-  | inr gives_up ↦ absurd (never_done e.code gives_up.1.status done.1)
-]
+  replied_part : (rest : Option (List ℕ)) (told : List ℕ) (end : Printed) → rest ≡ given.input → prints told → IsC004By rest told end → HasRepliedInPart The
+  replied_part rest told end same printed (came, dropped, after, switch, consumed, ran, none, how) =
+      let some = some_came rest after came consumed in
+      record {
+        came = came;
+        rest = some.0;
+        replies = told;
+        told = dropped;
+        left = switch;
+        held = (λ is. subst (λ (b : Option (List ℕ)). IfSome b (λ known. came ++ some.0 ≡ known)) same some.1, λ other. absurd (other refl));
+        replied = ran;
+        prints = printed;
+      }
 
-c004_part : (e : Ended) → EndsSo e → AsksFor (ended_run e) C004 → e.code ≡ REFUSED → HasRepliedInPart (ended_run e) ⊎ HasGivenUp (ended_run e)
-c004_part e ends asks refused = elim (end_of e (record { job = C004; is_quiet = asks.0 }) asks.1 ends) [
-  | inl is ↦ keeps_part e asks.0 is refused
-  | inr gives_up ↦ inr (gave_up (ended_run e) why.NoMemory gives_up.1.text)
-]
+  nothing_behind : (rest : Option (List ℕ)) (told : List ℕ) (end : Printed) → IsC004By rest told end → prints (told ++ end.text) → prints told
+  nothing_behind rest told end by = subst prints (ap (λ (t : List ℕ). told ++ t) by.6 ∙ append-nil told)
 
-pub keeps_replies : (e : Ended) → EndsSo e → KeepsReplies (ended_run e)
-keeps_replies e ends = (c004_done e ends, c004_part e ends)
+  done_so : Responded named given ports The C004 → status ≡ DONE → HasReplied The
+  done_so r done = elim r.is [
+    | inl comes ↦ let is = comes.1 in replied is.1 r.response.told r.response.end (none_read named.holds given.input is.0 is.1 is.2) (sym r.status ∙ done) r.prints is.3.1
+    | inr none ↦ absurd (never_done status (r.status ∙ ap (λ (p : Printed). p.status) none.4.1) done)
+  ]
+
+  part_so : Responded named given ports The C004 → HasRepliedInPart The ⊎ HasGivenUp The
+  part_so r = elim r.is [
+    | inl comes ↦ let is = comes.1 in inl (replied_part is.1 r.response.told r.response.end (none_read named.holds given.input is.0 is.1 is.2) (nothing_behind is.1 r.response.told r.response.end is.3.1 r.prints) is.3.1)
+    | inr none ↦
+        let text = subst (λ (told : List ℕ). prints (told ++ r.response.end.text)) none.0 r.prints in
+        inr (gave_up The none.4.0 (subst (λ (p : Printed). prints p.text) none.4.1 text))
+  ]
+
+  -- replies that couldn't all be written
+  cut_so : ToldInPart named given ports The C004 → HasRepliedInPart The
+  cut_so t =
+      let is = t.cut in
+      let by = is.3 in
+      replied_part is.1 (t.told ++ by.0) by.1 (none_read named.holds given.input is.0 is.1 is.2) (t.prints by.0) by.2
+
+  pub keeps_replies : JobsCome named given ports The → KeepsReplies The
+  keeps_replies come = (
+    λ done. elim (come (record { job = C004; is_quiet = done.0.0 }) done.0.1) [
+      | inl r ↦ done_so r done.1
+      | inr other ↦ elim other [
+        | inl cut ↦ absurd (never_done status cut.status done.1)
+        | inr none ↦ absurd (never_done status none.status done.1)
+      ]
+    ],
+    λ asks refused. elim (come (record { job = C004; is_quiet = asks.0 }) asks.1) [
+      | inl r ↦ part_so r
+      | inr other ↦ elim other [
+        | inl cut ↦ inl (cut_so cut)
+        | inr none ↦ inr (gave_up The why.NoMemory none.prints)
+      ]
+    ],
+  )
 
 pub no_replies : (run : Run) → run.status ≡ UNWRITTEN → KeepsReplies run
 no_replies run unwritten = (λ done. absurd (not_done run _ unwritten done), λ asks refused. absurd (unwritten_is run.status unwritten refused))

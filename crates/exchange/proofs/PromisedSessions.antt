@@ -4,15 +4,17 @@ use Rattle.std.specs.Prelude.{IfSome, is_some, slice_get, unwrap_or}
 use Rattle.std.specs.List.{AllByRecursion, flat_map, list_any}
 use Rattle.std.specs.Io.KnownBytes.{Consumes, IsAtEnd}
 use Rattle.batch.specs.Extent.{Extent}
-use Rattle.batch_book.specs.History.{Account, IsReplay}
+use Rattle.batch_book.specs.History.{Account, AreUnstopped, IsReplay}
 use Rattle.batch_book.specs.Machine.{opened}
 use Rattle.batch_book.specs.Recording.{AreAllBut, lost as missing_in}
 use Rattle.batch_book.specs.Seats.{own}
+use Rattle.batch_book.specs.Values.{greatest}
+use Rattle.batch_book.specs.declared.reading.Reading.{Reading}
 use Rattle.batch_book.specs.declared.entry.Entry.{Entry}
 use Rattle.clap.specs.Words.{Text}
 use Rattle.client_session.specs.Seats.{SeatView}
 use Rattle.client_session.specs.Sessions.{HasEnded, IsSession, added_entries, lines_of}
-use Rattle.client_session.specs.Turns.{AreRising, IsBegun as HasBegunBefore, IsTurn, Turn as Turned, lost_text, turn_text}
+use Rattle.client_session.specs.Turns.{AreReadings, IsAboveReadings, IsBegun as HasBegunBefore, IsTurn, Turn as Turned, lost_text, readings_of, turn_text}
 use Rattle.client_session.specs.declared.command.SessionCommand.{SessionCommand}
 use Rattle.client_session.specs.declared.command.SessionCommand.TheVariants.{Batch, Bye, Drop, Peek, Plan as PlanOf, Poke, Progress, Run as RunOf, Show}
 use Rattle.client_session.specs.declared.fault.ServeFault.{ServeFault}
@@ -28,7 +30,7 @@ use Rattle.session_answers.specs.Sessions.{Beginning, IsServedSession}
 -- ---- how a session ended
 
 -- what it read, made and told, as its promise says it
-record HasEndedSo (old : SeatView) (fault : Option ServeFault) (after : Option (List ℕ)) (read : List ℕ) (made : List Entry) (told : List ℕ) : Type 0 where
+record HasEndedSo (old new : SeatView) (fault : Option ServeFault) (after : Option (List ℕ)) (read : List ℕ) (made : List Entry) (told : List ℕ) : Type 0 where
   turns : List Turned
   left : List ℕ
   untold : List ℕ
@@ -37,7 +39,7 @@ record HasEndedSo (old : SeatView) (fault : Option ServeFault) (after : Option (
   bytes : read ≡ flat_map turn_text turns ++ left
   lines : lines_of turns ≡ told ++ untold
   entries : made ≡ added_entries turns ++ unseen
-  rising : AreRising turns
+  readings : AreReadings old.seen new.seen turns
   ends : EndsSo fault turns (left ++ unwrap_or after []) untold unseen
 
 no_more : (after : Option (List ℕ)) → IsAtEnd after → unwrap_or after [] ≡ []
@@ -45,7 +47,7 @@ no_more None at_end = refl
 no_more (Some bytes) at_end = at_end
 
 plain : (old new : SeatView) (fault : Option ServeFault) (after : Option (List ℕ)) (read : List ℕ) (made : List Entry) (told : List ℕ) (turns : List Turned) (left : List ℕ)
-    → IsSession false old new turns read left made told → EndsSo fault turns (left ++ unwrap_or after []) [] [] → HasEndedSo old fault after read made told
+    → IsSession false old new turns read left made told → EndsSo fault turns (left ++ unwrap_or after []) [] [] → HasEndedSo old new fault after read made told
 plain old new fault after read made told turns left s ends = record {
   turns = turns;
   left = left;
@@ -55,7 +57,7 @@ plain old new fault after read made told turns left s ends = record {
   bytes = s.bytes_are;
   lines = sym s.text_is ∙ sym (append-nil told);
   entries = s.entries_are ∙ sym (append-nil (added_entries turns));
-  rising = s.readings.rising;
+  readings = s.readings;
   ends = ends;
 }
 
@@ -75,9 +77,9 @@ few_before by (Some (Poke «module» address word)) es none = no_entry es none
 few_before by (Some Progress) es none = no_entry es none
 few_before by (Some Bye) es none = no_entry es none
 
-ended_so : (fault : Option ServeFault) (after : Option (List ℕ)) (old new : SeatView) (read : List ℕ) (made : List Entry) (told : List ℕ) → HasEnded fault after old new read made told → HasEndedSo old fault after read made told
+ended_so : (fault : Option ServeFault) (after : Option (List ℕ)) (old new : SeatView) (read : List ℕ) (made : List Entry) (told : List ℕ) → HasEnded fault after old new read made told → HasEndedSo old new fault after read made told
 ended_so None after old new read made told (turns, left, s, inl whole) =
-    plain old new None after read made told turns left s (refl, refl, inl (ap₂ (λ (x y : List ℕ). x ++ y) whole.1 (no_more after whole.2)))
+    plain old new None after read made told turns left s (refl, refl, inl (whole.0, ap₂ (λ (x y : List ℕ). x ++ y) whole.1 (no_more after whole.2)))
 ended_so None after old new read made told (turns, left, s, inr bye) = plain old new None after read made told turns left s (refl, refl, inr bye)
 ended_so (Some Write) after old new read made told c = record {
   turns = c.before ++ c.last ∷ [];
@@ -88,8 +90,8 @@ ended_so (Some Write) after old new read made told c = record {
   bytes = c.session.bytes_are;
   lines = sym c.session.text_is;
   entries = c.session.entries_are ∙ sym (append-nil (added_entries (c.before ++ c.last ∷ [])));
-  rising = c.session.readings.rising;
-  ends = (refl, (c.before, c.last, c.front, refl, c.line));
+  readings = c.session.readings;
+  ends = (refl, (c.before, c.last, c.front, refl, c.go_on, c.line));
 }
 ended_so (Some Record) after old new read made told b = record {
   turns = b.turns;
@@ -100,14 +102,14 @@ ended_so (Some Record) after old new read made told b = record {
   bytes = b.session.bytes_are;
   lines = sym b.session.text_is ∙ sym (append-nil told);
   entries = b.entries_are ∙ ap (λ (x : List Entry). x ++ b.last.entries) b.session.entries_are;
-  rising = b.session.readings.rising;
-  ends = (refl, few_before old.session b.last.command b.last.entries b.lost.begun);
+  readings = b.session.readings;
+  ends = (refl, few_before old.session b.last.command b.last.entries b.lost.begun, b.go_on);
 }
-ended_so (Some Read) after old new read made told e = plain old new (Some Read) after read made told e.0 e.1 e.2 (refl, refl)
-ended_so (Some LineTooLong) after old new read made told e = plain old new (Some LineTooLong) after read made told e.0 e.1 e.2 (refl, refl)
-ended_so (Some Cut) after old new read made told e = plain old new (Some Cut) after read made told e.0 e.1 e.2 (refl, refl)
-ended_so (Some Turns) after old new read made told e = plain old new (Some Turns) after read made told e.0 e.1 e.2 (refl, refl)
-ended_so (Some NoMemory) after old new read made told e = plain old new (Some NoMemory) after read made told e.0 e.1 e.2 (refl, refl)
+ended_so (Some Read) after old new read made told e = plain old new (Some Read) after read made told e.0 e.1 e.2 (refl, refl, e.3)
+ended_so (Some LineTooLong) after old new read made told e = plain old new (Some LineTooLong) after read made told e.0 e.1 e.2 (refl, refl, e.3)
+ended_so (Some Cut) after old new read made told e = plain old new (Some Cut) after read made told e.0 e.1 e.2 (refl, refl, e.3)
+ended_so (Some Turns) after old new read made told e = plain old new (Some Turns) after read made told e.0 e.1 e.2 (refl, refl, e.3)
+ended_so (Some NoMemory) after old new read made told e = plain old new (Some NoMemory) after read made told e.0 e.1 e.2 (refl, refl, e.3)
 
 -- ---- one session
 
@@ -117,15 +119,16 @@ read_so (Some xs) None read front left c is = absurd c
 read_so (Some xs) (Some ys) read front left c is = c ∙ ap (λ (x : List ℕ). x ++ ys) is ∙ append_assoc front left ys
 
 -- what is so of the session of a transcript
-pub record IsSeen (extent : Extent) (history : List Entry) (came : Option (List ℕ)) (t : Transcript) (s : Session) : Type 0 where
+pub record IsSeen (b : Beginning) (history : List Entry) (came : Option (List ℕ)) (t : Transcript) (s : Session) : Type 0 where
   pub number : s.number ≡ t.part.session
   pub told : s.told ≡ t.told
   pub fault : s.fault ≡ t.fault
   pub text : session_text t ≡ told_text s
   pub own_are : own s.number history ≡ t.part.entries
-  pub is : IsSessionOf extent history came s
+  pub seen : AreReadings b.seen t.part.seen s.turns
+  pub is : IsSessionOf b.shape history came s
 
-pub one_session : (b : Beginning) (history : List Entry) (before after : Option (List ℕ)) (t : Transcript) → IsServedSession b before after t → t.part.entries ≡ own t.part.session history → (s : Session) × IsSeen b.shape history before t s
+pub one_session : (b : Beginning) (history : List Entry) (before after : Option (List ℕ)) (t : Transcript) → IsServedSession b before after t → t.part.entries ≡ own t.part.session history → (s : Session) × IsSeen b history before t s
 one_session b history before after t h entries =
     let e = ended_so t.fault after h.seat _ h.read t.part.entries t.told h.ended in
     let s : Session = record { number = t.part.session; turns = e.turns; told = t.told; rest = e.left ++ unwrap_or after []; fault = t.fault } in (
@@ -136,6 +139,7 @@ one_session b history before after t h entries =
         fault = refl;
         text = refl;
         own_are = sym entries;
+        seen = subst (λ (n : ℕ). AreReadings n t.part.seen e.turns) h.is_new.seen e.readings;
         is = record {
           untold = e.untold;
           unseen = e.unseen;
@@ -143,11 +147,24 @@ one_session b history before after t h entries =
           each = subst (λ (n : ℕ). AllByRecursion (IsTurn b.shape n) e.turns) h.is_new.session_is (subst (λ (x : Extent). AllByRecursion (IsTurn x h.seat.session) e.turns) h.is_new.shape_is e.each);
           lines = e.lines;
           entries = sym entries ∙ e.entries;
-          rising = e.rising;
           ends = e.ends;
         };
       },
     )
+
+-- ---- the progress that was seen
+
+-- readings that aren't ahead of a value aren't ahead of a greater one
+not_ahead : (reading : Option Reading) (v w : ℕ) → v ≤ w → AllByRecursion (λ r. r ≤ v) (readings_of reading) → AllByRecursion (λ r. r ≤ w) (readings_of reading)
+not_ahead None v w le all = tt
+not_ahead (Some r) v w le all = let one = all.0 in (omega (arith, one, le), tt)
+
+none_ahead : (turns : List Turned) (v w : ℕ) → v ≤ w → IsAboveReadings turns v → IsAboveReadings turns w
+none_ahead [] v w le all = tt
+none_ahead (t ∷ turns) v w le all = (not_ahead t.did.reading v w le all.0, none_ahead turns v w le all.1)
+
+pub seen_within : (turns : List Turned) (low high most : ℕ) → high ≤ most → AreReadings low high turns → AreReadings low most turns
+seen_within turns low high most le r = record { low = r.low; high = none_ahead turns high most le r.high; rising = r.rising }
 
 -- ---- the order of calls
 
@@ -192,11 +209,13 @@ module _ (loses : Bool) (opening : Store) (earlier : List Entry) (parts : List P
   pub are_calls : AreCallsOf calls book
   are_calls = record { opening = sym one.is_opening; entries = all_entries book.whole (earlier ++ one.told) book.history one.all_told; machine = refl; told = one.all_told }
 
-  pub in_order : (ss : List Session) → fold (λ a (s : Session). a + length (own s.number one.told)) 0 ss ≡ fold (λ a (p : Part). a + length p.entries) 0 parts → HaveOneOrder calls ss
-  in_order ss same = record {
+  pub in_order : (ss : List Session) → fold (λ a (s : Session). a + length (own s.number one.told)) 0 ss ≡ fold (λ a (p : Part). a + length p.entries) 0 parts → AllByRecursion (λ (s : Session). AreReadings (greatest earlier) (greatest book.history) s.turns) ss → HaveOneOrder calls ss
+  in_order ss same seen = record {
     right = subst (λ (es : List Entry). IsReplay (opened opening) es book.machine) (sym (all_entries book.whole (earlier ++ one.told) book.history one.all_told)) one.replay;
     no_other = one.counted ∙ sym same;
     few = few_untold book.whole (earlier ++ one.told) book.history one.all_told;
+    unstopped = subst AreUnstopped (sym (all_entries book.whole (earlier ++ one.told) book.history one.all_told)) one.unstopped;
+    seen = subst (λ (es : List Entry). AllByRecursion (λ (s : Session). AreReadings (greatest earlier) (greatest es) s.turns) ss) (sym (all_entries book.whole (earlier ++ one.told) book.history one.all_told)) seen;
   }
 
   pub all_are_told : loses ≡ false → calls.untold ≡ []
@@ -207,16 +226,17 @@ module _ (loses : Bool) (opening : Store) (earlier : List Entry) (parts : List P
 abbrev pub HasOwn : List Entry → Part → Type 0
 HasOwn history p = p.entries ≡ own p.session history
 
-pub record AreSeen (extent : Extent) (history : List Entry) (texts : List (List ℕ)) (ts : List Transcript) (ss : List Session) : Type 0 where
+pub record AreSeen (b : Beginning) (history : List Entry) (texts : List (List ℕ)) (ts : List Transcript) (ss : List Session) : Type 0 where
   pub numbers : map (λ (s : Session). s.number) ss ≡ map (λ (t : Transcript). t.part.session) ts
-  pub each : AllByRecursion (λ (s : Session). IsSessionOf extent history (slice_get texts s.number) s) ss
+  pub each : AllByRecursion (λ (s : Session). IsSessionOf b.shape history (slice_get texts s.number) s) ss
   pub text : sessions_text ts ≡ flat_map told_text ss
   pub failed : list_any (λ (t : Transcript). is_some t.fault) ts ≡ list_any (λ (s : Session). is_some s.fault) ss
   pub entries : (n : ℕ) → fold (λ a (s : Session). a + length (own s.number history)) n ss ≡ fold (λ a (p : Part). a + length p.entries) n (map (λ (t : Transcript). t.part) ts)
+  pub seen : (most : ℕ) → AllByRecursion (λ (p : Part). p.seen ≤ most) (map (λ (t : Transcript). t.part) ts) → AllByRecursion (λ (s : Session). AreReadings b.seen most s.turns) ss
 
 pub all_sessions : (b : Beginning) (history : List Entry) (texts : List (List ℕ)) (ts : List Transcript) → AllByRecursion (HasItsScript b texts) ts → AllByRecursion (HasOwn history) (map (λ (t : Transcript). t.part) ts)
-    → (ss : List Session) × AreSeen b.shape history texts ts ss
-all_sessions b history texts [] each owns = ([], record { numbers = refl; each = tt; text = refl; failed = refl; entries = λ n. refl })
+    → (ss : List Session) × AreSeen b history texts ts ss
+all_sessions b history texts [] each owns = ([], record { numbers = refl; each = tt; text = refl; failed = refl; entries = λ n. refl; seen = λ most all. tt })
 all_sessions b history texts (t ∷ ts) each owns =
     let has = each.0 in
     let one = one_session b history (Some has.0) (Some has.1) t has.3 owns.0 in
@@ -229,6 +249,7 @@ all_sessions b history texts (t ∷ ts) each owns =
         text = ap₂ (λ (x y : List ℕ). x ++ y) one.1.text more.1.text;
         failed = ap₂ ◌||◌ (ap (λ (o : Option ServeFault). is_some o) (sym one.1.fault)) more.1.failed;
         entries = λ n. ap (λ (es : List Entry). fold (λ a (s : Session). a + length (own s.number history)) (n + length es) more.0) one.1.own_are ∙ more.1.entries (n + length t.part.entries);
+        seen = λ most all. (seen_within one.0.turns b.seen t.part.seen most all.0 one.1.seen, more.1.seen most all.1);
       },
     )
 

@@ -14,9 +14,11 @@ use Rattle.clap.specs.Words.{Text}
 use Rattle.command_words.specs.Jobs.{schedule_in}
 use Rattle.command_words.specs.declared.jobs.Job.TheVariants.{Orders, Switch as SwitchJob}
 use Rattle.crossbar.specs.Pairs.{ArePairs, room_of}
+use Rattle.crossbar.specs.Switch.{enquiries}
 use Rattle.crossbar.specs.Wired.{links_of}
 use Rattle.crossbar.specs.declared.board.BoardWiring.{BoardWiring}
 use Rattle.crossbar.specs.declared.chip.Wiring.{Wiring}
+use Rattle.crossbar.specs.declared.pair.Pair.{Pair}
 use Rattle.crossbar.specs.declared.chip.Wiring.TheVariants.{Back, Board, Both, Forth}
 use Rattle.exchange.proofs.AskedJobs.{Answers, never_done, not_done, text_done}
 use Rattle.exchange.proofs.HeldFiles.{given_text}
@@ -25,8 +27,13 @@ use Rattle.exchange.specs.Promises.{HasOrdered, HasSwitched, HoldsGiven, IsSched
 use Rattle.exchange.specs.Responses.{source_in, text_in}
 use Rattle.exchange.specs.declared.limits.TheConstants.{UNWRITTEN}
 use Rattle.link_graph.specs.Schedules.{IsScheduleOf}
-use Rattle.module_orders.proofs.Obeyed.{obeyed_is_placed}
+use Rattle.module_memory.specs.Core.{IsComplete, setting_of}
+use Rattle.module_memory.specs.Settings.{IsRun, after_steps}
+use Rattle.module_memory.specs.Store.{Store}
+use Rattle.module_orders.proofs.Obeyed.{obeyed_is_placed, run_is_obeyed}
+use Rattle.module_orders.proofs.Steps.{led_by}
 use Rattle.module_orders.proofs.Told.{text_tells}
+use Rattle.module_orders.specs.Obeying.{AreAllWords}
 use Rattle.module_orders.specs.Orders.{orders_of, told_to}
 use Rattle.module_orders.specs.OrdersText.{orders_text}
 use Rattle.plan_answers.proofs.PlanText.{plan_can_say}
@@ -39,11 +46,11 @@ use Rattle.rack_answers.specs.Orders as ordering
 use Rattle.rack_answers.specs.Orders.{IsOrdered}
 use Rattle.rack_answers.specs.Switching as switching
 use Rattle.rack_answers.specs.Switching.{IsOn, IsOnBoard, IsSwitched}
-use Rattle.switch_settings.proofs.PairCommands.{turning_commands}
+use Rattle.switch_settings.proofs.PairCommands.{change_commands, setting_commands, turning_commands}
 use Rattle.switch_settings.proofs.Racks.{has_modules}
 use Rattle.switch_settings.proofs.Turning.{ordered_pairs, settings_turn}
 use Rattle.switch_settings.specs.Racks.{HasModulesOf, is_wide}
-use Rattle.switch_settings.specs.Sending.{pairs_at, sent_for, standing_before}
+use Rattle.switch_settings.specs.Sending.{pairs_at, sent_for, standing_before, turning}
 use Rattle.switch_settings.specs.Settings.{numbers_in}
 use Rattle.batch.specs.Text.{IsNumber}
 
@@ -54,6 +61,11 @@ schedule_of run (source.Plan planning) batch settings is = is.shortest.schedule
 schedule_of run (source.Text file) batch settings is = is.0
 
 -- ---- what a switch is sent
+
+-- what turns a switch asks for no reply
+quiet_turning : (wiring : Wiring) (standing : Option (List Pair)) (pairs : List Pair) → IfSome standing (ArePairs (room_of wiring)) → ArePairs (room_of wiring) pairs → enquiries (turning wiring standing pairs) ≡ 0
+quiet_turning wiring None pairs were are = (setting_commands wiring pairs are).1
+quiet_turning wiring (Some old) pairs were are = (change_commands wiring old pairs were are).1
 
 module _ (batch : List Transfer) (settings : List (List ℕ)) (fits : IsBatch batch) (is : IsScheduleOf batch settings) (wiring : Wiring) (has : HasModulesOf (room_of wiring) batch) where
   pairs_there : (k : ℕ) → k < length settings → ArePairs (room_of wiring) (pairs_at batch settings k)
@@ -66,6 +78,7 @@ module _ (batch : List Transfer) (settings : List (List ℕ)) (fits : IsBatch ba
   pub turns : Turn wiring batch settings (sent_for wiring batch settings)
   turns = record {
     are = λ k lt. turning_commands wiring (standing_before batch settings k) (pairs_at batch settings k) (standing k lt) (pairs_there k lt);
+    quiet = λ k lt. quiet_turning wiring (standing_before batch settings k) (pairs_at batch settings k) (standing k lt) (pairs_there k lt);
     turn = λ switch k lt. settings_turn batch settings (room_of wiring) wiring switch k fits is has (omega arith) lt;
   }
 
@@ -146,6 +159,20 @@ few_settings : (from : Source Text) (other : Option (List ℕ)) (text : List ℕ
 few_settings (source.Plan planning) other text batch settings fits is = (plan_can_say planning batch settings is.1.0 fits is.1.1).settings_fit.count
 few_settings (source.Text file) other text batch settings fits is = is.texts.schedule_read.can_say.settings_fit.count
 
+-- all words can pass in some order
+some_steps : (n words : ℕ) → (steps : List ℕ) × AreAllWords n words steps
+some_steps n zero = ([], record { known = λ k d lt. absurd (omega (arith, lt)); all = λ i lt. refl })
+some_steps n (suc words) = let led = led_by n (suc words) 0 (omega arith) in (led.0, led.1)
+
+-- so a run of any settings leads somewhere
+some_run : (opening s : Store) (batch : List Transfer) (settings : List (List ℕ)) → (left : Store) × IsRun opening s batch settings left
+some_run opening s batch [] = (s, refl)
+some_run opening s batch (numbers ∷ settings) =
+    let steps = some_steps (length (setting_of batch numbers)) s.shape.words in
+    let all : IsComplete (setting_of batch numbers) s.shape.words steps.0 = record { known = steps.1.known; complete = steps.1.all } in
+    let rest = some_run opening (after_steps opening s batch numbers steps.0).store batch settings in
+    (rest.0, (steps.0, all, rest.1))
+
 ordered : (run : Run) (batch : Text) (from : Source Text) (only : Option ℕ) (text : List ℕ) (other : Option (List ℕ)) (printed : Printed)
     → run.holds batch text → HoldsGiven run.holds (schedule_in from) other → run.prints printed.text → printed.status ≡ DONE
     → IsOrdered (source_in from (text_in other)) only text printed → HasOrdered run batch from only
@@ -164,6 +191,7 @@ ordered run batch from only text other printed held held_schedule prints status 
       apart = apart;
       schedule = schedule;
       obeyed = λ opening left whole places are. obeyed_is_placed transfers settings opening left (record { apart = apart; schedule = valid; whole = whole; places = places }) are;
+      can = λ opening whole places. let some = some_run opening opening transfers settings in (some.0, run_is_obeyed transfers settings opening some.0 (record { apart = apart; schedule = valid; whole = whole; places = places }) some.1);
       tells = text_tells transfers settings only fits valid (few_settings from other text transfers settings fits is);
       prints = subst run.prints told prints;
     }

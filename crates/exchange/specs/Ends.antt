@@ -1,6 +1,7 @@
 -- How the program ends.
-use Rattle.std.specs.Prelude.{◌≡◌, ◌≢◌, ◌⊎◌, ◌++◌, ℕ, List, [], Option, None, Result, Ok, Err, IfErr, IfOk, ⊤}
+use Rattle.std.specs.Prelude.{◌≡◌, ◌≢◌, ◌⊎◌, ◌++◌, ℕ, List, [], Option, None, Result, Ok, Err, IfErr, IfOk, OnErr, OnOk, ⊤}
 use Rattle.std.specs.Io.KnownBytes.{Appends}
+use Rattle.batch_book.specs.History.{Account}
 use Rattle.plan_answers.specs.Refusals.{Printed}
 use Rattle.plan_answers.specs.declared.limits.TheConstants.{DONE}
 use Rattle.drive_answers.specs.Ways.{Ways}
@@ -8,15 +9,18 @@ use Rattle.command_words.specs.declared.jobs.Job.{Job}
 use Rattle.command_words.specs.declared.jobs.Request.{Request}
 use Rattle.command_words.specs.declared.jobs.ArgumentsFault.{ArgumentsFault}
 use Rattle.command_words.specs.declared.jobs.ArgumentsFault.TheVariants as arguments_fault
-use Rattle.command_words.specs.Jobs.{AskFor, AsksForHelp, IsFaultIn}
+use Rattle.command_words.specs.Jobs.{AskFor, AsksForHelp, IsFaultIn, file_uses}
 use Rattle.exchange.specs.declared.limits.TheConstants.{MISUSED}
 use Rattle.named_files.specs.declared.unanswered.Unanswered.TheVariants.{NoMemory}
 use Rattle.session_answers.specs.HostAnswers.{SessionEnd}
-use Rattle.exchange.specs.Responses.{Given, IsJobCut, IsResponseTo, Named, Response}
+use Rattle.exchange.specs.Responses.{Given, IsJobAnswer, IsJobCut, IsResponseTo, Named, Response}
 use Rattle.named_files.specs.Notes.{unanswered, IsToldInPart}
-use Rattle.exchange.specs.Notes.{HasJobOverlap, IsNoted}
+use Rattle.exchange.specs.Notes.{HasJobOverlap, IsBeside, IsNoted}
+use Rattle.exchange.specs.Outcomes.{HasNote, HasTold, IsUnanswered}
+use Rattle.named_files.specs.Apart.{AreSeenApart}
+use Rattle.named_files.specs.declared.notes.NoAnswer.{NoAnswer}
 use Rattle.named_files.specs.Contents.{Holding}
-use Rattle.exchange.specs.Keeping.{AreKept, AreKeptInPart}
+use Rattle.exchange.specs.Keeping.{AreKept, AreKeptBut, AreKeptInPart}
 use Rattle.named_files.specs.Outputs.{lost_none, none_opened}
 use Rattle.named_files.specs.Streams.{Closed}
 use Rattle.named_files.specs.declared.outputs.Receipts.{Receipts}
@@ -71,6 +75,39 @@ streams_of out_before out_after err_before err_after =
       err_before = err_before;
       err_after = err_after;
     }
+
+-- what a job left: what the files hold that were opened to be written, the ports, and how the
+-- sessions of live clients ended
+pub record Behind (C : Type 0) : Type 0 where
+  pub receipts : Receipts C
+  pub ports : Ways
+  pub ends : List SessionEnd
+
+abbrev pub behind : {C : Type 0} → Receipts C → Ways → List SessionEnd → Behind C
+behind receipts ports ends = record { receipts = receipts; ports = ports; ends = ends }
+
+-- How a job ended: with its answer, where what it writes was seen to be apart from what it reads,
+-- and its files were kept, but for what is lost; or with none.
+pub record HasEnded {C : Type 0} (named : Named) (received : C → Closed) (given : Given)
+    (request : Request) (streams : Streams) (left : Behind C) (end : Result Answered NoAnswer)
+    : Type 0 where
+  pub response : HasTold streams.out_before streams.out_after
+      (λ told done. (book : Option Account) × IsJobAnswer named.holds given request.job
+      (record {
+        told = told;
+        end = done.answer;
+        left = book;
+        ports = left.ports;
+        ends = left.ends;
+      })
+      × AreKeptBut named.holds received request.job book left.receipts done.lost)
+      (IsUnanswered given.ports left.ports left.ends)
+      (IsJobCut named.holds given request.job left.ports left.ends) end
+  pub note : HasNote end
+  pub beside : IsBeside (HasJobOverlap named.holds given request.job) request streams.err_before
+      streams.err_after
+  pub apart : OnOk end (AreSeenApart named.leads (file_uses request.job))
+  pub unkept : OnErr end (AreKept named.holds received request.job None left.receipts)
 
 -- what is printed, behind what was told before
 abbrev pub printed_of : Response → Printed

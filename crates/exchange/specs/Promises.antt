@@ -17,12 +17,13 @@ use Rattle.board_wiring.specs.Text.{Denotes as DenotesWiring}
 use Rattle.board_wiring.specs.declared.wired_module.WiredModule.{WiredModule}
 use Rattle.c004_commands.specs.Commands.{AreCommands}
 use Rattle.c004_commands.specs.declared.command.Command.{Command}
-use Rattle.clap.specs.Words.{Text}
-use Rattle.command_words.specs.Jobs.{AskFor, Files, files_of, input_name, recorded_in}
+use Rattle.clap.specs.Words.{IsAmong, Text}
+use Rattle.clap.specs.declared.error.kind.ErrorKind.TheVariants.{DisplayHelp, DisplayVersion}
+use Rattle.command_words.specs.Jobs.{AskFor, Files, faults_of, files_of, input_name, recorded_in}
 use Rattle.command_words.specs.declared.jobs.Job.{Job}
 use Rattle.command_words.specs.declared.jobs.Job.TheVariants.{Apply, C004, Check, Direct, Draw, Drive, Host, Orders, Plan, Replay, Run as RunJob, Serve, Switch as SwitchJob, Talk}
 use Rattle.crossbar.specs.Pairs.{switch_of}
-use Rattle.crossbar.specs.Switch.{Switch, after_all, answers, idle}
+use Rattle.crossbar.specs.Switch.{Switch, after_all, answers, enquiries, idle}
 use Rattle.crossbar.specs.declared.board.BoardWiring.{BoardWiring}
 use Rattle.crossbar.specs.declared.chip.Wiring.{Wiring}
 use Rattle.crossbar.specs.declared.chip.Wiring.TheVariants.{Back, Board, Both, Forth}
@@ -80,7 +81,7 @@ use Rattle.rack_answers.specs.Openings.{IsRightImage}
 use Rattle.refusals.specs.Refusals.{refusal_line}
 use Rattle.refusals.specs.Sources.{of_batch}
 use Rattle.refusals.specs.declared.refusal.Refusal.{Refusal}
-use Rattle.refusals.specs.declared.refusal.Refusal.TheVariants.{NoSetting, Overlap, Settings}
+use Rattle.refusals.specs.declared.refusal.Refusal.TheVariants.{NoSetting, Overlap, RecordHead, Settings, Threads}
 use Rattle.c004_commands.specs.declared.command.Command.TheVariants.{Settle}
 use Rattle.c004_commands.specs.declared.port.TheConstants.{PORTS}
 use Rattle.crossbar.specs.Traffic.{bytes_to, conversed}
@@ -94,12 +95,13 @@ use Rattle.switch_driver.specs.Lines.{stage_line}
 use Rattle.switch_settings.specs.declared.fault.SettingFault.{SettingFault}
 use Rattle.switch_settings.specs.Answers.{AllAgree}
 use Rattle.switch_settings.specs.Pairs.{all_enquiries}
-use Rattle.batch_book.specs.History.{IsReplay}
+use Rattle.batch_book.specs.History.{AreUnstopped, IsReplay}
 use Rattle.batch_book.specs.Machine.{Machine, opened}
 use Rattle.batch_book.specs.Seats.{own}
+use Rattle.batch_book.specs.Values.{greatest}
 use Rattle.batch_book.specs.declared.entry.Entry.{Entry}
-use Rattle.client_session.specs.Sessions.{EndByBye, added_entries, lines_of}
-use Rattle.client_session.specs.Turns.{AreRising, IsTurn, Turn as Turned, turn_text}
+use Rattle.client_session.specs.Sessions.{EndByBye, GoOn, added_entries, lines_of}
+use Rattle.client_session.specs.Turns.{AreReadings, IsTurn, Turn as Turned, turn_text}
 use Rattle.command_words.specs.declared.jobs.Request.{Request}
 use Rattle.command_words.specs.declared.jobs.SharedRack.{SharedRack}
 use Rattle.session_answers.specs.Frames.{end_line as line_of_end, end_text, heading}
@@ -115,8 +117,13 @@ use Rattle.named_files.specs.declared.outputs.Receipts.{Receipts}
 use Rattle.kept_sessions.specs.Records.{IsBegun as BeginsRecord, head_for}
 use Rattle.book_record.specs.Fronts.{end_line}
 use Rattle.book_record.specs.RecordText.{entry_text}
-use Rattle.book_record.specs.Heads.{AreNames, IsHeadOf, session_limit}
-use Rattle.record_replay.specs.Replays.{IsRemade}
+use Rattle.book_record.specs.Heads.{AreNames, BeginsWithNoHead, IsHeadOf, session_limit}
+use Rattle.kept_sessions.specs.Records.{IsWrongFor}
+use Rattle.rack_answers.specs.Openings.{IsRackOf, IsWrongRack}
+use Rattle.record_replay.specs.ReplayAnswers.{IsNoRecordOn, IsRecordOn, IsShapeOf, of_record}
+use Rattle.record_replay.specs.Replays.{IsRecordError, IsRemade}
+use Rattle.record_replay.specs.declared.fault.RecordError.{RecordError}
+use Rattle.record_replay.specs.declared.fault.RecordFault.{RecordFault}
 use Rattle.exchange.specs.declared.limits.TheConstants.{MISUSED, UNWRITTEN}
 use Rattle.named_files.specs.Notes.{IsToldInPart}
 
@@ -219,10 +226,6 @@ pub record AreHeld (holds : Text → List ℕ → Type 0) (names : Files Text) (
   pub other : HoldsGiven holds names.other texts.other
   pub wiring : HoldsGiven holds names.wiring texts.wiring
   pub scripts : AreAllHeld holds names.scripts texts.scripts
-
--- printed was the one line of a refusal
-abbrev pub HasPrintedRefusal : Run → Type 0
-HasPrintedRefusal run = (refusal : Refusal) × run.prints (refusal_line refusal)
 
 -- There was no answer: so a run may end at any time.
 abbrev pub HasGivenUp : Run → Type 0
@@ -375,11 +378,13 @@ abbrev pub wirings : Option BoardWiring → List Transfer → List Wiring
 wirings (Some board) batch = Board board ∷ []
 wirings None batch = if is_wide batch then Forth ∷ Back ∷ [] else Both ∷ []
 
--- The commands are those of a C004. Whatever the switch was, behind those for the settings up to
--- each it joins just the pairs of links that this one needs, and is ready.
+-- The commands are those of a C004, and none of them asks for a reply. Whatever the switch was,
+-- behind those for the settings up to each it joins just the pairs of links that this one needs,
+-- and is ready.
 pub record Turn (wiring : Wiring) (batch : List Transfer) (settings : List (List ℕ))
     (commands : ℕ → List Command) : Type 0 where
   pub are : (k : ℕ) → k < length settings → AreCommands (commands k)
+  pub quiet : (k : ℕ) → k < length settings → enquiries (commands k) ≡ 0
   pub turn : (switch : Switch) (k : ℕ) → k < length settings
       → after_all (flat_map commands (range_with_len 0 (k + 1))) switch
       ≡ switch_of wiring (setting_pairs batch (numbers_in settings k))
@@ -414,9 +419,15 @@ ObeyedIsMoved told batch settings =
     (opening left : Store) → IsWhole opening → FitsIn opening.shape batch
     → AreObeyed told batch settings opening left → IsPlaced opening batch left
 
+-- on each such rack they can obey all of them
+abbrev pub CanBeObeyed : RackTold → List Transfer → List (List ℕ) → Type 0
+CanBeObeyed told batch settings =
+    (opening : Store) → IsWhole opening → FitsIn opening.shape batch
+    → (left : Store) × AreObeyed told batch settings opening left
+
 -- The file held a batch, of which no two transfers write one block. Printed was the text of the
 -- orders for a schedule, and nothing else: those of all modules that have some, or of one alone.
--- Modules that obey them move the batch.
+-- Modules can obey them, and move the batch so.
 pub record HasOrdered (run : Run) (batch : Text) (scheduled : Source Text) (only : Option ℕ)
     : Type 0 where
   pub transfers : List Transfer
@@ -428,6 +439,7 @@ pub record HasOrdered (run : Run) (batch : Text) (scheduled : Source Text) (only
   pub apart : IsApart transfers
   pub schedule : IsScheduled run scheduled transfers settings
   pub obeyed : ObeyedIsMoved (told_to None orders) transfers settings
+  pub can : CanBeObeyed (told_to None orders) transfers settings
   pub tells : Tells printed (told_to only orders)
   pub prints : run.prints printed
 
@@ -619,7 +631,7 @@ pub record HasReplied (run : Run) : Type 0 where
   pub replied : HasRun (record { switch = idle; begun = [] }) came replies told left
   pub prints : run.prints replies
 
--- The same of the first part of that, where no more could be read.
+-- The same of the first part of that, where no more could be read, or be written.
 pub record HasRepliedInPart (run : Run) : Type 0 where
   pub came : List ℕ
   pub rest : List ℕ
@@ -717,20 +729,20 @@ pub record Session : Type 0 where
 -- How a session ended, where this of its commands' lines wasn't told, and no command that was told
 -- made these entries. By itself: all was told, and all was read, or `bye` was the last command.
 -- Where it couldn't be told, an end of its last line is missing. Where a call couldn't be recorded,
--- its command may have made one entry before.
+-- its command may have made one entry before. No command was done behind `bye`.
 abbrev pub EndsSo : Option ServeFault → List Turned → (rest untold : List ℕ) → List Entry → Type 0
 EndsSo None turns rest untold unseen =
-    (untold ≡ []) × (unseen ≡ []) × ((rest ≡ []) ⊎ EndByBye turns)
+    (untold ≡ []) × (unseen ≡ []) × ((GoOn turns × (rest ≡ [])) ⊎ EndByBye turns)
 EndsSo (Some Write) turns rest untold unseen =
     (unseen ≡ []) × ((before : List Turned) × (last : Turned) × (front : List ℕ)
-    × (turns ≡ before ++ last ∷ []) × (last.did.line ≡ front ++ untold))
-EndsSo (Some Record) turns rest untold unseen = (untold ≡ []) × (length unseen ≤ 1)
-EndsSo (Some fault) turns rest untold unseen = (untold ≡ []) × (unseen ≡ [])
+    × (turns ≡ before ++ last ∷ []) × GoOn before × (last.did.line ≡ front ++ untold))
+EndsSo (Some Record) turns rest untold unseen =
+    (untold ≡ []) × (length unseen ≤ 1) × GoOn turns
+EndsSo (Some fault) turns rest untold unseen = (untold ≡ []) × (unseen ≡ []) × GoOn turns
 
 -- It read what came, where that is known, command by command, and did what each asks for. It was
 -- told the lines of what they did, in their order. The entries of this history that have its number
--- are those that its commands made, in their order. No progress that it was told is behind what it
--- was told before.
+-- are those that its commands made, in their order.
 pub record IsSessionOf (extent : Extent) (history : List Entry) (came : Option (List ℕ))
     (s : Session) : Type 0 where
   pub untold : List ℕ
@@ -739,7 +751,6 @@ pub record IsSessionOf (extent : Extent) (history : List Entry) (came : Option (
   pub each : AllByRecursion (IsTurn extent s.number) s.turns
   pub lines : lines_of s.turns ≡ s.told ++ untold
   pub entries : own s.number history ≡ added_entries s.turns ++ unseen
-  pub rising : AreRising s.turns
   pub ends : EndsSo s.fault s.turns s.rest untold unseen
 
 -- Calls, in one order: the words with which their rack began; those of an earlier record, with which
@@ -755,12 +766,24 @@ pub record Calls : Type 0 where
 abbrev pub calls_told : Calls → List Entry
 calls_told calls = calls.earlier ++ calls.told
 
--- Each answer follows from the calls before it. Just the calls of these sessions stand there behind
--- the earlier ones, and at most one more, of which nobody was told.
+-- how far the runs of these calls have come, first of the earlier ones, and then of all
+abbrev pub seen_before : Calls → ℕ
+seen_before calls = greatest calls.earlier
+
+abbrev pub seen_behind : Calls → ℕ
+seen_behind calls = greatest (calls_told calls ++ calls.untold)
+
+-- Each answer follows from the calls before it, and no run was stopped. Just the calls of these
+-- sessions stand there behind the earlier ones, and at most one more, of which nobody was told. The
+-- progress that a session saw never fell back, was no less than that of the earlier calls, and no
+-- more than that of all.
 pub record HaveOneOrder (calls : Calls) (sessions : List Session) : Type 0 where
   pub right : IsReplay (opened calls.opening) (calls_told calls ++ calls.untold) calls.left
   pub no_other : length calls.told ≡ sum_by (λ s. length (own s.number calls.told)) sessions
   pub few : length calls.untold ≤ 1
+  pub unstopped : AreUnstopped (calls_told calls ++ calls.untold)
+  pub seen : AllByRecursion
+      (λ s. AreReadings (seen_before calls) (seen_behind calls) s.turns) sessions
 
 -- what is left of the files that were opened for a record, and for an image
 pub record Kept : Type 0 where
@@ -774,25 +797,25 @@ kept_by received receipts =
       image = option_map received receipts.image;
     }
 
--- The file that was opened for this name, if there is one, holds the text, and was put in its place.
--- Without a name none was opened.
-abbrev pub IsKept : Option Text → List ℕ → Option Closed → Type 0
-IsKept None text file = file ≡ None
-IsKept (Some name) text None = ⊥
-IsKept (Some name) text (Some file) = (file.bytes ≡ Some text) × (file.stands ≡ true)
+-- Where a file is asked for, one was opened, holds the text, and was put in its place. Else none was
+-- opened.
+abbrev pub IsKept : (asked : Bool) → List ℕ → Option Closed → Type 0
+IsKept false text file = file ≡ None
+IsKept true text None = ⊥
+IsKept true text (Some file) = (file.bytes ≡ Some text) × (file.stands ≡ true)
 
--- a front of the text, and then it wasn't put there; or all of it
-abbrev pub IsKeptInPart : Option Text → List ℕ → Option Closed → Type 0
-IsKeptInPart None text file = file ≡ None
-IsKeptInPart (Some name) text None = ⊥
-IsKeptInPart (Some name) text (Some file) =
+-- it holds a front of the text, and then it wasn't put there; or all of it
+abbrev pub IsKeptInPart : (asked : Bool) → List ℕ → Option Closed → Type 0
+IsKeptInPart false text file = file ≡ None
+IsKeptInPart true text None = ⊥
+IsKeptInPart true text (Some file) =
     IsFrontOf text file.bytes × (file.stands ≡ true → file.bytes ≡ Some text)
 
--- such a file begins with the text
-abbrev pub IsBegun : Option Text → List ℕ → Option Closed → Type 0
-IsBegun None text file = file ≡ None
-IsBegun (Some name) text None = ⊥
-IsBegun (Some name) text (Some file) = (rest : List ℕ) × (file.bytes ≡ Some (text ++ rest))
+-- it begins with the text
+abbrev pub IsBegun : (asked : Bool) → List ℕ → Option Closed → Type 0
+IsBegun false text file = file ≡ None
+IsBegun true text None = ⊥
+IsBegun true text (Some file) = (rest : List ℕ) × (file.bytes ≡ Some (text ++ rest))
 
 -- a file that was opened wasn't put in its place
 abbrev pub IsUnput : Option Closed → Type 0
@@ -807,24 +830,29 @@ abbrev pub whole_record : List Text → Calls → List ℕ
 whole_record names calls =
     record_of names calls.opening (calls_told calls ++ calls.untold) ++ end_line
 
+-- what sessions leave of the calls of clients with these names
+abbrev pub Leave : Type 1
+Leave = SharedRack → List Text → Calls → Type 0
+
 -- Both files are whole, and in their places: the record of all calls, and the image of the words to
 -- which they lead.
 abbrev pub AreKept : Kept → SharedRack → List Text → Calls → Type 0
 AreKept kept rack names calls =
-    IsKept (recorded_in rack) (whole_record names calls) kept.recorded
-    × IsKept rack.image_out (image_of calls.left.store) kept.image
+    IsKept (is_some (recorded_in rack)) (whole_record names calls) kept.recorded
+    × IsKept (is_some rack.image_out) (image_of calls.left.store) kept.image
 
 -- both hold fronts of that
 abbrev pub AreKeptInPart : Kept → SharedRack → List Text → Calls → Type 0
 AreKeptInPart kept rack names calls =
-    IsKeptInPart (recorded_in rack) (whole_record names calls) kept.recorded
-    × IsKeptInPart rack.image_out (image_of calls.left.store) kept.image
+    IsKeptInPart (is_some (recorded_in rack)) (whole_record names calls) kept.recorded
+    × IsKeptInPart (is_some rack.image_out) (image_of calls.left.store) kept.image
 
 -- The record of live sessions has all of which somebody was told. The image is as above.
 abbrev pub AreToldKept : Kept → SharedRack → List Text → Calls → Type 0
 AreToldKept kept rack names calls =
-    IsBegun (recorded_in rack) (record_of names calls.opening (calls_told calls)) kept.recorded
-    × IsKeptInPart rack.image_out (image_of calls.left.store) kept.image
+    IsBegun (is_some (recorded_in rack)) (record_of names calls.opening (calls_told calls))
+    kept.recorded
+    × IsKeptInPart (is_some rack.image_out) (image_of calls.left.store) kept.image
 
 -- what a session was told, below its heading; where a fault ended it, a line says so behind that
 abbrev pub told_text : Session → List ℕ
@@ -863,20 +891,36 @@ IsAsItWas run record_out names file =
     × run.holds out.name held × (file.bytes ≡ Some text)
     × ((text ≡ held) ⊎ BeginsRecord out.resumes held names text)))
 
--- No session began: printed was the one line of a refusal, or there was no answer. The file for a
--- record was left so, and no image was put in its place.
-pub record HasRefusedSessions (run : Run) (kept : Kept) (is_left : Option Closed → Type 0)
-    : Type 0 where
+-- the rack of sessions is none: its word is that of no shape, or its file hasn't just its words
+abbrev pub IsWrongRackOf : Run → SharedRack → Refusal → Type 0
+IsWrongRackOf run rack refusal =
+    (image : Option (List ℕ)) × HoldsGiven run.holds rack.image image
+    × IsWrongRack rack.shape image refusal
+
+-- so it is, or live sessions can't go on with the record in the file of its name
+abbrev pub IsWrongLive : Run → SharedRack → List Text → Refusal → Type 0
+IsWrongLive run rack names refusal =
+    IsWrongRackOf run rack refusal
+    ⊎ ((extent : Extent) × (opening : Store) × BeginsOn run rack extent opening
+    × (fault : RecordFault) × IsWrongFor run.holds rack.record_out opening names fault
+    × (refusal ≡ of_record fault))
+
+-- No session began: printed was the one line of a refusal, of what is so wrong, or there was no
+-- answer. The file for a record was left so, and no image was put in its place.
+pub record HasRefusedSessions (run : Run) (kept : Kept) (is_wrong : Refusal → Type 0)
+    (is_left : Option Closed → Type 0) : Type 0 where
   pub status : run.status ≡ REFUSED
-  pub refuses : HasPrintedRefusal run
+  pub refuses : ((refusal : Refusal) × is_wrong refusal × run.prints (refusal_line refusal))
+      ⊎ HasGivenUp run
   pub recorded : is_left kept.recorded
   pub unput : IsUnput kept.image
 
-abbrev pub KeepsScripts : Run → Kept → (SharedRack → List Text → Calls → Type 0) → Type 0
+abbrev pub KeepsScripts : Run → Kept → Leave → Type 0
 KeepsScripts run kept keeps =
     (rack : SharedRack) (scripts : List Text) (workers : ℕ)
     → AsksFor run (Serve rack scripts workers) → run.status ≢ UNWRITTEN
-    → HasServed run rack scripts (keeps rack []) ⊎ HasRefusedSessions run kept IsEmpty
+    → HasServed run rack scripts (keeps rack [])
+    ⊎ HasRefusedSessions run kept (IsWrongRackOf run rack) IsEmpty
 
 -- ---- live clients
 
@@ -949,13 +993,14 @@ pub record HasHosted (run : Run) (rack : SharedRack) (names : List Text) (client
   pub prints : run.prints (flat_map (hosted_text names) sessions)
   pub kept : keeps calls
 
-abbrev pub KeepsClients : Run → Kept → Clients → (SharedRack → List Text → Calls → Type 0)
-    → Type 0
+abbrev pub KeepsClients : Run → Kept → Clients → Leave → Type 0
 KeepsClients run kept clients keeps =
     (rack : SharedRack) (names : List Text) (workers : ℕ) → AsksFor run (Host rack names workers)
     → run.status ≢ UNWRITTEN
     → HasHosted run rack names clients (keeps rack names)
-    ⊎ (HasRefusedSessions run kept (IsAsItWas run rack.record_out names) × (clients.ends ≡ []))
+    ⊎ (HasRefusedSessions run kept
+    (λ refusal. IsWrongLive run rack names refusal ⊎ (refusal ≡ Threads))
+    (IsAsItWas run rack.record_out names) × (clients.ends ≡ []))
 
 -- The one client had a session with what comes of standard input. Printed was what it was told; and
 -- behind that, where a fault ended it, a line says so.
@@ -974,11 +1019,11 @@ pub record HasTalked (run : Run) (rack : SharedRack) (keeps : Calls → Type 0) 
   pub prints : run.prints (its.told ++ line_of_end its.fault)
   pub kept : keeps calls
 
-abbrev pub KeepsTalks : Run → Kept → (SharedRack → List Text → Calls → Type 0) → Type 0
+abbrev pub KeepsTalks : Run → Kept → Leave → Type 0
 KeepsTalks run kept keeps =
     (rack : SharedRack) → AsksFor run (Talk rack) → run.status ≢ UNWRITTEN
     → HasTalked run rack (keeps rack [])
-    ⊎ HasRefusedSessions run kept (IsAsItWas run rack.record_out [])
+    ⊎ HasRefusedSessions run kept (IsWrongLive run rack []) (IsAsItWas run rack.record_out [])
 
 -- ---- `replay`
 
@@ -1004,14 +1049,41 @@ pub record HasReplayed (run : Run) (shape : Option Text) (recorded : Text) (imag
   pub right : IsRemade (session_limit (length names)) body opening first history left rest
   pub prints : run.prints (image_of left.store)
 
--- at status 1 no image is printed
+-- What is first wrong: the record has no head, by which to know the shape that wasn't given; the
+-- shape or the image; the head, which is that of another rack; or an entry, or what stands in its
+-- place.
+pub data IsFirstWrongReplayed (shape : Option Text) (text : List ℕ) (image : Option (List ℕ))
+    (first : Option ℕ) (refusal : Refusal) : Type 0 where
+  no_head : shape ≡ None → BeginsWithNoHead text → refusal ≡ RecordHead
+      → IsFirstWrongReplayed shape text image first refusal
+  rack_wrong : (word : List ℕ) → IsShapeOf shape text word → IsWrongRack word image refusal
+      → IsFirstWrongReplayed shape text image first refusal
+  other_head : (word : List ℕ) (opening : Store) → IsShapeOf shape text word
+      → IsRackOf word image opening → IsNoRecordOn opening text → refusal ≡ RecordHead
+      → IsFirstWrongReplayed shape text image first refusal
+  entry_wrong : (word body : List ℕ) (opening : Store) (limit : ℕ) (error : RecordError)
+      → IsShapeOf shape text word → IsRackOf word image opening
+      → IsRecordOn opening text body limit → IsRecordError limit body opening first error
+      → refusal ≡ of_record error.fault → IsFirstWrongReplayed shape text image first refusal
+
+-- Printed was the one line of the refusal of what is first wrong with what the files held.
+pub record HasRefusedReplay (run : Run) (shape : Option Text) (recorded : Text)
+    (image : Option Text) (first : Option ℕ) : Type 0 where
+  pub text : List ℕ
+  pub bytes : Option (List ℕ)
+  pub refusal : Refusal
+  pub held : run.holds recorded text
+  pub held_image : HoldsGiven run.holds image bytes
+  pub wrong : IsFirstWrongReplayed shape text bytes first refusal
+  pub prints : run.prints (refusal_line refusal)
+
 abbrev pub KeepsReplays : Run → Type 0
 KeepsReplays run =
     (shape : Option Text) (recorded : Text) (image : Option Text) (first : Option ℕ)
     → (HasDone run (Replay shape recorded image first)
     → HasReplayed run shape recorded image first)
     × (AsksFor run (Replay shape recorded image first) → run.status ≡ REFUSED
-    → HasPrintedRefusal run)
+    → HasRefusedReplay run shape recorded image first ⊎ HasGivenUp run)
 
 -- ---- 9: texts
 
@@ -1082,13 +1154,34 @@ pub record CanBeRun (from : Source (List ℕ)) (shape text : List ℕ)
   pub apart : IsApart batch
   pub fits : IsRightImage extent image
 
--- the texts of a job are right (for `draw` and `switch` this says nothing)
+-- a picture of such a schedule can be drawn, with the settings that are wanted
+pub record CanBeDrawn (text schedule : List ℕ) (chosen : Option Text) : Type 0 where
+  pub range : Option SettingRange
+  pub shown : Shown
+  pub batch : List Transfer
+  pub settings : List (List ℕ)
+  pub wanted : AreWanted chosen range
+  pub read : IsScheduleRead widest text schedule batch settings
+  pub are_shown : AreShown range (length settings) shown
+
+-- the switches of a rack that is wired as usual can be set for such a batch
+pub record CanBeSwitched (from : Source (List ℕ)) (text : List ℕ) (wiring : Option (List ℕ))
+    : Type 0 where
+  pub batch : List Transfer
+  pub usual : wiring ≡ None
+  pub right : AreRight from widest text batch
+
+-- the texts of a job are right (for `switch` with a wiring this says nothing)
 abbrev pub AreRightTexts : Job → Files (List ℕ) → Type 0
 AreRightTexts (Plan file planning workers) texts =
     (batch : List Transfer) × Denotes widest (text_in texts.list) batch
 AreRightTexts (Check batch schedule) texts =
     (transfers : List Transfer) × (count : ℕ) × Denotes widest (text_in texts.list) transfers
     × IsShown transfers (text_in texts.other) count
+AreRightTexts (Draw batch schedule chosen) texts =
+    CanBeDrawn (text_in texts.list) (text_in texts.other) chosen
+AreRightTexts (SwitchJob batch scheduled wiring workers) texts =
+    CanBeSwitched (source_in scheduled (text_in texts.other)) (text_in texts.list) texts.wiring
 AreRightTexts (Orders batch scheduled only workers) texts =
     (transfers : List Transfer)
     × AreRight (source_in scheduled (text_in texts.other)) widest (text_in texts.list) transfers
@@ -1116,35 +1209,6 @@ KeepsRefusals run =
     (job : Job) → IsOfTextsAlone job → AsksFor run job → run.status ≡ REFUSED
     → HasRefused run job ⊎ HasGivenUp run
 
--- ---- where not all could be written
-
--- all that is promised of commands that need nothing but texts
-pub record KeepsTexts (run : Run) : Type 0 where
-  pub plans : KeepsPlans run
-  pub checks : KeepsChecks run
-  pub runs : KeepsRuns run
-  pub images : KeepsImages run
-  pub directions : KeepsDirections run
-  pub switches : KeepsSwitches run
-  pub orders : KeepsOrders run
-  pub pictures : KeepsPictures run
-  pub replays : KeepsReplays run
-  pub refusals : KeepsRefusals run
-
--- A front was printed of what a run prints that ends with status 0, or with 1; so it is with the
--- files of sessions, but that the record of live ones has all of which somebody was told.
-pub record KeepsInPart (run : Run) (kept : Kept) (clients : Clients) : Type 0 where
-  pub ends : (run.status ≡ DONE) ⊎ (run.status ≡ REFUSED)
-  pub texts : KeepsTexts run
-  pub scripts : KeepsScripts run kept (AreKeptInPart kept)
-  pub live : KeepsClients run kept clients (AreToldKept kept)
-  pub talks : KeepsTalks run kept (AreToldKept kept)
-
--- so it is where not all could be written
-abbrev pub KeepsFronts : (ℕ → Run) → Kept → Clients → ℕ → Type 0
-KeepsFronts fronts kept clients status =
-    status ≡ UNWRITTEN → (other : ℕ) × KeepsInPart (fronts other) kept clients
-
 -- ---- where the arguments ask for nothing
 
 -- status 2 is only for such
@@ -1152,15 +1216,83 @@ abbrev pub KeepsMisuse : Run → Type 0
 KeepsMisuse run =
     run.status ≡ MISUSED → (request : Request) → AskFor run.words request → ⊥
 
+-- ---- nothing but what is asked for
+
+-- no file was opened for a record, nor for an image
+abbrev pub HasNoFiles : Kept → Type 0
+HasNoFiles kept = (kept.recorded ≡ None) × (kept.image ≡ None)
+
+-- nor was a port, and no live client had a session
+abbrev pub LeavesAll : (before after : Ways) → Kept → Clients → Type 0
+LeavesAll before after kept clients =
+    (after ≡ before) × HasNoFiles kept × (clients.ends ≡ [])
+
+-- none was that isn't asked for
+abbrev pub HasOnlyFiles : SharedRack → Kept → Type 0
+HasOnlyFiles rack kept =
+    (rack.record_out ≡ None → kept.recorded ≡ None) × (rack.image_out ≡ None → kept.image ≡ None)
+
+-- what a job doesn't ask for stays as it was: only `drive` opens ports, only sessions leave files,
+-- and only `host` has live clients
+abbrev pub LeavesOthers : Job → (before after : Ways) → Kept → Clients → Type 0
+LeavesOthers (Drive batch port port_b scheduled wiring first goes_on workers) before after kept
+    clients =
+    HasNoFiles kept × (clients.ends ≡ [])
+LeavesOthers (Serve rack scripts workers) before after kept clients =
+    (after ≡ before) × HasOnlyFiles rack kept × (clients.ends ≡ [])
+LeavesOthers (Host rack names workers) before after kept clients =
+    (after ≡ before) × HasOnlyFiles rack kept
+LeavesOthers (Talk rack) before after kept clients =
+    (after ≡ before) × HasOnlyFiles rack kept × (clients.ends ≡ [])
+LeavesOthers job before after kept clients = LeavesAll before after kept clients
+
+abbrev pub KeepsOthers : Run → (before after : Ways) → Kept → Clients → Type 0
+KeepsOthers run before after kept clients =
+    (job : Job) → AsksFor run job → LeavesOthers job before after kept clients
+
+-- some arguments ask for something: these for a plan
+abbrev pub SomeAsk : Type 0
+SomeAsk =
+    AskFor (codes "exchange" ∷ codes "plan" ∷ codes "batch.txt" ∷ [])
+    (record { job = Plan (codes "batch.txt") Plain 1; is_quiet = false })
+
+-- the grammar finds that the arguments ask for help, or for the version
+abbrev pub AskForHelp : List Text → Type 0
+AskForHelp words =
+    IsAmong DisplayHelp (faults_of words) ⊎ IsAmong DisplayVersion (faults_of words)
+
+-- The status is 2, and nothing was printed; or there was no memory to say so; or not all could be
+-- written.
+abbrev pub IsMisused : Run → Type 0
+IsMisused run =
+    ((run.status ≡ MISUSED) × run.prints [])
+    ⊎ (((run.status ≡ REFUSED) × run.prints (codes "refused no memory\n"))
+    ⊎ (run.status ≡ UNWRITTEN))
+
+-- nothing was opened, and the status says so, or help was asked for
+pub record HasDoneNothing (run : Run) (before after : Ways) (kept : Kept) (clients : Clients)
+    : Type 0 where
+  pub left : LeavesAll before after kept clients
+  pub ends : IsMisused run ⊎ ((run.status ≡ DONE) × AskForHelp run.words)
+
+-- so it is where nothing is asked for
+abbrev pub KeepsNothing : Run → (before after : Ways) → Kept → Clients → Type 0
+KeepsNothing run before after kept clients =
+    ((request : Request) → AskFor run.words request → ⊥)
+    → HasDoneNothing run before after kept clients
+
+-- so it is, without help, where the arguments can't be had as texts
+abbrev pub KeepsUnread : Run → (before after : Ways) → Kept → Clients → Type 0
+KeepsUnread run before after kept clients =
+    LeavesAll before after kept clients × IsMisused run
+
 -- ---- all promises
 
--- A run of the program keeps them, and its status is 3 at most: it, and where a front was printed;
--- the ways to ports before it and behind it; the files of a record and of an image; and live
--- clients.
-pub record KeepsPromises (run : Run) (fronts : ℕ → Run) (before after : Ways) (kept : Kept)
-    (clients : Clients) : Type 0 where
-  pub one : AskForOne run.words
-  pub ends : run.status ≤ UNWRITTEN
+-- What is promised of a run that ends with status 0 or 1, with the ways to ports before it and behind
+-- it, the files of a record and of an image, and live clients; and what sessions of scripts leave,
+-- and live ones.
+pub record KeepsAll (run : Run) (before after : Ways) (kept : Kept) (clients : Clients)
+    (scripts_leave live_leave : Leave) : Type 0 where
   pub plans : KeepsPlans run
   pub checks : KeepsChecks run
   pub runs : KeepsRuns run
@@ -1172,10 +1304,29 @@ pub record KeepsPromises (run : Run) (fronts : ℕ → Run) (before after : Ways
   pub stops : KeepsStops run before after
   pub replies : KeepsReplies run
   pub pictures : KeepsPictures run
-  pub scripts : KeepsScripts run kept (AreKept kept)
-  pub live : KeepsClients run kept clients (AreKept kept)
-  pub talks : KeepsTalks run kept (AreKept kept)
+  pub scripts : KeepsScripts run kept scripts_leave
+  pub live : KeepsClients run kept clients live_leave
+  pub talks : KeepsTalks run kept live_leave
   pub replays : KeepsReplays run
   pub refusals : KeepsRefusals run
+
+-- Where not all could be written, a front was printed of what such a run prints, and what passed over
+-- ports is as there; so it is with the files of sessions, but that the record of live ones has all of
+-- which somebody was told.
+abbrev pub KeepsFronts : (ℕ → Run) → Ways → Ways → Kept → Clients → ℕ → Type 0
+KeepsFronts fronts before after kept clients status =
+    status ≡ UNWRITTEN → (other : ℕ) × ((other ≡ DONE) ⊎ (other ≡ REFUSED))
+    × KeepsAll (fronts other) before after kept clients (AreKeptInPart kept) (AreToldKept kept)
+
+-- A run of the program keeps them, and its status is 3 at most: it, and where a front was printed.
+-- Its arguments ask for one thing at most.
+pub record KeepsPromises (run : Run) (fronts : ℕ → Run) (before after : Ways) (kept : Kept)
+    (clients : Clients) : Type 0 where
+  pub one : AskForOne run.words
+  pub ends : run.status ≤ UNWRITTEN
+  pub all : KeepsAll run before after kept clients (AreKept kept) (AreKept kept)
   pub misuse : KeepsMisuse run
-  pub fronts_too : KeepsFronts fronts kept clients run.status
+  pub some : SomeAsk
+  pub others : KeepsOthers run before after kept clients
+  pub nothing : KeepsNothing run before after kept clients
+  pub fronts_too : KeepsFronts fronts before after kept clients run.status

@@ -156,6 +156,13 @@ HasNoSessions (Host rack clients workers) = ⊥
 HasNoSessions (Talk rack) = ⊥
 HasNoSessions job = ⊤
 
+-- it has some, which may wait
+abbrev pub HasSessions : Job → Type 0
+HasSessions (Serve rack scripts workers) = ⊤
+HasSessions (Host rack clients workers) = ⊤
+HasSessions (Talk rack) = ⊤
+HasSessions job = ⊥
+
 -- the answer to a job, where its files have been read
 abbrev pub IsJobAnswer : Holding → Given → Job → Response → Type 0
 IsJobAnswer holds given job response =

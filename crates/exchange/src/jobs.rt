@@ -4,15 +4,15 @@ ghost use Rattle.std.specs.Prelude.{◌≡◌, [], List, ℕ, IfErr, IfOk, IsOk,
 ghost use Rattle.std.specs.Io.KnownBytes.{Appends};
 ghost use Rattle.batch_book.specs.History.{Account};
 ghost use Rattle.plan_answers.specs.Lent.{bytes_of};
-ghost use Rattle.command_words.specs.Jobs.{IsWithinLimits, file_uses, files_of};
-ghost use Rattle.named_files.specs.Apart.{AreSeenApart};
+ghost use Rattle.command_words.specs.Jobs.{IsWithinLimits, files_of};
 ghost use Rattle.named_files.specs.Contents.{AreContents, contents_in};
 ghost use Rattle.named_files.specs.Clients.{clients_by, ends_of};
-ghost use Rattle.exchange.specs.Responses.{IsAnswerTo, IsC004By, IsC004Cut, IsJobAnswer, HasNoSessions, IsJobCut, IsOfTexts, IsPlainAnswer, IsTextAnswer, IsToldCut, KeepsPorts, LeavesRest, given_by, text_in as the_text};
-ghost use Rattle.exchange.specs.Notes.{HasJobOverlap, HasOverlap, IsBeside};
+ghost use Rattle.exchange.specs.Ends.{HasEnded, behind, streams_of};
+ghost use Rattle.exchange.specs.Responses.{IsAnswerTo, IsC004By, IsC004Cut, HasNoSessions, HasSessions, IsOfTexts, IsPlainAnswer, IsTextAnswer, IsToldCut, KeepsPorts, LeavesRest, given_by, named_by, text_in as the_text};
+ghost use Rattle.exchange.specs.Notes.{HasOverlap, IsBeside};
 ghost use Rattle.exchange.specs.Keeping.{AreKept, AreKeptBut};
 ghost use Rattle.named_files.specs.Outputs.{AreNamed, AreOpened, begins_with, is_live, output_of, record_of};
-ghost use Rattle.exchange.specs.Outcomes.{HasNote, HasTold, IsNothing, IsUnanswered, response_of};
+ghost use Rattle.exchange.specs.Outcomes.{HasTold, IsNothing, IsUnanswered, response_of};
 ghost use Rattle.named_files.specs.Notes.{IsNoAnswer, IsRefused};
 
 use crate::answered::{Answered, finished};
@@ -56,6 +56,8 @@ pub(crate) struct Ended<C> {
 /// far a record goes that hasn't ended. It is looked first where names lead. Then the files for the
 /// record of sessions and for the image that they leave are opened, before any other is read, and
 /// all that are read are read before anything is answered.
+///
+/// Only sessions may wait, for a lock or for a client: `answer_alone` isn't handed what that takes.
 pub(crate) fn answer_to<R: Runtime, S: System, P: Ports, I: Read, O: Write, E: Write>(
     rt: &R,
     system: &S,
@@ -67,34 +69,82 @@ pub(crate) fn answer_to<R: Runtime, S: System, P: Ports, I: Read, O: Write, E: W
 ) -> Ended<S::Receipt>
     requires limits { IsWithinLimits request.now.job }
     requires unserved { peers.old.endings.items ≡ [] }
-    ensures response { HasTold (O.contents out.old) (O.contents out.new)
-        (λ told done. (left : Option Account) × IsJobAnswer (S.holds system.now)
+    ensures { HasEnded (named_by (S.holds system.now) (S.leads system.now)) S.received
         (given_by (I.remaining input.old) (P.ways peers.old.ports)
-        (clients_by (S.says system.now) (S.had system.now))) request.now.job
-        (record {
-          told = told;
-          end = done.answer;
-          left = left;
-          ports = P.ways peers.new.ports;
-          ends = ends_of peers.new.endings.items;
-        })
-        × AreKeptBut (S.holds system.now) S.received request.now.job left result.receipts
-        done.lost)
-        (IsUnanswered (P.ways peers.old.ports) (P.ways peers.new.ports)
-        (ends_of peers.new.endings.items))
-        (IsJobCut (S.holds system.now) (given_by (I.remaining input.old) (P.ways peers.old.ports)
-        (clients_by (S.says system.now) (S.had system.now))) request.now.job
-        (P.ways peers.new.ports)
-        (ends_of peers.new.endings.items)) result.end }
-    ensures note { HasNote result.end }
-    ensures beside { IsBeside (HasJobOverlap (S.holds system.now)
+        (clients_by (S.says system.now) (S.had system.now))) request.now
+        (streams_of (O.contents out.old) (O.contents out.new) (E.contents err.old)
+        (E.contents err.new))
+        (behind result.receipts (P.ways peers.new.ports) (ends_of peers.new.endings.items))
+        result.end }
+{
+    match &request.job {
+        Job::Serve { .. } | Job::Host { .. } | Job::Talk { .. } => {
+            wait_for_sessions(rt, system, peers, request, input, out, err)
+        }
+        _ => answer_alone(rt, system, peers, request, input, out, err),
+    }
+}
+
+/// The answer to a job that has no sessions. It returns: what it is handed lets it wait for nobody,
+/// but that a read may block.
+fn answer_alone<R: AllocGlobal + Threads + Sync, S: System, P: Ports, I: Read, O: Write, E: Write>(
+    rt: &R,
+    system: &S,
+    peers: &mut Peers<P>,
+    request: &Request,
+    input: &mut I,
+    out: &mut O,
+    err: &mut E,
+) -> Ended<S::Receipt>
+    requires alone { HasNoSessions request.now.job }
+    requires unserved { peers.old.endings.items ≡ [] }
+    ensures { HasEnded (named_by (S.holds system.now) (S.leads system.now)) S.received
         (given_by (I.remaining input.old) (P.ways peers.old.ports)
-        (clients_by (S.says system.now) (S.had system.now))) request.now.job) request.now
-        (E.contents err.old) (E.contents err.new) }
-    ensures apart { OnOk result.end
-        (AreSeenApart (S.leads system.now) (file_uses request.now.job)) }
-    ensures unkept { OnErr result.end
-        (AreKept (S.holds system.now) S.received request.now.job None result.receipts) }
+        (clients_by (S.says system.now) (S.had system.now))) request.now
+        (streams_of (O.contents out.old) (O.contents out.new) (E.contents err.old)
+        (E.contents err.new))
+        (behind result.receipts (P.ways peers.new.ports) (ends_of peers.new.endings.items))
+        result.end }
+{
+    let (alloc, job) = (rt.alloc(), &request.job);
+    let (outputs, opened) = open_apart(system, alloc, job);
+    let contents = match read_opened(system, alloc, job, opened, input) {
+        Ok(contents) => contents,
+        Err(missed) => {
+            return Ended {
+                end: Err(missed),
+                receipts: close_outputs(system, job, outputs),
+            };
+        }
+    };
+    let found = answer_other(rt, &mut peers.ports, request, &contents, input, out, err);
+    let end = finished(alloc, found, Lost::none(), job, &contents);
+    Ended {
+        end,
+        receipts: close_outputs(system, job, outputs),
+    }
+}
+
+/// The answer to a job that has sessions, for which it waits.
+fn wait_for_sessions<R: Runtime, S: System, P: Ports, I: Read, O: Write, E: Write>(
+    rt: &R,
+    system: &S,
+    peers: &mut Peers<P>,
+    request: &Request,
+    input: &mut I,
+    out: &mut O,
+    err: &mut E,
+) -> Ended<S::Receipt>
+    requires sessions { HasSessions request.now.job }
+    requires limits { IsWithinLimits request.now.job }
+    requires unserved { peers.old.endings.items ≡ [] }
+    ensures { HasEnded (named_by (S.holds system.now) (S.leads system.now)) S.received
+        (given_by (I.remaining input.old) (P.ways peers.old.ports)
+        (clients_by (S.says system.now) (S.had system.now))) request.now
+        (streams_of (O.contents out.old) (O.contents out.new) (E.contents err.old)
+        (E.contents err.new))
+        (behind result.receipts (P.ways peers.new.ports) (ends_of peers.new.endings.items))
+        result.end }
 {
     let (alloc, job) = (rt.alloc(), &request.job);
     let (outputs, opened) = open_apart(system, alloc, job);
@@ -112,7 +162,7 @@ pub(crate) fn answer_to<R: Runtime, S: System, P: Ports, I: Read, O: Write, E: W
         receipts,
         lost,
         cut: _,
-    } = answer_job(
+    } = hold_sessions(
         rt, system, peers, request, &contents, outputs, input, out, err,
     );
     Ended {
@@ -142,8 +192,9 @@ fn read_opened<S: System, I: Read>(
     read_contents(system, alloc, job.files(), input)
 }
 
-/// What comes of a job whose files contain this, and of the files that are open for it.
-fn answer_job<R: Runtime, S: System, P: Ports, I: Read, O: Write, E: Write>(
+/// What comes of the sessions of a job whose files contain this, and of the files that are open for
+/// it.
+fn hold_sessions<R: Runtime, S: System, P: Ports, I: Read, O: Write, E: Write>(
     rt: &R,
     system: &S,
     peers: &mut Peers<P>,
@@ -154,6 +205,7 @@ fn answer_job<R: Runtime, S: System, P: Ports, I: Read, O: Write, E: Write>(
     out: &mut O,
     err: &mut E,
 ) -> Kept<S::Receipt>
+    requires sessions { HasSessions request.now.job }
     requires limits { IsWithinLimits request.now.job }
     requires unserved { peers.old.endings.items ≡ [] }
     requires scripts { length (contents_in contents.now).scripts
@@ -235,10 +287,7 @@ fn answer_job<R: Runtime, S: System, P: Ports, I: Read, O: Write, E: Write>(
             tell_cut(alloc, rack, kept.cut, request.is_quiet, err);
             kept
         }
-        _ => {
-            let end = answer_other(rt, &mut peers.ports, request, contents, input, out, err);
-            without_sessions(system, job, end, outputs)
-        }
+        _ => unreachable!(),
     }
 }
 
@@ -301,6 +350,7 @@ fn answer_other<R: AllocGlobal + Threads + Sync, P: Ports, I: Read, O: Write, E:
         job => Ok(answer_texts(rt, job, contents)?),
     }
 }
+
 /// The answer to a job whose files are all that it asks for. It waits for nobody.
 fn answer_texts<R: AllocGlobal + Threads + Sync>(
     rt: &R,

@@ -4,21 +4,21 @@
 //! the system's own streams and arguments: it hands them to [`answer`], whose clause is what the
 //! program promises (`specs/Promises.antt`). That is proved of the contract of `respond`.
 //!
-//! `respond` prints the answer to the job that the words ask for, by what the files of their
-//! names contain and over the ports of their names, or the line that says why there is none; or it
-//! ends as for an error of clap (`IsEndFor` of `specs/Ends.antt`, `IsAnswerTo` of
+//! `respond` prints the answer to the job that the words ask for, by what the files of their names
+//! contain and over the ports of their names, or the line that says why there is none; or it ends
+//! as for an error of clap (`IsEndFor` of `specs/Ends.antt`, `IsAnswerTo` of
 //! `specs/Responses.antt`). Where it ends with status 3, a front of that stands there, or of what
 //! is told before it, and fronts of what sessions leave went to the files for that (`IsCutFor`).
 //! Else what sessions leave went to the files that `--record` and `--image-out` name, and nothing
 //! else did (`AreKept` of `specs/Keeping.antt`). The record of live sessions goes on from what its
-//! file held (`BeginsAs` of `kept_sessions`), and has each entry before its reply is told. What a
-//! live client was told went to the file of its name (`clients_by` of `named_files`). No port was
-//! opened but by `drive`, once, by the names of its words (`Ways` of `drive_answers`). Which bytes
-//! a file holds, and where names lead, the [`System`](named_files::System) tells: of the real one
-//! contracts know none but the bytes of standard input. Beside what it prints for a job, standard
-//! error gets at most a front of one text of a refusal, and what is told beside `talk`, `c004`,
-//! `host` and `replay`, and beside `switch` and `drive` where transfers overlap (`IsNoted` of
-//! `specs/Notes.antt`).
+//! file held (`BeginsAs` of `kept_sessions`), and in the end has each entry of which somebody was
+//! told. What a live client was told went to the file of its name (`clients_by` of `named_files`).
+//! No port was opened but by `drive`, once, by the names of its words (`Ways` of `drive_answers`).
+//! Which bytes a file holds, and where names lead, the [`System`](named_files::System) tells: of
+//! the real one contracts know none but the bytes of standard input. Beside what it prints for a
+//! job, standard error gets at most a front of one text of a refusal, and what is told beside
+//! `talk`, `c004`, `host` and `replay`, and beside `switch` and `drive` where transfers overlap
+//! (`IsNoted` of `specs/Notes.antt`).
 #![tactic(auto)]
 
 mod answered;

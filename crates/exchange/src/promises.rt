@@ -1,12 +1,17 @@
 //! The program, by what it promises.
 //!
-//! [`answer`] is all that `main` calls. Its clause is what the program promises, over the
-//! definitions of `specs/Promises.antt`: who reads these has read what it is proved to do.
+//! `main` takes the standard streams, reads the arguments, and hands both to [`answer`], with whose
+//! status it ends. The clause of that is what the program promises, over the definitions of
+//! `specs/Promises.antt`: who reads these has read what it is proved to do.
+//!
+//! By its bounds `answer` may wait, and so may `respond`, `print_response` and `answer_to` below
+//! it. These are short, without a loop, and hand on a job without sessions to `answer_alone`, which
+//! by its bounds can't wait.
 
-ghost use Rattle.std.specs.Prelude.{◌≡◌, [], IfOk};
+ghost use Rattle.std.specs.Prelude.{◌≡◌, [], IfOk, OnErr};
 ghost use Rattle.std.specs.Process.{exit_status};
 ghost use Rattle.command_words.specs.Jobs.{texts_of};
-ghost use Rattle.exchange.specs.Promises.{KeepsPromises, clients_of, front_of, kept_by, run_of};
+ghost use Rattle.exchange.specs.Promises.{KeepsPromises, KeepsUnread, clients_of, front_of, kept_by, run_of};
 
 use crate::peers::Peers;
 use crate::responding::{Left, respond};
@@ -30,11 +35,18 @@ pub fn answer<R: Runtime, S: System, P: Ports, I: Read, O: Write, E: Write>(
     err: &mut E,
 ) -> Left<S::Receipt>
     requires { peers.old.endings.items ≡ [] }
-    ensures { IfOk arguments (λ w. KeepsPromises
+    ensures arguments { IfOk arguments (λ w. KeepsPromises
         (run_of (S.holds system.now) (I.remaining input.old) (O.contents out.old)
         (O.contents out.new) (texts_of w.items) (exit_status result.code))
         (front_of (S.holds system.now) (I.remaining input.old) (O.contents out.old)
         (O.contents out.new) (texts_of w.items))
+        (P.ways peers.old.ports) (P.ways peers.new.ports)
+        (kept_by S.received result.receipts)
+        (clients_of (S.says system.now) (S.had system.now) peers.new.endings.items)) }
+    // Where the arguments can't be read as texts.
+    ensures none { OnErr arguments (KeepsUnread
+        (run_of (S.holds system.now) (I.remaining input.old) (O.contents out.old)
+        (O.contents out.new) [] (exit_status result.code))
         (P.ways peers.old.ports) (P.ways peers.new.ports)
         (kept_by S.received result.receipts)
         (clients_of (S.says system.now) (S.had system.now) peers.new.endings.items)) }

@@ -4,10 +4,10 @@
 //! `specs/Keeping.antt`). [`host`] and [`talk`] begin with a new book, or with that of a record
 //! that they go on with (`BeginsFor` of `specs/Records.antt`). What they cut off behind its entries
 //! is a front of the text of entries that could come, or of the last line (`IsResumed`); how much
-//! that was, they tell (`IsCutTold` of `specs/Live.antt`). Their record grows entry by entry, each
-//! before its reply is told. What is left of their files stands in `AreLiveKept`: the record has
-//! each entry that was told, also where something of it is lost. What they answer stands in
-//! `IsLiveAnswer` (`specs/Answers.antt`).
+//! that was, they tell (`IsCutTold` of `specs/Live.antt`). What is left of their files in the end
+//! stands in `AreLiveKept`: the record has each entry that was told, also where something of it is
+//! lost. No contract says when it was written. What they answer stands in `IsLiveAnswer`
+//! (`specs/Answers.antt`).
 #![tactic(auto)]
 
 mod found;

@@ -7,10 +7,11 @@ use Rattle.exchange.specs.Promises.{KeepsPromises, clients_of, front_of, kept_by
 use Rattle.exchange.specs.Responses.{given_by, named_by}
 use Rattle.exchange.proofs.AskedJobs.{kept}
 use Rattle.exchange.proofs.KeptPromises.{keeps_in_part, keeps_promises}
+use Rattle.exchange.proofs.PromisedOthers.{cut_nothing, cut_others, keeps_unread}
 use Rattle.exchange.proofs.promises.answer.Goals as goal
 
-pub returns : goal.returns
-returns g c =
+pub returns-clause-arguments : goal.returns-clause-arguments
+returns-clause-arguments g c =
     let holds = g.S.System.holds c.args.system.now in
     let named = named_by holds (g.S.Places.leads c.args.system.now) in
     let received = g.S.System.received in
@@ -30,4 +31,10 @@ returns g c =
     (λ w. KeepsPromises (run_of holds input before after (texts_of w.items) code) (front_of holds input before after (texts_of w.items)) was ways (kept_by received receipts) (clients_of comes had endings)) c.args.arguments (λ w. texts_of w.items) named
     (IsLeft holds received receipts ways (ends_of endings)) (IsNoneLeft receipts was ways (ends_of endings)) given (streams_of before after (g.E.Write.contents c.args.err.now) (g.E.Write.contents c.respond.new.err)) code
     (λ w ends. keeps_promises _ ways received receipts comes had endings refl (λ job response is. is.1) (λ job response is. (is.0, is.2)) (λ none. none) ends)
-    (λ w unwritten cut. keeps_in_part (texts_of w.items) named left given before after code ways received receipts comes had endings refl (λ job response is. (is.0.0, (is.0.1, is.2))) (λ none. (none.0, none.2)) unwritten cut) c.respond.ensures.arguments
+    (λ w unwritten cut. keeps_in_part (texts_of w.items) named left given before after code received receipts comes had endings refl (λ job response is. (is.0.0, (is.0.1, is.2))) (λ none. (none.0, none.2)) (λ job response is. is.1) (λ none. none.1) unwritten cut
+    (cut_others received receipts comes had endings ways (texts_of w.items) named given before after code unwritten cut) (cut_nothing received receipts comes had endings ways (texts_of w.items) named given before after code unwritten cut)) c.respond.ensures.arguments
+
+pub returns-clause-none : goal.returns-clause-none
+returns-clause-none g c =
+    keeps_unread g.S.System.received c.respond.result.receipts (g.S.ClientFiles.says c.args.system.now) (g.S.ClientFiles.had c.args.system.now) c.respond.new.peers.endings.items (g.P.Ports.ways c.respond.new.peers.ports) c.args.arguments (g.S.System.holds c.args.system.now) (g.I.Read.remaining c.args.input.now)
+    (g.O.Write.contents c.args.out.now) (g.O.Write.contents c.respond.new.out) (g.P.Ports.ways c.args.peers.now.ports) (exit_status c.respond.result.code) c.respond.ensures.none

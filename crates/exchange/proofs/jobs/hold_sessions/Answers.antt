@@ -1,11 +1,8 @@
 use Rattle.std.proofs.Common.{[], ap, refl, rules}
 use Rattle.std.proofs.KnownBytes.{Appends-nil}
-use Rattle.named_files.specs.Clients.{clients_by}
-use Rattle.named_files.specs.Contents.{contents_in}
-use Rattle.exchange.specs.Responses.{given_by}
-use Rattle.exchange.proofs.Comes.{err_so, leaves_rest, none_of, ok_so, on_err, told_kept, told_plain}
+use Rattle.exchange.proofs.Comes.{err_so, none_of, ok_so, on_err, told_kept}
 use Rattle.exchange.proofs.Told.{host_beside, none_served, talk_beside, told_lines_more}
-use Rattle.exchange.proofs.jobs.answer_job.Goals as goal
+use Rattle.exchange.proofs.jobs.hold_sessions.Goals as goal
 
 pub returns-in-Serve-clause-response : goal.returns-in-Serve-clause-response
 returns-in-Serve-clause-response g c =
@@ -70,15 +67,6 @@ returns-in-Ok-clause-unkept g c = rw c.in-Host.is (on_err c.host-kept.result.end
 
 pub returns-in-Ok-clause-beside : goal.returns-in-Ok-clause-beside
 returns-in-Ok-clause-beside g c = host_beside _ c.args.request.now _ _ (rw c.in-Host.is tt) (told_lines_more c.args.request.now.is_quiet _ _ _ c.tell_lacks.ensures c.tell_cut.ensures)
-
-pub returns-in_default-clause-response : goal.returns-in_default-clause-response
-returns-in_default-clause-response g c =
-    let given = given_by (g.I.Read.remaining c.args.input.now) (g.P.Ports.ways c.args.peers.now.ports) (clients_by (g.S.ClientFiles.says c.args.system.now) (g.S.ClientFiles.had c.args.system.now)) in
-    let w = c.without_sessions-in_default in
-    rw w.ensures.end (told_plain c.answer_other-end.result _ _ (g.S.System.holds c.args.system.now) g.S.System.received c.args.request.now.job (contents_in c.args.contents.now) given _ _ w.result.receipts w.result.lost _ c.answer_other-end.ensures.response (none_served _ c.requires.unserved) w.ensures.unkept w.ensures.lost)
-
-pub returns-in_default-clause-rest : goal.returns-in_default-clause-rest
-returns-in_default-clause-rest g c = leaves_rest c.args.request.now.job _ _ _ c.answer_other-end.ensures.ports (none_served _ c.requires.unserved)
 
 pub returns-in-Err-clause-response : goal.returns-in-Err-clause-response
 returns-in-Err-clause-response g c =
