@@ -11,7 +11,7 @@ use Rattle.exchange.specs.Promises.{HasDrawn, IsTitled, KeepsPictures, Run, Stan
 use Rattle.exchange.specs.Responses.{text_in}
 use Rattle.exchange.specs.declared.limits.TheConstants.{UNWRITTEN}
 use Rattle.link_graph.specs.Certificates.{Naming}
-use Rattle.plan_answers.specs.Drawings.{IsDrawn, drawn, undrawn}
+use Rattle.plan_answers.specs.Drawings.{IsDrawnWith, drawn, undrawn}
 use Rattle.plan_answers.specs.Refusals.{Printed}
 use Rattle.plan_answers.specs.declared.limits.TheConstants.{DONE}
 use Rattle.schedule_picture.proofs.Fewest.{tells_fewest}
@@ -78,9 +78,9 @@ columns_there batch settings verdict shown =
     let before = opening_text batch (length settings) verdict shown ++ rows_text batch shown.count verdict.busiest ++ headings_text shown.count in
     (before, closing_text batch, append_assoc before (columns_text batch settings shown) (closing_text batch))
 
-drawn_so : (run : Run) (batch schedule : Text) (chosen : Option Text) (text other : List ℕ) (printed : Printed)
-    → run.holds batch text → run.holds schedule other → run.prints printed.text → printed.status ≡ DONE → IsDrawn widest text other chosen printed → HasDrawn run batch schedule chosen
-drawn_so run batch schedule chosen text other printed held held_schedule prints status (drawn d done) =
+drawn_so : (run : Run) (batch schedule : Text) (chosen : Option Text) (text other : List ℕ) (least : ℕ) (printed : Printed)
+    → run.holds batch text → run.holds schedule other → run.prints printed.text → printed.status ≡ DONE → IsDrawnWith widest text other chosen least printed → HasDrawn run batch schedule chosen
+drawn_so run batch schedule chosen text other least printed held held_schedule prints status (drawn d so_many done) =
     let reads = d.valid.read.texts.batch_read in
     record {
       transfers = d.transfers;
@@ -99,13 +99,13 @@ drawn_so run batch schedule chosen text other printed held held_schedule prints 
       apart = overlapping d.transfers d.settings d.shown d.valid.read.valid;
       prints = subst run.prints d.drawing prints;
     }
-drawn_so run batch schedule chosen text other printed held held_schedule prints status (undrawn refusal wrong line) = absurd (never_done printed.status line.status status)
+drawn_so run batch schedule chosen text other least printed held held_schedule prints status (undrawn refusal wrong line) = absurd (never_done printed.status line.status status)
 
 pub keeps_pictures : (run : Run) → Answers run → KeepsPictures run
 keeps_pictures run all batch schedule chosen done =
     let is = text_done run (Draw batch schedule chosen) tt all done in
     let holds = run.holds in
-    drawn_so run batch schedule chosen (text_in is.files.list) (text_in is.files.other) is.printed (given_text holds batch is.files.list is.held.list) (given_text holds schedule is.files.other is.held.other) is.prints (sym is.status ∙ done.1) is.answer
+    drawn_so run batch schedule chosen (text_in is.files.list) (text_in is.files.other) is.answer.0 is.printed (given_text holds batch is.files.list is.held.list) (given_text holds schedule is.files.other is.held.other) is.prints (sym is.status ∙ done.1) is.answer.1
 
 pub no_pictures : (run : Run) → run.status ≡ UNWRITTEN → KeepsPictures run
 no_pictures run unwritten batch schedule chosen done = absurd (not_done run _ unwritten done)
