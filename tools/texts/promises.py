@@ -108,7 +108,7 @@ def main():
         if block not in text:
             faults.append(f"no such definition: {block.splitlines()[0]}")
     grammar = rests_on([("command_words", "Jobs", "AskFor")], told, names, handed)[0]
-    for name, lines in re.findall(r"`(\w+)` \(([\d,]+) lines\)", document):
+    for name, lines in re.findall(r"`(\w+)` \(([\d,]+) lines\)", " ".join(document.split())):
         seen = rests_on([(*PLACE, name)], told, names, handed)[0]
         own = sum(count for one, count in seen.items() if one not in grammar)
         print(f"promises: {name} rests on {own} lines")
