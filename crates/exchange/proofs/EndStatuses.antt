@@ -61,8 +61,8 @@ of_text (Plan file planning workers) texts printed (answers.planned batch denote
 of_text (Plan file planning workers) texts printed (answers.refused fault first line) = inr line.status
 of_text (Check batch schedule) texts printed (answers.shortest count shown text done) = inl done
 of_text (Check batch schedule) texts printed (answers.refused refusal wrong line) = inr line.status
-of_text (Draw batch schedule chosen) texts printed (drawn d done) = inl done
-of_text (Draw batch schedule chosen) texts printed (undrawn refusal wrong line) = inr line.status
+of_text (Draw batch schedule chosen) texts printed (least, drawn d so_many done) = inl done
+of_text (Draw batch schedule chosen) texts printed (least, undrawn refusal wrong line) = inr line.status
 of_text (SwitchJob batch scheduled wiring workers) texts printed is = switched_on (source_in scheduled (text_in texts.other)) (text_in texts.list) texts.wiring printed is
 of_text (Orders batch scheduled only workers) texts printed (ordering.ordered transfers settings is (ordering.told apart told done)) = inl done
 of_text (Orders batch scheduled only workers) texts printed (ordering.ordered transfers settings is (ordering.overlap i j first line)) = inr line.status

@@ -75,8 +75,8 @@ wrong_of (Plan file planning workers) texts printed alone (answers.planned batch
 wrong_of (Plan file planning workers) texts printed alone (answers.refused fault first line) status = record { refusal = of_batch fault; wrong = (fault, first, refl); line = line }
 wrong_of (Check batch schedule) texts printed alone (answers.shortest count shown text done) status = absurd (done_is printed.status done status)
 wrong_of (Check batch schedule) texts printed alone (answers.refused refusal wrong line) status = record { refusal = refusal; wrong = wrong; line = line }
-wrong_of (Draw batch schedule chosen) texts printed alone (drawn d done) status = absurd (done_is printed.status done status)
-wrong_of (Draw batch schedule chosen) texts printed alone (undrawn refusal wrong line) status = record { refusal = refusal; wrong = undrawn_so (text_in texts.list) (text_in texts.other) chosen refusal wrong; line = line }
+wrong_of (Draw batch schedule chosen) texts printed alone (least, drawn d so_many done) status = absurd (done_is printed.status done status)
+wrong_of (Draw batch schedule chosen) texts printed alone (least, undrawn refusal wrong line) status = record { refusal = refusal; wrong = undrawn_so (text_in texts.list) (text_in texts.other) chosen refusal wrong; line = line }
 wrong_of (SwitchJob batch scheduled wiring workers) texts printed alone is status = switched_on (source_in scheduled (text_in texts.other)) (text_in texts.list) texts.wiring printed is status
 wrong_of (Orders batch scheduled only workers) texts printed alone (ordering.ordered transfers settings is (ordering.told apart told done)) status = absurd (done_is printed.status done status)
 wrong_of (Orders batch scheduled only workers) texts printed alone (ordering.ordered transfers settings is (ordering.overlap i j first line)) status =
