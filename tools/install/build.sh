@@ -1,13 +1,19 @@
 #!/usr/bin/env bash
-# Proves and builds the program and the library for programs in C, as far as they aren't built or are older than their sources.
+# Proves and builds the program and the library for programs in C, as far as they aren't built or are older than their sources. Lines on
+# standard error say what is done, and how long it takes.
 #
-# `rt ci` leaves the proved crates below that library, but no archive of it: it is made over them. Where they aren't there, or the kit has other
-# parts, `rt lib` makes it, and proves them once more.
+# `rt ci` leaves the proved crates below that library, but of the library itself neither its proof nor an archive. So it is proved once more, over
+# these crates. Where they aren't there, or the kit has other parts, `rt lib` makes it, and first the crates below it that `./exchange prove`
+# didn't prove.
 set -euo pipefail
 unset CDPATH
 top=$(cd "$(dirname "$(readlink -f "${BASH_SOURCE[0]}")")/../.." && pwd)
 built=$top/crates/exchange_c/out
 library=$built/libexchange_c.a
+
+say() {
+    echo "exchange: $*" >&2
+}
 
 # Takes what `rt ci` left of a crate into a folder of exchange_c, and says whether it is no older than its sources. In the crate's own folder the
 # next `rt ci` would keep it in the place of what it makes. What other commands of rt build has a stamp beside it.
@@ -30,7 +36,7 @@ archive() {
     done
     mapfile -t below < <(sed -E '/^#/d; /^exchange_c /Q; s/[ :].*//' "$top/crates.txt")
     for name in "${below[@]}"; do
-        take "$name" || { echo "rt ci left no $name" && return 1; }
+        take "$name" || { echo "rt ci left no $name here" && return 1; }
         words+=(-L "dependency=$built/rlib/$name")
     done
     for name in $(sed -n 's/^exchange_c .*://p' "$top/crates.txt"); do
@@ -42,13 +48,30 @@ archive() {
         --antt-project "$kit/rattle/logic/antt-project.json" --logic-built "$kit/logic_built" -o "$library"
 }
 
+# Makes exchange_c and its archive, and first the crates below it that aren't made.
+make_all() {
+    cd "$top/crates/exchange_c" && rt lib
+}
+
+# Runs one of these two. What it prints goes into a file, and its last line is shown each half minute.
+follow() {
+    local began=$SECONDS
+    { "$1" >>"$said" 2>&1; } | while read -rt 30 || [ $? -gt 128 ]; do
+        say "after $((SECONDS - began)) s it goes on: $(tail -n 1 "$said")"
+    done
+}
+
 "$top/exchange" prove
 if [ ! -e "$library" ] ||
     [ -n "$(find "$top/crates.txt" "$top"/crates/*/src "$top"/crates/*/specs -type f -newer "$library" -print -quit)" ]; then
-    echo "exchange: proving and building exchange_c .." >&2
+    said=$(mktemp)
+    trap 'rm -f "$said"' EXIT
     mkdir -p "$built/rlib"
-    if ! said=$(archive 2>&1); then
-        said+=$'\n'$(cd "$top/crates/exchange_c" && rt lib 2>&1) || { echo "$said" >&2 && exit 3; }
+    say "proving and building exchange_c, the library: two minutes, or longer beside other work .."
+    if ! follow archive; then
+        say "$(tail -n 1 "$said"), so rt lib does it, and first the crates below it that ./exchange prove hasn't proved here .."
+        follow make_all || { cat "$said" >&2 && exit 3; }
     fi
     touch "$library"
+    say "exchange_c is proved and built, $SECONDS s after the start"
 fi
