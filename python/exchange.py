@@ -13,7 +13,7 @@ use it.
 
 import ctypes
 import os
-from typing import Iterable, List, NamedTuple, Optional, Tuple, Union
+from typing import Iterable, List, Mapping, NamedTuple, Optional, Sequence, Tuple, Union
 
 Text = Union[str, bytes, bytearray, memoryview]
 
@@ -21,6 +21,10 @@ _DONE, _REFUSED, _NO_ROOM, _NO_MEMORY, _REPLY, _LOOSE, _NO_PORT, _NO_STATE = 0, 
 
 # The numbers by which `exchange_why` knows the calls.
 _NUMBERS = {"plan": 0, "plan_steady": 0, "check": 1, "switch": 2, "apply": 3, "draw": 4, "changes": 5, "direct": 6, "switch_wired": 7, "orders": 8}
+
+# What the texts of a call are, in their order, where they aren't the first ones of _TEXTS.
+_TEXTS_OF = {"apply": ("shape", "batch", "image"), "direct": ("moves",)}
+_TEXTS = ("batch", "schedule", "wiring")
 
 # Bytes of room for an answer at first. Most answers fit, and need no second call.
 _ROOM = 1 << 16
@@ -38,9 +42,20 @@ class Refused(ValueError):
     exchange: batch:1: "batch one": at byte 7 there is "o" instead of a number; expected "batch N", where N counts the transfers
     """
 
-    def __init__(self, line: str, why: str = ""):
+    def __init__(self, line: str, why: str = "", call: str = "", given: Tuple[bytes, ...] = ()):
         super().__init__("\n".join([line, why] if why else [line]))
-        self.line, self.why = line, why
+        self.line, self.why, self._call, self._given = line, why, call, given
+
+    def named(self, **names: str) -> str:
+        """`why`, where the names of files stand in place of `batch`, `schedule`, `wiring`, `image` or `moves`.
+
+        >>> try:
+        ...     plan("batch one")
+        ... except Refused as refused:
+        ...     print(refused.named(batch="mine.txt"))
+        exchange: mine.txt:1: "batch one": at byte 7 there is "o" instead of a number; expected "batch N", where N counts the transfers
+        """
+        return _why(self._call, self._given, names) if self._call else self.why
 
 
 class Transfer(NamedTuple):
@@ -423,14 +438,15 @@ def _ask(name: str, *texts: Text) -> bytes:
     if status == _NO_MEMORY:
         raise MemoryError(f"exchange_{name} was given no memory")
     if status == _REFUSED:
-        raise Refused(answer.decode().rstrip("\n"), _why(name, given))
+        raise Refused(answer.decode().rstrip("\n"), _why(name, given), name, tuple(given))
     return answer
 
 
-def _why(name: str, given: List[bytes]) -> str:
-    """What is said beside the refusal of these texts by this call, or nothing where there is no memory for it."""
-    words = [word for text in (given + [b"", b""])[:3] for word in (text, len(text))]
-    status, line = _in_room(_LIBRARY.exchange_why, [_NUMBERS[name], *words, b"", 0], _ROOM)
+def _why(call: str, given: Sequence[bytes], names: Mapping[str, str] = {}) -> str:
+    """What is said beside the refusal of these texts by this call, or nothing where there is no memory for it. A name is one line."""
+    words = [word for text in (*given, b"", b"")[:3] for word in (text, len(text))]
+    told = "\n".join(names.get(text, "").replace("\n", " ") for text in _TEXTS_OF.get(call, _TEXTS)).encode("utf-8", "replace")
+    status, line = _in_room(_LIBRARY.exchange_why, [_NUMBERS[call], *words, told, len(told)], _ROOM)
     return line.decode().rstrip("\n") if status == _DONE else ""
 
 

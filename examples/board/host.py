@@ -84,7 +84,8 @@ class Cable:
         told = self.tell(setting)
         heard = self.heard.get() + self.heard.get()
         if heard != told:
-            sys.exit(f"host.py: the modules were told {told.hex(' ')}, and say {heard.hex(' ') or 'nothing more'}")
+            came = "the cable ended before it came back" if len(heard) < 2 else f"{int.from_bytes(heard, 'little', signed=True)} came back"
+            sys.exit(f"host.py: {setting} was sent to the modules, and {came}")
 
 
 class Drive:

@@ -16,6 +16,9 @@ import threading
 
 SWITCH, MODULES, SWITCH_B = 0, 1, 2
 
+# As examples/rack/module.py has it.
+LINK_ENDED = 3
+
 
 def open_cable(name):
     """The end at the board, in the order in which the other side opens its own: what is read, and what is written."""
@@ -69,4 +72,5 @@ if __name__ == "__main__":
     try:
         main()
     except ConnectionError:
-        sys.exit("relay.py: a link has ended")
+        print("relay.py: a link has ended", file=sys.stderr)
+        sys.exit(LINK_ENDED)

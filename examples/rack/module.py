@@ -17,6 +17,9 @@ import exchange
 ACKNOWLEDGE = b"\0"
 END = -1
 
+# The status of a process that ends since another one has: rack.py then looks for that one.
+LINK_ENDED = 3
+
 
 def read(path):
     with open(path, "rb") as file:
@@ -81,4 +84,5 @@ if __name__ == "__main__":
     try:
         main()
     except (EOFError, ConnectionError):
-        sys.exit("module.py: a link has ended")
+        print("module.py: a link has ended", file=sys.stderr)
+        sys.exit(LINK_ENDED)

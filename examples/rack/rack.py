@@ -33,6 +33,9 @@ HOST = "host.py"
 # Seconds that a host has to end in, once its cable has ended.
 PATIENCE = 10
 
+# The status of a process that ends since another one has.
+LINK_ENDED = 3
+
 
 def read(path):
     with open(path, "rb") as file:
@@ -72,10 +75,11 @@ class Rack:
         links = [[socket.socketpair() for _ in (0, 3)] for _ in range(self.count)]
         chain = [socket.socketpair() for _ in range(self.count)]
         self.start("switch.py", sys.executable, f"{HERE}/switch.py", *wiring, *ports, links=[far for pairs in links for _, far in pairs])
-        ways = [f"slot-{port}" for port in ports] if is_at_slot else ports
-        self.start("relay.py", sys.executable, f"{BOARD}/relay.py", cable, *ways, links=[chain[0][0]])
-        for way, port in zip(ways, ports) if is_at_slot else ():
+        ways = [f"slot-{port}" for port in ports] if is_at_slot else []
+        for way in ways:
             make_pipes(way)
+        self.start("relay.py", sys.executable, f"{BOARD}/relay.py", cable, *(ways or ports), links=[chain[0][0]])
+        for way, port in zip(ways, ports):
             self.start(f"relay.py {way}", sys.executable, f"{BOARD}/relay.py", way, port)
         for m, pairs in enumerate(links):
             own = [near for near, _ in pairs] + [chain[m][1]] + [near for near, _ in chain[m + 1 : m + 2]]
@@ -94,14 +98,15 @@ class Rack:
         return None
 
     def fault(self, name):
-        """What to say of a process that has failed: of one that was killed, where this one failed since it misses that."""
+        """What to say of a process that has failed: of one that was killed, or failed by itself, where this one ended since it misses that."""
         failed = [name]
         with contextlib.suppress(queue.Empty):
             while True:
                 failed.append(self.ended.get(timeout=0.2))
-        name = next((it for it in failed if self.started[it].returncode < 0), name)
-        status = self.started[name].returncode
-        return f"{name} " + (f"was killed by {signal.Signals(-status).name}" if status < 0 else f"has ended with status {status}")
+        status = {it: self.started[it].returncode for it in failed}
+        name = min(failed, key=lambda it: (status[it] >= 0, status[it] in (0, LINK_ENDED), it == HOST))
+        how = f"was killed by {signal.Signals(-status[name]).name}" if status[name] < 0 else f"has ended with status {status[name]}"
+        return f"{name} {how}"
 
     def image(self):
         """The words of all modules, once they have ended."""
@@ -164,7 +169,8 @@ def main():
         schedule = schedule_of(given, batch)
         exchange.switch_bytes(batch, schedule, wiring)
     except exchange.Refused as refused:
-        sys.exit(str(refused))
+        names = {"batch": given.batch, "image": given.image, "schedule": given.schedule or "the plan", "wiring": given.wiring or ""}
+        sys.exit("\n".join([refused.line, refused.named(**names)]))
     is_wide = any(max(it.initiator, it.responder) > 15 for it in exchange.transfers(batch.decode()))
     ports = ["a", "b"] if is_wide else ["board"]
     with tempfile.TemporaryDirectory(prefix="rack-") as folder:
@@ -193,6 +199,8 @@ def main():
     if out:
         keep(out, left)
     print("as exchange apply" if left == wanted else "WRONG")
+    if left != wanted and given.cable:
+        sys.exit("rack.py: these aren't the words of exchange apply; has host.py the same batch, wiring and schedule?")
     sys.exit(0 if left == wanted else 1)
 
 

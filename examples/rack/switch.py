@@ -18,6 +18,12 @@ import sys
 
 import exchange
 
+# What to look at where words go another way than they should.
+HINT = "have rack.py and host.py the same wiring and schedule?"
+
+# As module.py has it.
+LINK_ENDED = 3
+
 
 class Chip:
     """A C004 at the other end of a port."""
@@ -42,9 +48,10 @@ class Wires:
     """Which inputs and outputs of the switches the modules' links are on."""
 
     def __init__(self, chips, links, wiring):
-        self.inputs, self.outputs = {}, {}
+        self.inputs, self.outputs, self.names = {}, {}, {}
         for number, link in enumerate(links):
             module, end = divmod(number, 2)
+            self.names[link] = f"link {3 * end} of module {module}"
             if wiring is not None:
                 given = taken = chips[0], wiring.get((module, end))
             elif len(chips) == 1:
@@ -59,7 +66,7 @@ class Wires:
         chip, given = self.inputs[link]
         far = [self.outputs[chip, output] for output in chip.fed_by(given) if (chip, output) in self.outputs]
         if not far:
-            sys.exit("switch.py: words come over a link that isn't joined")
+            sys.exit(f"switch.py: words come over {self.names[link]}, which isn't joined; {HINT}")
         for other in far:
             other.sendall(words)
 
@@ -99,4 +106,5 @@ if __name__ == "__main__":
     try:
         main()
     except ConnectionError:
-        sys.exit("switch.py: a link has ended")
+        print("switch.py: a link has ended", file=sys.stderr)
+        sys.exit(LINK_ENDED)

@@ -12,7 +12,7 @@
     boards    modules are on other links of the switch, as a wiring says; and the cable ends at slot 0, behind which a second relay is
     ends      a cable may be a terminal; a switch alone and a module alone are handed words in parts, and the switch words that come before it
               has settled; the two loops of the relay carry the bytes of `drive` and `c004`; a cable that ends ends the host; and a module that is
-              killed ends the rack, which says so, and its host
+              killed, or a host of another wiring, ends the rack, which says so, and its host
 
 What isn't built yet is proved and built first, and all is installed in a folder for the while. Another one is tried where RACK names it.
 """
@@ -182,11 +182,12 @@ class Racks:
         stop(run)
         expect(f"it hangs: {what}, links in turn", told.startswith(b"setting 0 ") and is_silent, told)
 
-    def refuses(self, what, line, *case):
-        """Notes whether the rack isn't started, and says this."""
+    def refuses(self, what, line, front, *case):
+        """Notes whether the rack isn't started, and says this, and in a second line, which begins so, which file it is about."""
         run = self.start(self.write(what, *case))
         told = run.communicate(timeout=LIMIT)[0].decode()
-        expect(what, run.returncode == 1 and told.splitlines()[:1] == [line], told)
+        lines = told.splitlines()
+        expect(what, run.returncode == 1 and lines[0] == line and lines[1].startswith(f"exchange: {front}"), told)
 
     def start_alone(self, name, *words, links):
         """Starts the switch or a module alone, with these links."""
@@ -252,7 +253,7 @@ class Racks:
                 drive.process.wait()
             cable.move(host.END)
         told = run.communicate(timeout=LIMIT)[0].decode()
-        expect(what, told == ("as exchange apply\n" if is_well else "WRONG\n"), told)
+        expect(what, told == "as exchange apply\n" if is_well else told.startswith("WRONG\nrack.py: "), told)
         for name in "cable.in", "cable.out", "left":
             Path(name).unlink(missing_ok=True)
 
@@ -326,6 +327,20 @@ class Racks:
             there.read(2)
         told = run.communicate(timeout=LIMIT)[0].decode().splitlines()
         expect(what, "stopped setting 0 port" in told and run.returncode == 1, told)
+        for name in "cable.in", "cable.out":
+            os.unlink(name)
+
+    def says_what_differs(self, what):
+        """Notes whether a rack says which link isn't joined, where its host has another wiring, and ends, and the host too."""
+        words = [*self.write(what, "3x2x2", read("three-transfers.txt"), ["--wiring", "wiring"]), "--cable", "cable"]
+        for name in "cable.in", "cable.out":
+            os.mkfifo(name)
+        run, host_words = self.start(words), [sys.executable, f"{EXAMPLES}/board/host.py", "cable", "batch"]
+        driven = subprocess.run(host_words, stdout=subprocess.PIPE, stderr=subprocess.STDOUT, env=self.env, timeout=LIMIT, check=False)
+        told = run.communicate(timeout=LIMIT)[0].decode(), driven.stdout.decode()
+        is_well = "switch.py: words come over link 0 of module " in told[0] and told[0].endswith("rack.py: switch.py has ended with status 1\n")
+        is_host_well = told[1].endswith("host.py: 0 was sent to the modules, and the cable ended before it came back\n")
+        expect(what, is_well and is_host_well and run.returncode == driven.returncode == 1, told)
         for name in "cable.in", "cable.out":
             os.unlink(name)
 
@@ -443,20 +458,22 @@ def try_all(racks, count):
         racks.is_moved(f"random batch {number}", *random_case(random.Random(f"rack {number}")))
     for ring in RINGS:
         racks.hangs(*ring)
-    racks.refuses("two transfers that write one block", "refused overlap 0 1", "3x1x1", "batch 2\npush 0 0 1 0\npush 2 0 1 0\n", [])
-    racks.refuses("no schedule of the batch", "refused check missing 1", "2x1x1", read("swap.txt"), "settings 1\nsetting 0\n")
+    racks.refuses("two transfers that write one block", "refused overlap 0 1", "batch:3: ", "3x1x1", "batch 2\npush 0 0 1 0\npush 2 0 1 0\n", [])
+    racks.refuses("no schedule of the batch", "refused check missing 1", "schedule: ", "2x1x1", read("swap.txt"), "settings 1\nsetting 0\n")
     whole = b"".join(PARTS)
     racks.carries("words in parts", JOIN + SETTLE, whole, b"")
-    racks.carries("words before the switch has settled", JOIN, b"", b"switch.py: words come over a link that isn't joined\n")
+    racks.carries("words before the switch has settled", JOIN, b"", b"switch.py: words come over link 0 of module 0, which isn't joined; have rack.py and host.py the same wiring and schedule?\n")
     racks.receives("a block in parts", PARTS, [], b"\0", b"\0\0\xff\xff", whole, 0)
-    racks.receives("a part of a block", PARTS[:1], [], b"", b"", b"module.py: a link has ended", 1)
+    racks.receives("a part of a block", PARTS[:1], [], b"", b"", b"module.py: a link has ended", 3)
     racks.is_relayed("the relay alone")
     racks.is_moved_over_a_pty("a terminal", *CASES[1][1:])
-    racks.refuses("a link that isn't on the switch", "refused no link 0", "3x2x2", "batch 1\npush 0 0 2 0\n", ["--wiring", "backwards"])
+    unwired = "batch:2: link 0 of module 0; backwards:2 leaves it out"
+    racks.refuses("a link that isn't on the switch", "refused no link 0", unwired, "3x2x2", "batch 1\npush 0 0 2 0\n", ["--wiring", "backwards"])
+    racks.says_what_differs("a host of another wiring")
     racks.ends("a cable that ends")
     racks.says_who_is_killed("a module is killed")
     racks.says_who_is_killed("a module is killed, with a host apart", "--cable", "cable")
-    tried = len(CASES) + len(RINGS) + 12 + count + try_board(racks)
+    tried = len(CASES) + len(RINGS) + 13 + count + try_board(racks)
     print(f"rack of processes: {tried} tried, {len(wrong)} wrong")
 
 

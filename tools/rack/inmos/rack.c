@@ -17,10 +17,13 @@ Channel *const links[4] = {&ends[0], &ends[1], &ends[2], &ends[3]};
 
 struct process { void (*function)(); void *words[3]; pthread_t thread; };
 
+/* As LINK_ENDED of module.py. */
+enum { LINK_ENDED = 3 };
+
 static void must(int well)
 {
     if (!well)
-        exit(EXIT_FAILURE);
+        exit(LINK_ENDED);
 }
 
 void ChanIn(Channel *channel, void *at, int count)
