@@ -12,7 +12,7 @@ unset CDPATH
 here=$(cd "$(dirname "${BASH_SOURCE[0]}")" && pwd)
 top=$(cd "$here/../.." && pwd)
 work=$(mktemp -d)
-trap 'rm -rf "$work"' EXIT
+trap 'kill $(jobs -p) 2>/dev/null || true; rm -rf "$work"' EXIT
 export PYTHONDONTWRITEBYTECODE=1
 
 "$top/exchange" prove
@@ -25,8 +25,12 @@ fi
 cc -O2 -shared -fPIC -o "$work/refuse.so" "$here/refuse.c" -ldl
 
 failed=
-python3 "$here/streams.py" || failed+=" streams"
+# The streams are tried one after another, and often wait: so that is done beside the growths.
+python3 "$here/streams.py" >"$work/streams" 2>&1 &
+streams=$!
 python3 "$here/growths.py" "$work/refuse.so" || failed+=" growths"
+wait "$streams" || failed+=" streams"
+cat "$work/streams"
 python3 "$here/texts.py" "${1:-10000}" || failed+=" texts"
 python3 "$here/clients.py" $((${1:-10000} / 10)) || failed+=" clients"
 if [ -n "$failed" ]; then
