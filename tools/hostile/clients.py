@@ -21,7 +21,7 @@ import live
 import plain
 import spoil
 from plain import Refused
-from program import ask
+from program import ROOMS, ask
 from records import Replay
 from sessions import COMMANDS, Exchange, Session
 
@@ -182,7 +182,7 @@ def try_round(number):
     draw = random.Random(f"clients {number}")
     shape = (draw.randint(2, plain.MODULES), draw.randint(2, 4), draw.randint(1, 8))
     scripts = [spoil.crowd_script(draw, shape) for _ in range(CLIENTS)]
-    with tempfile.TemporaryDirectory() as room:
+    with tempfile.TemporaryDirectory(dir=ROOMS) as room:
         names, how = [f"{room}/client{session}" for session in range(CLIENTS)], "{}x{}x{}".format(*shape)
         kept = ["--record", f"{room}/record", "--image-out", f"{room}/left", "--workers", "2"]
         is_live = number % 5 == 4

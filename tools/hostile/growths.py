@@ -28,7 +28,7 @@ from collections import Counter, namedtuple
 import plain
 import records
 import sessions
-from program import EXCHANGE, TOP, ask
+from program import EXCHANGE, ROOMS, TOP, ask
 
 LIBRARY = os.path.abspath(sys.argv[1])
 CALLS = f"{TOP}/crates/hostile_use/out/hostile_use"
@@ -414,7 +414,7 @@ def tell(swept):
 
 def main():
     names = [line.split(": ")[0] for line in ask(program=CALLS).out.decode().splitlines()]
-    with tempfile.TemporaryDirectory() as room:
+    with tempfile.TemporaryDirectory(dir=ROOMS) as room:
         os.chdir(room)
         for name, text in FILES.items():
             with open(name, "w") as file:

@@ -9,6 +9,9 @@ from collections import namedtuple
 TOP = os.path.dirname(os.path.dirname(os.path.dirname(os.path.abspath(__file__))))
 EXCHANGE = os.path.abspath(os.environ.get("EXCHANGE") or f"{TOP}/crates/exchange/out/exchange")
 
+# Where folders for files are made that the program syncs: in memory, where there is such a place, since a disk makes it wait.
+ROOMS = "/dev/shm" if os.access("/dev/shm", os.W_OK) else None
+
 # Seconds that a run has. Most take far less than one, but machines differ, and others may keep this one busy.
 LIMIT = 300
 
