@@ -1,7 +1,8 @@
 #!/usr/bin/env python3
-"""Counts of how many small batches `draw` says that the steady plan has the fewest changes: told.py PROGRAM [BATCHES]
+"""Counts how many small batches have steady plans with the fewest changes, and of how many `draw` says so: told.py PROGRAM SEARCH [BATCHES]
 
-Two to five modules send each other up to nine blocks, by chance. Without a number these are 1000 batches.
+SEARCH is fewest_changes.rs, compiled: it tries all shortest schedules. Two to five modules send each other up to nine blocks, by
+chance. Without a number these are 1000 batches. The status is 1 where `draw` says that more changes are needed than some schedule has.
 """
 
 import random
@@ -11,6 +12,8 @@ import sys
 import tempfile
 from collections import Counter
 
+WORDS = ("the fewest", "the fewest with so few settings", "at least")
+
 
 def batch_text(draw):
     modules = range(draw.randrange(2, 6))
@@ -19,17 +22,27 @@ def batch_text(draw):
     return f"batch {len(lines)}\n" + "".join(lines)
 
 
-def told(program, text):
-    """What the title of the picture of a steady plan says behind its changes."""
+def printed(*words, text=None):
+    return subprocess.run(words, input=text, capture_output=True, check=True, text=True).stdout
+
+
+def told(program, search, text):
+    """What the title of the picture of a steady plan says behind its changes, and whether these are the fewest."""
     with tempfile.NamedTemporaryFile("w+") as batch:
         batch.write(text)
         batch.flush()
-        plan = subprocess.run([program, "plan", batch.name, "--steady"], capture_output=True, check=True).stdout
-        picture = subprocess.run([program, "draw", batch.name, "-"], input=plan, capture_output=True, check=True).stdout
-    return re.search(r"changes \d+, (the fewest with so few settings|the fewest|at least)", picture.decode())[1]
+        plan = printed(program, "plan", batch.name, "--steady")
+        picture = printed(program, "draw", batch.name, "-", text=plan)
+        fewest = int(printed(search, batch.name))
+    changes, words, least = re.search(r"changes (\d+), (the fewest with so few settings|the fewest|at least)(?: (\d+))?,", picture).groups()
+    if not int(least or changes) <= fewest <= int(changes):
+        sys.exit(f"of changes {changes}, where {fewest} are the fewest, it is told: {words} {least or ''}\n{text}")
+    return words, int(changes) == fewest
 
 
 draw = random.Random(1)
-count = int(sys.argv[2]) if len(sys.argv) > 2 else 1000
-words = Counter(told(sys.argv[1], batch_text(draw)) for _ in range(count))
-print(f"of {count} batches: " + ", ".join(f"{words[it]} {it}" for it in ("the fewest", "the fewest with so few settings", "at least")))
+count = int(sys.argv[3]) if len(sys.argv) > 3 else 1000
+counts = Counter(told(sys.argv[1], sys.argv[2], batch_text(draw)) for _ in range(count))
+unsaid, said = counts["at least", True], sum(counts[words, True] for words in WORDS[:2])
+print(f"{said + unsaid} of {count} batches have the fewest changes, and {said} of these are told so: {100 * said / (said + unsaid):.2f} in 100")
+print(f"of {count} batches: " + ", ".join(f"{counts[words, True] + counts[words, False]} {words}" for words in WORDS))
