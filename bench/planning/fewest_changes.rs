@@ -53,12 +53,20 @@ fn can_join(pairs: &mut Vec<&Pair>, sets: &[Vec<u32>], taken: Taken) -> bool {
     can
 }
 
+/// The most transfers that a pair has. No run is longer, since it joins some pair.
+fn most_of(pairs: &[Pair]) -> usize {
+    pairs.iter().map(|pair| pair.transfers).max().unwrap_or(0)
+}
+
 /// Whether some schedule has runs of these lengths.
 fn have_schedule(pairs: &[Pair], lengths: &[usize]) -> bool {
-    let mut sets = vec![vec![]; lengths.iter().sum::<usize>() + 1];
+    let most = most_of(pairs);
+    let mut sets = vec![vec![]; most + 1];
     for runs in 1..1u32 << lengths.len() {
         let length: usize = lengths.iter().enumerate().filter(|(run, _)| runs >> run & 1 == 1).map(|(_, length)| length).sum();
-        sets[length].push(runs);
+        if length <= most {
+            sets[length].push(runs);
+        }
     }
     let like_last = (1..lengths.len()).filter(|&run| lengths[run] == lengths[run - 1]).map(|run| 1 << run).sum();
     let taken = Taken { sends: [0; MODULES], receives: [0; MODULES], like_last };
@@ -90,7 +98,6 @@ fn main() {
     let sent = |m: usize| pairs.iter().filter(|pair| pair.from == m).map(|pair| pair.transfers).sum::<usize>();
     let received = |m: usize| pairs.iter().filter(|pair| pair.to == m).map(|pair| pair.transfers).sum();
     let settings = (0..MODULES).map(|m| sent(m).max(received(m))).max().unwrap_or(0);
-    let most = pairs.iter().map(|pair| pair.transfers).max().unwrap_or(0);
-    let fewest = (0..).find(|&runs| can_end(&pairs, &mut vec![], runs, settings, most));
+    let fewest = (0..).find(|&runs| can_end(&pairs, &mut vec![], runs, settings, most_of(&pairs)));
     println!("{}", fewest.expect("a schedule"));
 }
