@@ -4,9 +4,10 @@
 
 # enter_program NAME LAST: makes a folder that goes away at the end, with the crates of crates.txt
 # up to LAST, and behind them a crate of the program NAME.rattle, which stands on LAST and on what
-# LAST stands on. FUNCTION.invariants has the invariants of a function. Goes to that crate.
+# LAST stands on. FUNCTION.invariants has the invariants of a function, and FUNCTION.answers its
+# answers. Goes to that crate.
 enter_program() {
-    local invariants function crate libraries
+    local proof function crate libraries
     work=$(mktemp -d)
     trap 'rm -rf "$work"' EXIT
     mkdir "$work/crates"
@@ -19,11 +20,14 @@ enter_program() {
     mkdir -p "$crate/src" "$crate/specs" "$crate/proofs"
     cp "$here/$1.rattle" "$crate/src/main.rt"
     touch "$crate/specs/Lib.antt" "$crate/proofs/Lib.antt"
-    for invariants in "$here"/*.invariants; do
-        [ -e "$invariants" ] || continue
-        function=$(basename "$invariants" .invariants)
-        mkdir "$crate/proofs/$function"
-        cp "$invariants" "$crate/proofs/$function/Invariants.antt"
+    for proof in "$here"/*.invariants "$here"/*.answers; do
+        [ -e "$proof" ] || continue
+        function=$(basename "${proof%.*}")
+        mkdir -p "$crate/proofs/$function"
+        case $proof in
+            *.invariants) cp "$proof" "$crate/proofs/$function/Invariants.antt" ;;
+            *.answers) cp "$proof" "$crate/proofs/$function/Answers.antt" ;;
+        esac
     done
     libraries=$(sed -n "s/^$2\>[^:]*: *//p" "$work/crates.txt")
     echo "$1: $libraries $2" >>"$work/crates.txt"

@@ -309,12 +309,21 @@ COMMANDS = {
 
 
 def many_reads():
-    """A session ends after a million reads."""
-    with open("lines", "wb") as file:
-        file.write((b"a" * 40 + b"\n") * 2_100_000)
-    ended = ask("serve", "1x1x1", "lines")
-    lines = ended.out.splitlines()
-    well = ended.status == 1 and lines[0] == b"session 0" and lines[-1] == b"ended turns" and set(lines[1:-1]) == {b"refused line"}
+    """A session ends after a million reads. Each gives a line: a pipe of packets gives one at a time."""
+    taken, given = os.pipe2(os.O_DIRECT)
+    with open("replies", "wb") as replies:
+        talk = subprocess.Popen([EXCHANGE, "talk", "1x1x1"], stdin=taken, stdout=replies)
+    os.close(taken)
+    try:
+        for _ in range(1_100_000):
+            os.write(given, b"peek 0 80000800\n")
+    except BrokenPipeError:
+        pass
+    os.close(given)
+    status = talk.wait()
+    with open("replies", "rb") as replies:
+        lines = replies.read().splitlines()
+    well = status == 1 and lines == [b"word 00000000"] * 1_000_000 + [b"ended turns"]
     expect("a million reads", well, True)
 
 

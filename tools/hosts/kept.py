@@ -97,12 +97,19 @@ def calls_of(command, reply):
 
 def judge_client(entries, said):
     """Judges the entries of a session by what its client said and was told: commands, each with its reply, or with None where the host was gone
-    before it came. What was told stands in the record, in its order, and nothing else does but calls whose replies didn't come."""
-    left = list(entries)
-    for command, reply in said:
+    before it came, and None before those that it said to another host. What was told stands in the record, in its order, and nothing else does but
+    the first calls of those whose replies didn't come."""
+    left, is_missing = list(entries), False
+    for saying in said:
+        if saying is None:
+            is_missing = False
+            continue
+        command, reply = saying
+        is_missing = is_missing and reply is None
         for call, wanted in calls_of(command, reply):
             if reply is None:
-                if not left or left[0][0] != call:
+                is_missing = is_missing or not left or left[0][0] != call
+                if is_missing:
                     break
                 left.pop(0)
             elif not left:

@@ -1,14 +1,16 @@
 #!/usr/bin/env python3
 """Bad moments of a host that records: moments.py [COUNT], or moments.py self
 
-COUNT is how many times a host is killed, 200 where it isn't said. Sixteen clients are at work, the host gets a SIGKILL, a SIGTERM or a SIGINT at
-a random moment, and another one goes on with `--resume`, which is killed too, until one comes to its end. Each time the record is read by plain
-Python (kept.py): what a client was told stands there, in its order, and each reply is right. `replay` has to come to the same words. Then a
-record is cut at each byte, and resumed; a host is killed while it resumes; a disk is full; and a record's file is taken away or moved.
+COUNT is how many times a host is killed, 200 where it isn't said. Sixteen clients are at work, who say single lines or bursts, the host gets a
+SIGKILL, a SIGTERM or a SIGINT at a random moment, and another one goes on with `--resume`, which is killed too, until one comes to its end. Each
+time the record is read by plain Python (kept.py): what a client was told stands there, in its order, and each reply is right. `replay` has to come
+to the same words. Then a record is cut at each byte, and resumed; a host is killed while it resumes; a disk is full, also within a burst; and a
+record's file is taken away or moved.
 `moments.py self` tries the judges alone, by records that are made up, and needs no program.
 """
 
 import errno
+import itertools
 import os
 import random
 import resource
@@ -31,6 +33,8 @@ CLIENTS = 16
 LIMIT = 300
 # Seconds after which a host is killed, at most.
 LIFE = 0.2
+# How many commands a client says together at most, in half of the rounds and in the others.
+MOST = (1, 64)
 SIGNALS = [signal.SIGKILL, signal.SIGTERM, signal.SIGINT]
 
 
@@ -66,32 +70,34 @@ def batch_of(draw, shape):
     return "\n".join([f"batch {count}", *lines])
 
 
-def life(draw, shape, module, number, last):
-    """What a client does in its life number N: it gives out commands, and is sent the reply to each. Its first command is that of no other life.
-    It has only so many commands, and then `bye`, where that is its last life; else it goes on without an end."""
-    yield f"poke {module} 80000800 {number:08x}"
-    mine = []
+def command_of(draw, shape, module, mine):
+    """A command of a client that has handed in these batches."""
+    what = draw.random()
+    if what < 0.2:
+        return f"peek {word_of(draw, shape, draw.randrange(shape[0]))}"
+    if what < 0.4:
+        return f"poke {word_of(draw, shape, module)} {draw.randrange(1 << 32):08x}"
+    if what < 0.5:
+        return "progress"
+    if what < 0.7 or not mine:
+        return batch_of(draw, shape)
+    return f"{draw.choice(['plan', 'plan', 'run', 'run', 'show', 'drop'])} {draw.choice(mine)}"
+
+
+def life(draw, shape, module, number, last, most=1):
+    """What a client does in its life number N: it gives out commands, so many together at most, and is sent their replies. Its first command is
+    that of no other life. It has only so many commands, and then `bye`, where that is its last life; else it goes on without an end."""
+    replies, mine = (yield [f"poke {module} 80000800 {number:08x}"]), []
     while last is None or last > 0:
-        last = last and last - 1
-        what = draw.random()
-        if what < 0.2:
-            command = f"peek {word_of(draw, shape, draw.randrange(shape[0]))}"
-        elif what < 0.4:
-            command = f"poke {word_of(draw, shape, module)} {draw.randrange(1 << 32):08x}"
-        elif what < 0.5:
-            command = "progress"
-        elif what < 0.7 or not mine:
-            command = batch_of(draw, shape)
-        else:
-            command = f"{draw.choice(['plan', 'plan', 'run', 'run', 'show', 'drop'])} {draw.choice(mine)}"
-        reply = yield command
-        if reply.startswith("accepted "):
-            mine.append(int(reply.split()[1]))
-    yield "bye"
+        mine += [int(reply.split()[1]) for reply in replies if reply.startswith("accepted ")]
+        count = draw.randint(1, most if last is None else min(most, last))
+        last = last and last - count
+        replies = yield [command_of(draw, shape, module, mine) for _ in range(count)]
+    yield ["bye"]
 
 
 class Client:
-    """A client that says a command as soon as it has the reply to the one before.
+    """A client that says commands as soon as it has the replies to the ones before.
 
     It holds both ends of its pipes, so that no opening waits and what a host said before it was killed can still be read.
     """
@@ -103,16 +109,18 @@ class Client:
             os.mkfifo(name + end)
         self.said = os.open(f"{name}.in", os.O_RDWR | os.O_NONBLOCK)
         self.told = os.open(f"{name}.out", os.O_RDWR | os.O_NONBLOCK)
-        self.work, self.begun, self.sayings, self.extra = work, b"", [], []
+        self.work, self.begun, self.sayings, self.replies, self.extra = work, b"", [], [], []
         self.say(next(work))
 
-    def say(self, command):
-        self.sayings.append([command, None])
-        os.write(self.said, command.encode() + b"\n")
+    def say(self, commands):
+        self.heard = len(self.replies)
+        self.sayings += commands
+        self.due = self.heard + len(commands)
+        os.write(self.said, b"".join(command.encode() + b"\n" for command in commands))
 
     def is_done(self):
         """Whether its last command was answered, and it has no other."""
-        return self.sayings[-1][1] is not None
+        return len(self.replies) == self.due
 
     def hear(self):
         """Hears what there is, and goes on."""
@@ -125,16 +133,15 @@ class Client:
             if self.is_done():
                 self.extra.append(line.decode())
                 continue
-            self.sayings[-1][1] = line.decode()
-            if self.sayings[-1][0] != "bye":
-                self.say(self.work.send(line.decode()))
+            self.replies.append(line.decode())
+            if self.is_done() and self.sayings[-1] != "bye":
+                self.say(self.work.send(self.replies[self.heard :]))
 
     def said_and_told(self):
         """Its commands with their replies, and what it was told that is no reply: `ended ..` is the line of a session that failed."""
-        if self.sayings[-1][1] is not None and self.sayings[-1][1].startswith("ended "):
-            self.extra.insert(0, self.sayings[-1][1])
-            self.sayings[-1][1] = None
-        return [tuple(saying) for saying in self.sayings], self.extra
+        if self.replies and self.replies[-1].startswith("ended "):
+            self.extra.insert(0, self.replies.pop())
+        return list(itertools.zip_longest(self.sayings, self.replies)), self.extra
 
     def leave(self):
         os.close(self.said)
@@ -170,11 +177,12 @@ def stop_all():
 
 
 class Host:
-    """A host of sixteen clients at work, on a record in its folder. Files may have so many bytes, where a number is given."""
+    """A host of sixteen clients at work, on a record in its folder. They say so many commands together at most. Files may have so many bytes, where
+    a number is given."""
 
-    def __init__(self, room, shape, draw, number, last, *options, bytes_at_most=None):
+    def __init__(self, room, shape, draw, number, last, *options, most=1, bytes_at_most=None):
         self.room, self.names = room, [f"{room}/c{k}" for k in range(CLIENTS)]
-        self.clients = [Client(name, life(draw, shape, k % shape[0], number, last)) for k, name in enumerate(self.names)]
+        self.clients = [Client(name, life(draw, shape, k % shape[0], number, last, most)) for k, name in enumerate(self.names)]
         words = [EXCHANGE, "host", shown(shape), *self.names, "--record", f"{room}/record", *options]
         ends = {"stdin": subprocess.DEVNULL, "stdout": subprocess.PIPE, "stderr": subprocess.PIPE}
         self.process = start(words, bytes_at_most, **ends)
@@ -252,11 +260,11 @@ def try_kills(number):
             for turn in range(kills + 1):
                 options = (["--resume"] if turn else []) + (["--sync"] if draw.random() < 0.25 else [])
                 last = draw.randint(1, 20) if turn == kills else None
-                host = Host(room, shape, draw, turn + 1, last, *options, "--image-out", f"{room}/left")
+                host = Host(room, shape, draw, turn + 1, last, *options, "--image-out", f"{room}/left", most=MOST[number % 2])
                 host.go_on(LIMIT if last else draw.uniform(0, LIFE))
                 out, err, status, parts = host.end(None if last else draw.choice(SIGNALS))
                 for sayings, (more, extra) in zip(said, parts):
-                    sayings.extend(more)
+                    sayings.extend([None, *more])
                     if extra:
                         raise Wrong(f"a client was told {extra}")
                 record = judge(room, shape, host.names, said)
@@ -383,7 +391,7 @@ def try_full_disk():
         with tempfile.TemporaryDirectory(prefix="moments-") as room:
             names = [f"{room}/c{k}" for k in range(CLIENTS)]
             room_left = len(head_of(shape, bytes(4 * 16 * 2 * 2), names)) + draw.randrange(4000)
-            host = Host(room, shape, draw, 1, None, bytes_at_most=room_left)
+            host = Host(room, shape, draw, 1, None, most=MOST[turn % 2], bytes_at_most=room_left)
             host.go_on(LIMIT)
             out, err, status, parts = host.end()
             said = [list(sayings) for sayings, _ in parts]
@@ -399,7 +407,7 @@ def try_full_disk():
             host.go_on(LIMIT)
             out, err, status, parts = host.end()
             for sayings, (more, _) in zip(said, parts):
-                sayings.extend(more)
+                sayings.extend([None, *more])
             if status != 0 or not (record := judge(room, shape, host.names, said)).ended:
                 raise Wrong(f"full {turn}: resumed, status {status}, {out!r}, {err[:300]!r}")
             looked += len(record.entries)
@@ -475,6 +483,11 @@ def try_judge_of_clients():
     wrong += [(ENTRIES, without(SAID, at)) for at in (0, 1, 3)]
     wrong += [([*ENTRIES[:at], (ENTRIES[at][0], "other"), *ENTRIES[at + 1 :]], SAID) for at in range(4)]
     wrong += [(ENTRIES[::-1], SAID), (ENTRIES + ENTRIES[:1], SAID), (ENTRIES, [*SAID[:3], ("peek 0 80000804", None)])]
+    unheard = [(command, None) for command, _ in SAID]
+    right += [(ENTRIES[:count], unheard) for count in range(5)] + [(ENTRIES[:2], SAID[:1] + unheard[1:])]
+    right += [(ENTRIES[:1] + ENTRIES[3:], SAID[:1] + unheard[1:3] + SAID[3:])]
+    right += [(ENTRIES[:1] + ENTRIES[3:], [*unheard, None, unheard[3]])]
+    wrong += [(ENTRIES[3:], unheard), (ENTRIES[:1] + ENTRIES[3:], unheard), (ENTRIES[1:], unheard), (ENTRIES[:1], SAID[:2] + unheard[2:])]
     for entries, said in right:
         judge_client(entries, said)
     for entries, said in wrong:
@@ -531,15 +544,15 @@ def try_rests():
     return len(may) + len(may_not)
 
 
-def try_all(cases):
+def try_all(cases, tool="moments"):
     """Tries each case, and says what it looked at: how many are wrong."""
     failed = 0
     for case in cases:
         try:
-            print(f"moments: {case.__name__[4:]}: {case()} looked at", flush=True)
+            print(f"{tool}: {case.__name__[4:]}: {case()} looked at", flush=True)
         except (Wrong, OSError, subprocess.TimeoutExpired) as why:
             failed += 1
-            print(f"moments: WRONG: {case.__name__[4:]}: {why!r}", flush=True)
+            print(f"{tool}: WRONG: {case.__name__[4:]}: {why!r}", flush=True)
         finally:
             stop_all()
     return failed

@@ -55,9 +55,10 @@ make_all() {
 
 # Runs one of these two. What it prints goes into a file, and its last line is shown each half minute.
 follow() {
-    local began=$SECONDS
+    local began=$SECONDS last
     { "$1" >>"$said" 2>&1; } | while read -rt 30 || [ $? -gt 128 ]; do
-        say "after $((SECONDS - began)) s it goes on: $(tail -n 1 "$said")"
+        last=$(tail -n 1 "$said")
+        say "after $((SECONDS - began)) s it goes on${last:+: $last}"
     done
 }
 

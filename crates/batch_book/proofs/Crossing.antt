@@ -58,7 +58,7 @@ module _ (L : RattleType) (n : ExchangeName.Ghosts L.Denot) (h : HistoryName.Gho
   keeper_send = keeper.the_send NotedEntry.the_row L ghosts h noted_send
 
   place_send : IsSend (Place.the_field L n h l).row
-  place_send = struct_send (shape (Place.the_type L n h l)) (access.the_field_send L n h l, (own.the_send NotedEntry.the_row L h noted_send, (search sendable depth 20, tt)))
+  place_send = struct_send (shape (Place.the_type L n h l)) (access.the_field_send L n h l, (own.the_send NotedEntry.the_row L h noted_send, (search sendable depth 20, (search sendable depth 20, tt))))
 
   pub seat_send : IsSend (Seat.the_row L n h l)
   seat_send = let p = place_send in search sendable depth 20

@@ -1,12 +1,13 @@
 -- A history that grows.
-use Rattle.std.proofs.Common.{◌≡◌, ℕ, ◌+◌, List, [], ◌∷◌, ◌++◌, Bool, true, false, true≢false, length, refl, sym, ap, ◌∙◌, subst, arith, length-append}
+use Rattle.std.proofs.Common.{◌≡◌, ℕ, ◌+◌, List, [], ◌∷◌, ◌++◌, Bool, true, true≢false, ◌⊎◌, inl, inr, length, refl, sym, ap, ◌∙◌, subst, arith, length-append}
 use Rattle.batch_book.specs.declared.entry.Entry.{Entry}
 use Rattle.batch_book.specs.declared.reply.Reply.{Reply}
 use Rattle.batch_book.specs.declared.call.Call.{Call}
 use Rattle.batch_book.specs.Machine.{Machine, opened, IsMachineStep}
-use Rattle.batch_book.specs.History.{Account, account, IsReplay, IsGrown, IsKeptBook, IsWithin, entry}
+use Rattle.batch_book.specs.History.{Account, account, IsReplay, IsGrown, IsKeptBook, IsWithin, Starts, entry}
 use Rattle.batch_book.specs.Recording.{IsAnswered}
 use Rattle.batch_book.specs.Replies.{is_logged}
+use Rattle.batch_book.proofs.Fronts.{starts, starts_same, starts_then}
 use Rattle.batch_book.proofs.Room.{HasRoom, within_more}
 use Rattle.batch_book.proofs.Steps.{small_step}
 
@@ -15,10 +16,24 @@ replay_push : (m : Machine) (es : List Entry) (k : Machine) (session : ℕ) (c :
 replay_push m [] k session c r n led step = (n, subst (λ (x : Machine). IsMachineStep x session c r n) led step, refl)
 replay_push m (e ∷ es) k session c r n led step = (led.0, led.1, replay_push led.0 es k session c r n led.2 step)
 
+-- what stands of a history that grows, and what stood
+front_more : (old es stands new : List Entry) (e : Entry) → Starts old es → new ≡ es ++ e ∷ [] → (stands ≡ old) ⊎ (stands ≡ new) → Starts stands new
+front_more old es stands new e was is (inl same) = subst (λ (l : List Entry). Starts l new) (sym same) (starts_then old es new was (starts es new (e ∷ []) is))
+front_more old es stands new e was is (inr all) = starts_same stands new all
+
+-- what stands where an entry was drafted, and then pushed
+pub either_stands : {old mid new all : List Entry} → mid ≡ old → (new ≡ mid) ⊎ (new ≡ all) → (new ≡ old) ⊎ (new ≡ all)
+either_stands same (inl e) = inl (e ∙ same)
+either_stands same (inr e) = inr e
+
+pub stays_front : (old es stands new : List Entry) (e : Entry) → Starts old es → new ≡ es ++ e ∷ [] → (stands ≡ old) ⊎ (stands ≡ new) → Starts old stands
+stays_front old es stands new e was is (inl same) = starts_same old stands (sym same)
+stays_front old es stands new e was is (inr all) = subst (Starts old) (sym all) (starts_then old es new was (starts es new (e ∷ []) is))
+
 -- one step of the machine and one more entry, where there was room for it
-pub grown : (limited loses : Bool) (a : Account) (session : ℕ) (c : Call) (r : Reply) (es : List Entry) (n : Machine) (whole : Bool)
-    → IsKeptBook limited loses a → HasRoom limited a → es ≡ a.history ++ entry session c r ∷ [] → IsMachineStep a.machine session c r n → (whole ≡ false → loses ≡ true) → IsKeptBook limited loses (account a.opening es n whole)
-grown limited loses a session c r es n whole kept room is step lost =
+pub grown : (limited loses : Bool) (a : Account) (session : ℕ) (c : Call) (r : Reply) (es stands : List Entry) (n : Machine) (whole : Bool)
+    → IsKeptBook limited loses a → HasRoom limited a → es ≡ a.history ++ entry session c r ∷ [] → (stands ≡ a.stands) ⊎ (stands ≡ es) → IsMachineStep a.machine session c r n → whole ≡ a.whole → IsKeptBook limited loses (account a.opening es stands n whole)
+grown limited loses a session c r es stands n whole kept room is stood step same =
     let small = small_step a.machine session c r n step in
     let given = small.given in let runs = small.runs in
     let given_before = kept.given in let runs_before = kept.runs in
@@ -30,7 +45,8 @@ grown limited loses a session c r es n whole kept room is step lost =
       runs = omega arith;
       few_given = omega arith;
       few_runs = omega arith;
-      lost = lost;
+      front = front_more a.stands a.history stands es (entry session c r) kept.front is stood;
+      lost = λ none. kept.lost (sym same ∙ none);
     }
 
 -- an answer that can be told

@@ -2,6 +2,7 @@ pub mod Entries
 pub mod Runs
 pub mod Steps
 pub mod Room
+pub mod Fronts
 pub mod Histories
 pub mod OneReplay
 pub mod OwnPlans

@@ -1,8 +1,8 @@
 -- What is noted of calls.
-use Rattle.std.proofs.Common.{◌≡◌, ℕ, ◌+◌, ◌≤◌, max, List, [], ◌∷◌, ◌++◌, length, length-append, take, Bool, true, false, cond, nat_eq, if◌then◌else◌, Option, Some, Result, Ok, Err, IfOk, is_err, ◌||◌, refl, sym, ap, ◌∙◌, subst, arith, append_assoc, append-nil}
-use Rattle.std.proofs.Math.Seq.{take-append_seam, take-append-add, take-length}
+use Rattle.std.proofs.Common.{◌≡◌, ℕ, ◌+◌, ◌≤◌, max, List, [], ◌∷◌, ◌++◌, Bool, true, false, true≢false, All, get_or, cond, nat_eq, if◌then◌else◌, Option, Some, None, Result, Ok, Err, IfOk, is_err, ◌||◌, refl, sym, ap, ◌∙◌, subst, arith, append_assoc, append-nil}
+use Rattle.std.proofs.lemmas.Bool.{or_left, or_right}
 use Rattle.std.proofs.lemmas.Grind.{flat_map-append}
-use Rattle.std.proofs.lemmas.List.{map-append}
+use Rattle.std.proofs.lemmas.List.Elements.{filter-append}
 use Rattle.crossbar.specs.declared.port.ConfigPort.{Ghosts}
 use Rattle.batch.specs.Extent.{Extent}
 use Rattle.setting_runner.specs.Plants.{LeavesPlant, Scheduled}
@@ -14,49 +14,87 @@ use Rattle.batch_book.specs.declared.call.Call.{Call}
 use Rattle.batch_book.specs.declared.entry.Entry.{Entry}
 use Rattle.batch_book.specs.declared.reply.Reply.{Reply}
 use Rattle.batch_book.specs.declared.unrecorded.Unrecorded.{Unrecorded}
-use Rattle.batch_book.specs.declared.unrecorded.Unrecorded.TheVariants.{Before, Now}
 use Rattle.batch_book.specs.Answering.{IsReplyTo}
-use Rattle.batch_book.specs.History.{Account, AreUnstopped, IsSound, entry}
-use Rattle.batch_book.specs.Recording.{Applies, AreAllBut, IsAnswered, Noted, lost, note, noted, made_in, told_if, told_in, told_by, outcome_made, value_made}
-use Rattle.batch_book.specs.Replies.{NeverFail, is_logged}
-use Rattle.batch_book.specs.Seats.{IsAsked, Reaches, open_seat, own}
+use Rattle.batch_book.specs.History.{Account, AreUnstopped, IsSound, Starts, entry}
+use Rattle.batch_book.specs.Recording.{Applies, IsAnswered, Noted, asked_by, entry_if, entry_of, has_mark, made_by, made_in, mark, marks, note, noted, told_in, value_made}
+use Rattle.batch_book.specs.Replies.{NeverFail, is_logged, outcome_in}
+use Rattle.batch_book.specs.Seats.{IsAsked, IsRecorded, Reaches, SeatState, open_seat, own}
 use Rattle.batch_book.specs.Values.{greatest, value_of}
 use Rattle.batch_book.proofs.Answering.{replied}
+use Rattle.batch_book.proofs.Fronts.{IsFront, starts, starts_same, starts_then}
 use Rattle.batch_book.proofs.Seats.{Hears, greatest_push, heard, stays, unheard, unlogged_value}
 use Rattle.batch_book.proofs.Unstopped.{stay_unstopped}
 
 -- ---- lists that grow
 
 pub made_append : (xs ys : List Noted) → made_in (xs ++ ys) ≡ made_in xs ++ made_in ys
-made_append xs ys = map-append (λ (n : Noted). n.made) xs ys
+made_append xs ys = flat_map-append made_by xs ys
 
-pub told_append : (xs ys : List Noted) → told_in (xs ++ ys) ≡ told_in xs ++ told_in ys
-told_append xs ys = flat_map-append (λ (n : Noted). told_if n.told n.made) xs ys
+made_noted_if : (b : Bool) (session : ℕ) (c : Call) (r : Reply) → made_in (if b then note session c r ∷ [] else []) ≡ entry_if b (entry session c r)
+made_noted_if true session c r = refl
+made_noted_if false session c r = refl
 
-told_noted_if : (b : Bool) (e : Entry) → told_in (if b then note e true ∷ [] else []) ≡ told_if b e
-told_noted_if true e = refl
-told_noted_if false e = refl
+pub made_noted : (session : ℕ) (c : Call) (r : Result Reply Unrecorded) → made_in (noted session c r) ≡ asked_by session c r
+made_noted session c (Ok reply) = made_noted_if (is_logged reply) session c reply
+made_noted session c (Err lost) = refl
 
-made_noted_if : (b : Bool) (e : Entry) → made_in (if b then note e true ∷ [] else []) ≡ told_if b e
-made_noted_if true e = refl
-made_noted_if false e = refl
+pub made_mark : (ns : List Noted) (session : ℕ) → made_in (ns ++ mark session ∷ []) ≡ made_in ns
+made_mark ns session = made_append ns (mark session ∷ []) ∙ append-nil (made_in ns)
 
-pub told_noted : (session : ℕ) (c : Call) (r : Result Reply Unrecorded) → told_in (noted session c r) ≡ told_by session c r
-told_noted session c (Ok reply) = told_noted_if (is_logged reply) (entry session c reply)
-told_noted session c (Err (Now reply)) = refl
-told_noted session c (Err Before) = refl
+-- ---- marks
+
+mark_has : (ns : List Noted) (session : ℕ) → has_mark (ns ++ mark session ∷ []) ≡ true
+mark_has [] session = refl
+mark_has (n ∷ ns) session = or_right (marks n.made) (has_mark (ns ++ mark session ∷ [])) (mark_has ns session)
+
+note_has : (ns : List Noted) (session : ℕ) (c : Call) (r : Reply) → has_mark (ns ++ note session c r ∷ []) ≡ has_mark ns
+note_has [] session c r = refl
+note_has (n ∷ ns) session c r = ap (λ (b : Bool). marks n.made || b) (note_has ns session c r)
+
+-- behind a mark all could be told that was made
+pub told_mark : (ns : List Noted) (session : ℕ) → told_in (ns ++ mark session ∷ []) ≡ made_in ns
+told_mark [] session = refl
+told_mark (n ∷ ns) session =
+    ap (λ (b : Bool). if b then made_by n ++ told_in (ns ++ mark session ∷ []) else []) (mark_has (n ∷ ns) session) ∙ ap (λ (l : List Entry). made_by n ++ l) (told_mark ns session)
+
+-- behind a call no more could be told than before
+told_note : (ns : List Noted) (session : ℕ) (c : Call) (r : Reply) → told_in (ns ++ note session c r ∷ []) ≡ told_in ns
+told_note [] session c r = refl
+told_note (n ∷ ns) session c r =
+    ap (λ (b : Bool). if b then made_by n ++ told_in (ns ++ note session c r ∷ []) else []) (note_has (n ∷ ns) session c r)
+    ∙ ap (λ (l : List Entry). if has_mark (n ∷ ns) then made_by n ++ l else []) (told_note ns session c r)
+
+told_if : (ns : List Noted) (session : ℕ) (c : Call) (r : Reply) (b : Bool) → told_in (ns ++ (if b then note session c r ∷ [] else [])) ≡ told_in ns
+told_if ns session c r true = told_note ns session c r
+told_if ns session c r false = ap told_in (append-nil ns)
+
+pub told_noted : (ns : List Noted) (session : ℕ) (c : Call) (r : Result Reply Unrecorded) → told_in (ns ++ noted session c r) ≡ told_in ns
+told_noted ns session c (Ok reply) = told_if ns session c reply (is_logged reply)
+told_noted ns session c (Err lost) = ap told_in (append-nil ns)
+
+-- what could be told are the first that were made
+told_front : (ns : List Noted) → IsFront (told_in ns) (made_in ns)
+told_front [] = ([], refl)
+told_front (n ∷ ns) = by (has_mark (n ∷ ns)) refl (told_front ns)
+  where
+    by : (b : Bool) → has_mark (n ∷ ns) ≡ b → IsFront (told_in ns) (made_in ns) → IsFront (told_in (n ∷ ns)) (made_in (n ∷ ns))
+    by true some rest = (
+      rest.0,
+      ap (λ (l : List Entry). made_by n ++ l) rest.1 ∙ sym (append_assoc (made_by n) (told_in ns) rest.0)
+          ∙ ap (λ (b : Bool). (if b then made_by n ++ told_in ns else []) ++ rest.0) (sym some),
+    )
+    by false none rest = (made_in (n ∷ ns), ap (λ (b : Bool). (if b then made_by n ++ told_in ns else []) ++ made_in (n ∷ ns)) (sym none))
 
 -- ---- what a call adds to the history
 
-grown_if : (old new : Account) (session : ℕ) (c : Call) (r : Reply) (b : Bool) → is_logged r ≡ b → IsAnswered old session c r new → new.history ≡ old.history ++ told_if b (entry session c r)
+grown_if : (old new : Account) (session : ℕ) (c : Call) (r : Reply) (b : Bool) → is_logged r ≡ b → IsAnswered old session c r new → new.history ≡ old.history ++ entry_if b (entry session c r)
 grown_if old new session c r true is answered = (answered.grown is).history
 grown_if old new session c r false is answered = ap (λ (a : Account). a.history) (answered.unlogged is) ∙ sym (append-nil old.history)
 
 grown_by : (old new : Account) (session : ℕ) (c : Call) (r : Result Reply Unrecorded) → Applies old session c r new → new.history ≡ old.history ++ made_in (noted session c r)
 grown_by old new session c (Ok reply) is =
-    grown_if old new session c reply (is_logged reply) refl is ∙ ap (λ (es : List Entry). old.history ++ es) (sym (made_noted_if (is_logged reply) (entry session c reply)))
-grown_by old new session c (Err (Now reply)) is = is.3.history
-grown_by old new session c (Err Before) is = ap (λ (a : Account). a.history) is.1 ∙ sym (append-nil old.history)
+    grown_if old new session c reply (is_logged reply) refl is ∙ ap (λ (es : List Entry). old.history ++ es) (sym (made_noted_if (is_logged reply) session c reply))
+grown_by old new session c (Err lost) is = ap (λ (a : Account). a.history) is.1 ∙ sym (append-nil old.history)
 
 pub kept_more : (earlier : List Entry) (notes : List Noted) (old new : Account) (session : ℕ) (c : Call) (r : Result Reply Unrecorded)
     → Applies old session c r new → old.history ≡ earlier ++ made_in notes → new.history ≡ earlier ++ made_in (notes ++ noted session c r)
@@ -64,74 +102,37 @@ kept_more earlier notes old new session c r is kept =
     grown_by old new session c r is ∙ (ap (λ (es : List Entry). es ++ made_in (noted session c r)) kept
     ∙ (append_assoc earlier (made_in notes) (made_in (noted session c r)) ∙ ap (λ (es : List Entry). earlier ++ es) (sym (made_append notes (noted session c r)))))
 
--- ---- all was told, but for one that was lost
+-- what stood where it belongs still does
+stand_if : (old new : Account) (session : ℕ) (c : Call) (r : Reply) (b : Bool) → is_logged r ≡ b → IsAnswered old session c r new → Starts old.stands new.stands
+stand_if old new session c r true is answered = (answered.grown is).stands
+stand_if old new session c r false is answered = starts_same old.stands new.stands (ap (λ (a : Account). a.stands) (sym (answered.unlogged is)))
 
--- a whole history has nothing else
-pub has_all : (w : Bool) (told all : List Entry) → w ≡ true → AreAllBut w told all → all ≡ told
-has_all w told all is but =
-    let same : length all ≡ length told = but.1 ∙ ap (λ (b : Bool). length told + lost b) is ∙ nothing (length told) in
-    sym (but.0 ∙ (ap (λ (n : ℕ). take n all) (sym same) ∙ take-length all))
-  where
-    nothing : (n : ℕ) → n + 0 ≡ n
-    nothing n = omega arith
+still_stand : (old new : Account) (session : ℕ) (c : Call) (r : Result Reply Unrecorded) → Applies old session c r new → Starts old.stands new.stands
+still_stand old new session c (Ok reply) is = stand_if old new session c reply (is_logged reply) refl is
+still_stand old new session c (Err lost) is = starts_same old.stands new.stands (ap (λ (a : Account). a.stands) (sym is.1))
 
-now_all : (w : Bool) (told all : List Entry) → w ≡ true → all ≡ told → AreAllBut w told all
-now_all w told all is same = (
-  sym (ap (λ (es : List Entry). take (length told) es) same ∙ take-length told),
-  subst (λ (b : Bool). length all ≡ length told + lost b) (sym is) (let e = ap length same in omega (arith, e)),
-)
+pub told_more : (earlier : List Entry) (notes : List Noted) (old new : Account) (session : ℕ) (c : Call) (r : Result Reply Unrecorded)
+    → Applies old session c r new → Starts (earlier ++ told_in notes) old.stands → Starts (earlier ++ told_in (notes ++ noted session c r)) new.stands
+told_more earlier notes old new session c r is told =
+    subst (λ (es : List Entry). Starts (earlier ++ es) new.stands) (sym (told_noted notes session c r)) (starts_then (earlier ++ told_in notes) old.stands new.stands told (still_stand old new session c r is))
 
-but_last : (w : Bool) (told all : List Entry) (e : Entry) → w ≡ false → all ≡ told ++ e ∷ [] → AreAllBut w told all
-but_last w told all e is same = (
-  sym (ap (λ (es : List Entry). take (length told) es) same ∙ take-append_seam told (e ∷ [])),
-  subst (λ (b : Bool). length all ≡ length told + lost b) (sym is) (ap length same ∙ length-append told (e ∷ [])),
-)
-
-same_noted : (session : ℕ) (c : Call) (r : Reply) → made_in (noted session c (Ok r)) ≡ told_in (noted session c (Ok r))
-same_noted session c r = made_noted_if (is_logged r) (entry session c r) ∙ sym (told_noted_if (is_logged r) (entry session c r))
-
-pub all_told_more : (notes : List Noted) (old new : Account) (session : ℕ) (c : Call) (r : Result Reply Unrecorded)
-    → Applies old session c r new → AreAllBut old.whole (told_in notes) (made_in notes) → AreAllBut new.whole (told_in (notes ++ noted session c r)) (made_in (notes ++ noted session c r))
-all_told_more notes old new session c (Ok reply) is all =
-    let more = noted session c (Ok reply) in
-    now_all new.whole (told_in (notes ++ more)) (made_in (notes ++ more)) is.whole
-    (made_append notes more ∙ (ap (λ (es : List Entry). es ++ made_in more) (has_all old.whole (told_in notes) (made_in notes) is.was_whole all)
-    ∙ (ap (λ (es : List Entry). told_in notes ++ es) (same_noted session c reply) ∙ sym (told_append notes more))))
-all_told_more notes old new session c (Err (Now reply)) is all =
-    let e = entry session c reply in
-    let more = note e false ∷ [] in
-    let told : told_in notes ≡ told_in (notes ++ more) = sym (told_append notes more ∙ append-nil (told_in notes)) in
-    let made : made_in (notes ++ more) ≡ told_in (notes ++ more) ++ e ∷ [] =
-    made_append notes more ∙ (ap (λ (es : List Entry). es ++ e ∷ []) (has_all old.whole (told_in notes) (made_in notes) is.1 all) ∙ ap (λ (es : List Entry). es ++ e ∷ []) told) in
-    but_last new.whole (told_in (notes ++ more)) (made_in (notes ++ more)) e is.2 made
-all_told_more notes old new session c (Err Before) is all =
-    let none : notes ≡ notes ++ [] = sym (append-nil notes) in
-    subst (λ (w : Bool). AreAllBut w (told_in (notes ++ [])) (made_in (notes ++ []))) (sym (ap (λ (a : Account). a.whole) is.1))
-    (subst (λ (ns : List Noted). AreAllBut old.whole (told_in ns) (made_in ns)) none all)
-
--- behind earlier ones
-pub all_behind : (w : Bool) (earlier told all history : List Entry) → AreAllBut w told all → history ≡ earlier ++ all → AreAllBut w (earlier ++ told) history
-all_behind w earlier told all history is kept =
-    let long : length (earlier ++ told) ≡ length earlier + length told = length-append earlier told in (
-      sym (ap (λ (es : List Entry). take (length (earlier ++ told)) es) kept ∙ (ap (λ (n : ℕ). take n (earlier ++ all)) long
-          ∙ (take-append-add earlier all (length told) ∙ ap (λ (es : List Entry). earlier ++ es) (sym is.0)))),
-      let whole = ap length kept ∙ length-append earlier all in let rest = is.1 in omega (arith, whole, rest, long),
-    )
+-- behind a mark where all entries stand
+pub told_all : (earlier stands history : List Entry) (notes : List Noted) (session : ℕ) → stands ≡ history → history ≡ earlier ++ made_in notes → Starts (earlier ++ told_in (notes ++ mark session ∷ [])) stands
+told_all earlier stands history notes session all kept = starts_same _ stands (ap (λ (es : List Entry). earlier ++ es) (told_mark notes session) ∙ sym (all ∙ kept))
 
 -- ---- values
 
-one_more : (notes : List Noted) (e : Entry) (told : Bool) → greatest (made_in (notes ++ note e told ∷ [])) ≡ max (greatest (made_in notes)) (value_of e.reply)
-one_more notes e told = ap greatest (made_append notes (note e told ∷ [])) ∙ greatest_push (made_in notes) e
+one_more : (notes : List Noted) (session : ℕ) (c : Call) (r : Reply) → greatest (made_in (notes ++ note session c r ∷ [])) ≡ max (greatest (made_in notes)) (value_of r)
+one_more notes session c r = ap greatest (made_append notes (note session c r ∷ [])) ∙ greatest_push (made_in notes) (entry session c r)
 
-greatest_if : (notes : List Noted) (e : Entry) (b : Bool) → is_logged e.reply ≡ b → greatest (made_in (notes ++ (if b then note e true ∷ [] else []))) ≡ max (greatest (made_in notes)) (value_of e.reply)
-greatest_if notes e true is = one_more notes e true
-greatest_if notes e false is =
-    let none = unlogged_value e.reply is in let same = ap (λ (ns : List Noted). greatest (made_in ns)) (append-nil notes) in omega (arith, none, same)
+greatest_if : (notes : List Noted) (session : ℕ) (c : Call) (r : Reply) (b : Bool) → is_logged r ≡ b → greatest (made_in (notes ++ (if b then note session c r ∷ [] else []))) ≡ max (greatest (made_in notes)) (value_of r)
+greatest_if notes session c r true is = one_more notes session c r
+greatest_if notes session c r false is =
+    let none = unlogged_value r is in let same = ap (λ (ns : List Noted). greatest (made_in ns)) (append-nil notes) in omega (arith, none, same)
 
 pub greatest_more : (notes : List Noted) (session : ℕ) (c : Call) (r : Result Reply Unrecorded) → greatest (made_in (notes ++ noted session c r)) ≡ max (greatest (made_in notes)) (value_made r)
-greatest_more notes session c (Ok reply) = greatest_if notes (entry session c reply) (is_logged reply) refl
-greatest_more notes session c (Err (Now reply)) = one_more notes (entry session c reply) false
-greatest_more notes session c (Err Before) = let same = ap (λ (ns : List Noted). greatest (made_in ns)) (append-nil notes) in omega (arith, same)
+greatest_more notes session c (Ok reply) = greatest_if notes session c reply (is_logged reply) refl
+greatest_more notes session c (Err lost) = let same = ap (λ (ns : List Noted). greatest (made_in ns)) (append-nil notes) in omega (arith, same)
 
 pub greatest_append : (earlier es : List Entry) → greatest (earlier ++ es) ≡ max (greatest earlier) (greatest es)
 greatest_append [] es = omega arith
@@ -139,38 +140,128 @@ greatest_append (x ∷ earlier) es = let rest = greatest_append earlier es in om
 
 -- ---- a session's own
 
-abbrev is_own : ℕ → Noted → Bool
-is_own session n = nat_eq n.made.session session
-
 abbrev pub own_notes : ℕ → List Noted → List Noted
-own_notes session notes = own_of (λ (n : Noted). n.made.session) session notes
+own_notes session notes = own_of (λ (n : Noted). n.session) session notes
 
-own_told_if : (e : Entry) (xs : List Noted) (ys : List Entry) (session : ℕ) (t b : Bool) → nat_eq e.session session ≡ b → told_in xs ≡ own session ys → cond b (told_if t e ++ told_in xs) (told_in xs) ≡ own session (told_if t e ++ ys)
-own_told_if e xs ys session true true is same =
-    subst (λ (x : Bool). e ∷ told_in xs ≡ cond x (e ∷ own session ys) (own session ys)) (sym is) (ap (λ (es : List Entry). e ∷ es) same)
-own_told_if e xs ys session true false is same = subst (λ (x : Bool). told_in xs ≡ cond x (e ∷ own session ys) (own session ys)) (sym is) same
-own_told_if e xs ys session false true is same = same
-own_told_if e xs ys session false false is same = same
+own_append : (session : ℕ) (xs ys : List Entry) → own session (xs ++ ys) ≡ own session xs ++ own session ys
+own_append session xs ys = filter-append (λ (e : Entry). nat_eq e.session session) xs ys
 
-told_cond : (n : Noted) (xs : List Noted) (b : Bool) → told_in (cond b (n ∷ xs) xs) ≡ cond b (told_if n.told n.made ++ told_in xs) (told_in xs)
-told_cond n xs true = refl
-told_cond n xs false = refl
+-- the entry of a note that is the session's, and of one that isn't
+own_made : (session by : ℕ) (m : Option (Call × Reply)) → nat_eq by session ≡ true → own session (entry_of by m) ≡ entry_of by m
+own_made session by None is = refl
+own_made session by (Some m) is = ap (λ (b : Bool). cond b (entry by m.0 m.1 ∷ []) []) is
 
--- what could be told of a session's own is its own of what could be told
-pub own_told : (session : ℕ) (notes : List Noted) → told_in (own_notes session notes) ≡ own session (told_in notes)
-own_told session [] = refl
-own_told session (n ∷ notes) =
-    told_cond n (own_notes session notes) (is_own session n)
-    ∙ own_told_if n.made (own_notes session notes) (told_in notes) session n.told (is_own session n) refl (own_told session notes)
+others_made : (session by : ℕ) (m : Option (Call × Reply)) → nat_eq by session ≡ false → own session (entry_of by m) ≡ []
+others_made session by None is = refl
+others_made session by (Some m) is = ap (λ (b : Bool). cond b (entry by m.0 m.1 ∷ []) []) is
 
-made_step : (n : Noted) (notes xs : List Noted) → greatest (made_in xs) ≤ greatest (made_in notes) → (b : Bool) → greatest (made_in (cond b (n ∷ xs) xs)) ≤ greatest (made_in (n ∷ notes))
-made_step n notes xs le true = omega (arith, le)
-made_step n notes xs le false = omega (arith, le)
+-- the entries of its notes, where some stand behind its own or another's
+own_behind : (session : ℕ) (n : Noted) (es : List Entry) → nat_eq n.session session ≡ true → own session (made_by n ++ es) ≡ made_by n ++ own session es
+own_behind session n es is = own_append session (made_by n) es ∙ ap (λ (l : List Entry). l ++ own session es) (own_made session n.session n.made is)
+
+own_past : (session : ℕ) (n : Noted) (es : List Entry) → nat_eq n.session session ≡ false → own session (made_by n ++ es) ≡ own session es
+own_past session n es is = own_append session (made_by n) es ∙ ap (λ (l : List Entry). l ++ own session es) (others_made session n.session n.made is)
+
+-- what its notes made is its own of what all made
+pub own_asked : (session : ℕ) (notes : List Noted) → made_in (own_notes session notes) ≡ own session (made_in notes)
+own_asked session [] = refl
+own_asked session (n ∷ ns) = by (nat_eq n.session session) refl (own_asked session ns)
+  where
+    N : List Noted
+    N = own_notes session ns
+
+    by : (b : Bool) → nat_eq n.session session ≡ b → made_in N ≡ own session (made_in ns) → made_in (own_notes session (n ∷ ns)) ≡ own session (made_in (n ∷ ns))
+    by true is rest = ap (λ (b : Bool). made_in (cond b (n ∷ N) N)) is ∙ ap (λ (l : List Entry). made_by n ++ l) rest ∙ sym (own_behind session n (made_in ns) is)
+    by false is rest = ap (λ (b : Bool). made_in (cond b (n ∷ N) N)) is ∙ rest ∙ sym (own_past session n (made_in ns) is)
+
+none_told : (ns : List Noted) → has_mark ns ≡ false → told_in ns ≡ []
+none_told [] none = refl
+none_told (n ∷ ns) none = ap (λ (b : Bool). if b then made_by n ++ told_in ns else []) none
+
+-- a mark of the session is one of all
+own_mark : (session : ℕ) (ns : List Noted) → has_mark (own_notes session ns) ≡ true → has_mark ns ≡ true
+own_mark session [] some = some
+own_mark session (n ∷ ns) some = by (nat_eq n.session session) refl (own_mark session ns)
+  where
+    N : List Noted
+    N = own_notes session ns
+
+    by : (b : Bool) → nat_eq n.session session ≡ b → (has_mark N ≡ true → has_mark ns ≡ true) → has_mark (n ∷ ns) ≡ true
+    by true is further = two (marks n.made) refl
+      where
+        two : (m : Bool) → marks n.made ≡ m → has_mark (n ∷ ns) ≡ true
+        two true its = or_left (marks n.made) (has_mark ns) its
+        two false its = or_right (marks n.made) (has_mark ns) (further (ap (λ (b : Bool). b || has_mark N) (sym its) ∙ ap (λ (b : Bool). has_mark (cond b (n ∷ N) N)) (sym is) ∙ some))
+    by false is further = or_right (marks n.made) (has_mark ns) (further (ap (λ (b : Bool). has_mark (cond b (n ∷ N) N)) (sym is) ∙ some))
+
+-- what could be told by its notes are the first of its own of what could be told by all
+own_told : (session : ℕ) (ns : List Noted) → IsFront (told_in (own_notes session ns)) (own session (told_in ns))
+own_told session [] = ([], refl)
+own_told session (n ∷ ns) = by (nat_eq n.session session) refl (own_told session ns)
+  where
+    N : List Noted
+    N = own_notes session ns
+
+    mine : List Noted
+    mine = own_notes session (n ∷ ns)
+
+    all : List Entry
+    all = own session (told_in (n ∷ ns))
+
+    told_some : has_mark (n ∷ ns) ≡ true → told_in (n ∷ ns) ≡ made_by n ++ told_in ns
+    told_some some = ap (λ (b : Bool). if b then made_by n ++ told_in ns else []) some
+
+    by : (b : Bool) → nat_eq n.session session ≡ b → IsFront (told_in N) (own session (told_in ns)) → IsFront (told_in mine) all
+    by true is rest = two (has_mark (n ∷ N)) refl
+      where
+        own_is : mine ≡ n ∷ N
+        own_is = ap (λ (b : Bool). cond b (n ∷ N) N) is
+
+        two : (c : Bool) → has_mark (n ∷ N) ≡ c → IsFront (told_in mine) all
+        two false none = (all, sym (ap (λ (l : List Entry). l ++ all) (ap told_in own_is ∙ none_told (n ∷ N) none)))
+        two true some =
+            let marked : has_mark (n ∷ ns) ≡ true = own_mark session (n ∷ ns) (ap has_mark own_is ∙ some) in
+            let its : told_in mine ≡ made_by n ++ told_in N = ap told_in own_is ∙ ap (λ (b : Bool). if b then made_by n ++ told_in N else []) some in (
+              rest.0,
+              ap (own session) (told_some marked) ∙ own_behind session n (told_in ns) is ∙ ap (λ (l : List Entry). made_by n ++ l) rest.1 ∙ sym (append_assoc (made_by n) (told_in N) rest.0)
+                  ∙ ap (λ (l : List Entry). l ++ rest.0) (sym its),
+            )
+    by false is rest = two (has_mark (n ∷ ns)) refl
+      where
+        own_is : mine ≡ N
+        own_is = ap (λ (b : Bool). cond b (n ∷ N) N) is
+
+        unmarked : has_mark (n ∷ ns) ≡ false → (m : Bool) → has_mark N ≡ m → has_mark N ≡ false
+        unmarked none false e = e
+        unmarked none true e = absurd (true≢false (sym (own_mark session (n ∷ ns) (ap has_mark own_is ∙ e)) ∙ none))
+
+        two : (c : Bool) → has_mark (n ∷ ns) ≡ c → IsFront (told_in mine) all
+        two false none = (all, sym (ap (λ (l : List Entry). l ++ all) (ap told_in own_is ∙ none_told N (unmarked none (has_mark N) refl))))
+        two true some = (
+          rest.0,
+          ap (own session) (told_some some) ∙ own_past session n (told_in ns) is ∙ rest.1 ∙ ap (λ (l : List Entry). l ++ rest.0) (sym (ap told_in own_is)),
+        )
+
+pub recorded : (s : SeatState) (list notes : List Noted) → s.log ≡ told_in list → list ≡ own_notes s.session notes → IsRecorded (told_in notes) s
+recorded s list notes told its =
+    let f = own_told s.session notes in
+    starts s.log _ f.0 (f.1 ∙ ap (λ (l : List Entry). l ++ f.0) (sym (told ∙ ap told_in its)))
+
+-- and so of what stands
+recorded_more : (told more : List Entry) (s : SeatState) → IsRecorded told s → IsRecorded (told ++ more) s
+recorded_more told more s is = starts_then s.log (own s.session told) _ is (starts (own s.session told) _ (own s.session more) (own_append s.session told more))
+
+pub all_recorded : (told more : List Entry) (seats : List SeatState) → All (IsRecorded told) seats → All (IsRecorded (told ++ more)) seats
+all_recorded told more seats all = λ k d less. recorded_more told more (get_or seats k d) (all k d less)
+
+greatest_cond : (e : Entry) (es xs : List Entry) → greatest xs ≤ greatest es → (b : Bool) → greatest (cond b (e ∷ xs) xs) ≤ greatest (e ∷ es)
+greatest_cond e es xs le true = omega (arith, le)
+greatest_cond e es xs le false = omega (arith, le)
 
 -- a session's own tell of no more than all
-pub own_made_below : (session : ℕ) (notes : List Noted) → greatest (made_in (own_notes session notes)) ≤ greatest (made_in notes)
-own_made_below session [] = omega arith
-own_made_below session (n ∷ notes) = made_step n notes (own_notes session notes) (own_made_below session notes) (is_own session n)
+pub greatest_own : (session : ℕ) (es : List Entry) → greatest (own session es) ≤ greatest es
+greatest_own session [] = omega arith
+greatest_own session (e ∷ es) = greatest_cond e es (own session es) (greatest_own session es) (nat_eq e.session session)
 
 -- ---- a call of the exchange
 
@@ -179,37 +270,50 @@ replied_made old new session c (Ok reply) sound is = replied old session c reply
 replied_made old new session c (Err lost) sound is = tt
 
 pub heard_made : {N : Type 0} (watcher : N → WatcherView) (run : N → ℕ) (a b : N) (old new : Account) (session : ℕ) (c : Call) (r : Result Reply Unrecorded)
-    → IsSound old.machine → run a ≡ old.machine.runs + 1 → Applies old session c r new → TellsOutcome (Hears watcher run) a (outcome_made r) b
+    → IsSound old.machine → run a ≡ old.machine.runs + 1 → Applies old session c r new → TellsOutcome (Hears watcher run) a (outcome_in r) b
     → Reaches (watcher a) (value_made r) (watcher b)
 heard_made watcher run a b old new session c (Ok reply) sound next is h = heard watcher run a b old session c reply new sound next is.grown h
-heard_made watcher run a b old new session c (Err (Now reply)) sound next is h = heard watcher run a b old session c reply new sound next (λ _. is.3) h
-heard_made watcher run a b old new session c (Err Before) sound next is h = stays (watcher a) (watcher b) (ap watcher h)
+heard_made watcher run a b old new session c (Err lost) sound next is h = stays (watcher a) (watcher b) (ap watcher h)
 
 pub unheard_made : {N : Type 0} (watcher : N → WatcherView) (run : N → ℕ) (a b : N) (old new : Account) (session : ℕ) (c : Call) (r : Result Reply Unrecorded)
-    → IsSound old.machine → Applies old session c r new → TellsOutcome (Hears watcher run) a (outcome_made r) b
+    → IsSound old.machine → Applies old session c r new → TellsOutcome (Hears watcher run) a (outcome_in r) b
     → value_made r ≡ 0 → watcher b ≡ watcher a
 unheard_made watcher run a b old new session c (Ok reply) sound is h none = unheard watcher run a b old session c reply new sound is.grown h none
-unheard_made watcher run a b old new session c (Err (Now reply)) sound is h none = unheard watcher run a b old session c reply new sound (λ _. is.3) h none
-unheard_made watcher run a b old new session c (Err Before) sound is h none = ap watcher h
+unheard_made watcher run a b old new session c (Err lost) sound is h none = ap watcher h
 
 pub asked : (o p : WatcherView) (session parts after : ℕ) (broken breaks : Bool) (notes list : List Noted) (c : Call) (r : Result Reply Unrecorded)
     → Reaches o (value_made r) p → (value_made r ≡ 0 → p ≡ o) → after ≡ parts → list ≡ notes ++ noted session c r → breaks ≡ is_err r || broken
-    → IsAsked (open_seat o session (told_in notes) parts broken) c r (open_seat p session (told_in list) after breaks)
+    → IsAsked (open_seat o session (made_in notes) (told_in notes) parts broken) c r (open_seat p session (made_in list) (told_in list) after breaks)
 asked o p session parts after broken breaks notes list c r reaches quiet same are is = record {
   seat = record { exchange = ap Some reaches.word; session = refl; parts = same };
-  log = ap told_in are ∙ (told_append notes (noted session c r) ∙ ap (λ (es : List Entry). told_in notes ++ es) (told_noted session c r));
+  asked = ap made_in are ∙ (made_append notes (noted session c r) ∙ ap (λ (es : List Entry). made_in notes ++ es) (made_noted session c r));
+  log = starts_same (told_in notes) (told_in list) (sym (ap told_in are ∙ told_noted notes session c r));
   later = reaches.later;
   seen = reaches.seen;
   quiet = λ none. ap (λ (w : WatcherView). w.seen) (quiet none);
   broken = is;
 }
 
+-- where the reply can be told at once
+pub asked_all : (old new all : SeatState) (list : List Noted) (c : Call) (r : Result Reply Unrecorded) → IsAsked old c r new → new.asked ≡ made_in list → new.log ≡ told_in list → all ≡ record new { log = new.asked } → IsAsked old c r all
+asked_all old new all list c r is made told same =
+    let f = told_front list in
+    let more : Starts new.log new.asked = starts new.log new.asked f.0 (made ∙ f.1 ∙ ap (λ (l : List Entry). l ++ f.0) (sym told)) in
+    subst (IsAsked old c r) (sym same) record {
+      seat = record { exchange = is.seat.exchange; session = is.seat.session; parts = is.seat.parts };
+      asked = is.asked;
+      log = starts_then old.log new.log new.asked is.log more;
+      later = is.later;
+      seen = is.seen;
+      quiet = is.quiet;
+      broken = is.broken;
+    }
+
 pub unstopped_made : {P W G : Type 0} (seen : Ghosts P) (sure : W → ℕ → Type 0) (shape : Extent) (ran : Option Scheduled) (plant next : Plant P W G) (old new : Account) (session : ℕ) (c : Call) (r : Result Reply Unrecorded)
-    → LeavesPlant seen sure shape ran (outcome_made r) plant next → Applies old session c r new → (NeverFail seen sure → AreUnstopped old.history) → NeverFail seen sure → AreUnstopped new.history
+    → LeavesPlant seen sure shape ran (outcome_in r) plant next → Applies old session c r new → (NeverFail seen sure → AreUnstopped old.history) → NeverFail seen sure → AreUnstopped new.history
 unstopped_made seen sure shape ran plant next old new session c (Ok reply) left is before never = by (is_logged reply) refl
   where
     by : (b : Bool) → is_logged reply ≡ b → AreUnstopped new.history
     by true logged = stay_unstopped seen sure shape ran plant next old session c reply new left (is.grown logged) before never
     by false logged = subst (λ (a : Account). AreUnstopped a.history) (sym (is.unlogged logged)) (before never)
-unstopped_made seen sure shape ran plant next old new session c (Err (Now reply)) left is before never = stay_unstopped seen sure shape ran plant next old session c reply new left is.3 before never
-unstopped_made seen sure shape ran plant next old new session c (Err Before) left is before never = subst (λ (a : Account). AreUnstopped a.history) (sym is.1) (before never)
+unstopped_made seen sure shape ran plant next old new session c (Err lost) left is before never = subst (λ (a : Account). AreUnstopped a.history) (sym is.1) (before never)

@@ -1,6 +1,5 @@
 -- Room for another entry.
-use Rattle.std.proofs.Common.{◌≡◌, ℕ, ◌+◌, ◌<◌, Bool, true, false, nat_lt, if◌then◌else◌, length, true≢false, refl, sym, ◌∙◌, arith}
-use Rattle.std.specs.Prelude.{Result, Ok, Err, OnOk, OnErr}
+use Rattle.std.proofs.Common.{◌≡◌, ℕ, ◌+◌, ◌<◌, Bool, true, false, nat_lt, if◌then◌else◌, length, true≢false, refl, sym, arith}
 use Rattle.std.proofs.lemmas.Bool.{ltb-true}
 use Rattle.batch_book.specs.declared.limits.TheConstants.{MAX_ENTRIES, MAX_NUMBER}
 use Rattle.batch_book.specs.History.{Account, IsWithin, has_room, has_numbers, has_book_room}
@@ -30,8 +29,3 @@ room_of limited a is =
 pub within_more : (limited : Bool) (n : ℕ) → has_room limited n ≡ true → IsWithin limited (n + 1)
 within_more true n is = let less = below n MAX_ENTRIES is in omega (arith, less)
 within_more false n is = tt
-
--- where a push may fail, it may leave a history that isn't whole
-pub lost_by : {T E : Type 0} (r : Result T E) (whole loses : Bool) → OnOk r (whole ≡ true) → OnErr r (loses ≡ true) → whole ≡ false → loses ≡ true
-lost_by (Ok x) whole loses ok err is = absurd (true≢false (sym ok ∙ is))
-lost_by (Err x) whole loses ok err is = err

@@ -6,26 +6,28 @@ use Rattle.progress_word.specs.declared.limits.TheConstants.{ALL_PARTS}
 use Rattle.batch_book.specs.declared.close.Closed.{Closed}
 use Rattle.batch_book.specs.declared.close.SeatMissing.{SeatMissing}
 use Rattle.batch_book.specs.declared.entry.Entry.{Entry}
-use Rattle.batch_book.specs.Seats.{SeatState, parts_of, entries_of, LogAgrees}
+use Rattle.batch_book.specs.Seats.{SeatState, parts_of, entries_of, AskedAgrees, IsRecorded}
 use Rattle.batch_book.specs.Exchanges.{Exchange}
 use Rattle.batch_book.specs.History.{Account, AreUnstopped}
-use Rattle.batch_book.specs.Recording.{AreAllBut}
 use Rattle.batch_book.specs.Replies.{NeverFail}
 use Rattle.batch_book.specs.Values.{greatest}
 
 -- No seat is missing: the book was opened with these words, and had these entries before. Behind
--- them its history has those that were told, and where it isn't whole one more. Each seat's list is
--- what was told, filtered to the seat's session, and nothing else was told. No seat has seen more of
--- the word than the greatest value of the history. Where port and wires never fail, no run of it
--- stopped.
+-- them its history has those that were made. What each seat asked is that, filtered to the seat's
+-- session, and nothing else was made. What could be told to it are the first of its session's
+-- entries that stand where they belong. No seat has seen more of the word than the greatest value of
+-- the history. Where port and wires never fail, no run of it stopped.
 pub record AreClosed {P W : Type 0} (seen : Ghosts P) (sure : W → ℕ → Type 0) (opening : Store)
     (earlier : List Entry) (seats : List SeatState) (book : Account) : Type 0 where
-  pub told : List Entry
+  pub made : List Entry
+  pub standing : List Entry
   pub all_parts : parts_of seats ≡ ALL_PARTS
   pub opened : book.opening ≡ opening
-  pub all_told : AreAllBut book.whole (earlier ++ told) book.history
-  pub agree : All (LogAgrees told) seats
-  pub counted : length told ≡ entries_of seats
+  pub are : book.history ≡ earlier ++ made
+  pub stand : book.stands ≡ earlier ++ standing
+  pub asked : All (AskedAgrees made) seats
+  pub told : All (IsRecorded standing) seats
+  pub counted : length made ≡ entries_of seats
   pub none_ahead : All (λ s. s.seen ≤ greatest book.history) seats
   pub unstopped : NeverFail seen sure → AreUnstopped book.history
 

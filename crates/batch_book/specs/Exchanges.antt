@@ -24,6 +24,7 @@ new_seat word start session parts =
     record {
       exchange = Some word;
       session = session;
+      asked = [];
       log = [];
       seen = start;
       parts = parts;

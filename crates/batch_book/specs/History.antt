@@ -1,5 +1,5 @@
 -- Histories of the book.
-use Rattle.std.specs.Prelude.{◌≡◌, ℕ, ◌≤◌, ◌⊎◌, nat_lt, if◌then◌else◌, Bool, true, false, List, [], ◌∷◌, ◌++◌, length, All}
+use Rattle.std.specs.Prelude.{◌≡◌, ℕ, ◌≤◌, ◌⊎◌, nat_lt, if◌then◌else◌, Bool, true, false, List, [], ◌∷◌, ◌++◌, length, take, All}
 use Rattle.std.specs.List.{flat_map}
 use Rattle.batch.specs.Extent.{IsShape}
 use Rattle.module_memory.specs.Store.{Store}
@@ -28,17 +28,28 @@ IsLegal opening es = (n : Machine) × IsReplay (opened opening) es n
 abbrev pub entry : ℕ → Call → Reply → Entry
 entry session call reply = record { session = session; call = call; reply = reply }
 
--- What contracts see of a book: the words that it was opened with, its history, the machine as it
--- is, and whether each entry of the history stands where it belongs. If not, the last one may not.
+-- one list is a front of the other
+abbrev pub Starts : {A : Type 0} → List A → List A → Type 0
+Starts xs ys = xs ≡ take (length xs) ys
+
+-- What contracts see of a book: the words that it was opened with, its history, the first entries
+-- of it, which stand where they belong, the machine as it is, and whether the others can still be
+-- put there.
 pub record Account : Type 0 where
   pub opening : Store
   pub history : List Entry
+  pub stands : List Entry
   pub machine : Machine
   pub whole : Bool
 
-abbrev pub account : Store → List Entry → Machine → Bool → Account
-account opening history machine whole =
-    record { opening = opening; history = history; machine = machine; whole = whole }
+abbrev pub account : Store → (history stands : List Entry) → Machine → Bool → Account
+account opening history stands machine whole = record {
+  opening = opening;
+  history = history;
+  stands = stands;
+  machine = machine;
+  whole = whole;
+}
 
 -- what they see of one without its history: how far its runs have come, too
 pub record Bare : Type 0 where
@@ -48,7 +59,7 @@ pub record Bare : Type 0 where
 
 -- what contracts see of a new book of these words
 abbrev pub new_account : Store → Account
-new_account store = account store [] (opened store) true
+new_account store = account store [] [] (opened store) true
 
 -- ---- room; entries are limited in number, or they aren't
 
@@ -78,7 +89,8 @@ IsFull true a = length a.history ≡ MAX_ENTRIES
 IsFull false a = (a.machine.given ≡ MAX_NUMBER) ⊎ (a.machine.runs ≡ MAX_NUMBER)
 
 -- The machine is the history's replay. There are no more entries than may be, nor more numbers than
--- entries, or than a line can hold. An entry can be lost only where the history's kind says so.
+-- entries, or than a line can hold. The first entries stand where they belong. An entry can be lost
+-- only where the history's kind says so.
 pub record IsKeptBook (limited loses : Bool) (a : Account) : Type 0 where
   pub replay : IsReplay (opened a.opening) a.history a.machine
   pub few : IsWithin limited (length a.history)
@@ -86,15 +98,17 @@ pub record IsKeptBook (limited loses : Bool) (a : Account) : Type 0 where
   pub runs : a.machine.runs ≤ length a.history
   pub few_given : a.machine.given ≤ MAX_NUMBER
   pub few_runs : a.machine.runs ≤ MAX_NUMBER
+  pub front : Starts a.stands a.history
   pub lost : a.whole ≡ false → loses ≡ true
 
 -- ---- growth
 
--- one step of the machine, and one entry more
+-- one step of the machine, and one entry more; what stood where it belongs still does
 pub record IsGrown (old : Account) (session : ℕ) (call : Call) (reply : Reply)
     (new : Account) : Type 0 where
   pub step : IsMachineStep old.machine session call reply new.machine
   pub history : new.history ≡ old.history ++ entry session call reply ∷ []
+  pub stands : Starts old.stands new.stands
   pub opening : new.opening ≡ old.opening
 
 -- ---- laws

@@ -22,4 +22,5 @@ pub record IsNamed (ledger ledger_parts : ℕ) (table : TableId) (words : Store)
   pub history : blank.history ≡ table
   pub opening : book.opening ≡ words
   pub entries : book.history ≡ earlier
+  pub stand : book.stands ≡ earlier
   pub whole : book.whole ≡ true

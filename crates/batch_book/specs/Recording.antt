@@ -1,22 +1,18 @@
--- What becomes of a call: its reply can be told, or it is lost, since its entry couldn't be recorded.
-use Rattle.std.specs.Prelude.{◌≡◌, ℕ, ◌+◌, if◌then◌else◌, Bool, true, false, List, [], ◌∷◌, length, take, map, Result, Ok, Err}
+-- What becomes of a call: its entry is made, and where that stands where it belongs the reply can be
+-- told.
+use Rattle.std.specs.Prelude.{◌≡◌, ℕ, ◌||◌, if◌then◌else◌, Bool, true, false, List, [], ◌∷◌, ◌++◌, Option, Some, None, Result, Ok, Err}
 use Rattle.std.specs.List.{flat_map}
-use Rattle.setting_runner.specs.declared.outcome.Outcome.{Outcome}
-use Rattle.setting_runner.specs.declared.outcome.Outcome.TheVariants as outcome
-use Rattle.setting_runner.specs.declared.outcome.RunRefusal.TheVariants as run_refusal
 use Rattle.batch_book.specs.declared.call.Call.{Call}
 use Rattle.batch_book.specs.declared.entry.Entry.{Entry}
 use Rattle.batch_book.specs.declared.reply.Reply.{Reply}
 use Rattle.batch_book.specs.declared.unrecorded.Unrecorded.{Unrecorded}
-use Rattle.batch_book.specs.declared.unrecorded.Unrecorded.TheVariants.{Before, Now}
 use Rattle.batch_book.specs.History.{Account, IsGrown, entry}
-use Rattle.batch_book.specs.Replies.{is_logged, outcome_of}
+use Rattle.batch_book.specs.Replies.{is_logged}
 use Rattle.batch_book.specs.Values.{value_of}
 
 -- ---- the book
 
--- The reply can be told: the history has the entry, where it has such, and each of its entries
--- stands where it belongs.
+-- A call was made: the history has its entry, where it has such.
 pub record IsAnswered (old : Account) (session : ℕ) (call : Call) (reply : Reply)
     (new : Account) : Type 0 where
   pub was_whole : old.whole ≡ true
@@ -24,74 +20,67 @@ pub record IsAnswered (old : Account) (session : ℕ) (call : Call) (reply : Rep
   pub grown : is_logged reply ≡ true → IsGrown old session call reply new
   pub unlogged : is_logged reply ≡ false → new ≡ old
 
--- The reply is lost. Either an earlier one was, and no call was made; or this is the first one: its
--- entry is the last of the history, and doesn't stand where it belongs.
-abbrev pub IsLost : Account → ℕ → Call → Unrecorded → Account → Type 0
-IsLost old session call Before new = (old.whole ≡ false) × (new ≡ old)
-IsLost old session call (Now reply) new =
-    (is_logged reply ≡ true) × (old.whole ≡ true) × (new.whole ≡ false)
-    × IsGrown old session call reply new
-
+-- it was made, or an entry was lost before, and it wasn't
 abbrev pub Applies : Account → ℕ → Call → Result Reply Unrecorded → Account → Type 0
 Applies old session call (Ok reply) new = IsAnswered old session call reply new
-Applies old session call (Err lost) new = IsLost old session call lost new
+Applies old session call (Err lost) new = (old.whole ≡ false) × (new ≡ old)
 
--- how the run ended of which the reply tells, told or lost; where there is none, as if want of
--- memory had refused it
-abbrev pub outcome_made : Result Reply Unrecorded → Outcome
-outcome_made (Ok reply) = outcome_of reply
-outcome_made (Err (Now reply)) = outcome_of reply
-outcome_made (Err Before) = outcome.Refused run_refusal.NoMemory
+-- all entries stand where they belong; or those that stood, and no other will
+abbrev pub Flushes : Account → Result (Unit {0}) Unrecorded → Account → Type 0
+Flushes old (Ok done) new = (old.whole ≡ true) × (new ≡ record old { stands = old.history })
+Flushes old (Err lost) new = new ≡ record old { whole = false }
 
--- the same where there may have been no memory for the call
-abbrev pub outcome_entered : {E : Type 0} → Result (Result Reply Unrecorded) E → Outcome
-outcome_entered (Ok made) = outcome_made made
-outcome_entered (Err e) = outcome.Refused run_refusal.NoMemory
-
--- the value of the reply, told or lost
+-- the value of the reply
 abbrev pub value_made : Result Reply Unrecorded → ℕ
 value_made (Ok reply) = value_of reply
-value_made (Err (Now reply)) = value_of reply
-value_made (Err Before) = 0
+value_made (Err lost) = 0
 
--- ---- lists of what was made, and of what was told
+-- ---- what is noted of calls
 
--- an entry that was made, and whether its reply could be told
+-- a call that was made, and its reply; or a mark: all that the session has asked can be told
 pub record Noted : Type 0 where
-  pub made : Entry
-  pub told : Bool
+  pub session : ℕ
+  pub made : Option (Call × Reply)
 
-abbrev pub note : Entry → Bool → Noted
-note e told = record { made = e; told = told }
+abbrev pub note : ℕ → Call → Reply → Noted
+note session call reply = record { session = session; made = Some (call, reply) }
 
--- all that were made
+abbrev pub mark : ℕ → Noted
+mark session = record { session = session; made = None }
+
+abbrev pub entry_of : ℕ → Option (Call × Reply) → List Entry
+entry_of session None = []
+entry_of session (Some m) = entry session m.0 m.1 ∷ []
+
+abbrev pub made_by : Noted → List Entry
+made_by n = entry_of n.session n.made
+
+-- all entries that were made
 abbrev pub made_in : List Noted → List Entry
-made_in notes = map (λ n. n.made) notes
+made_in notes = flat_map made_by notes
 
-abbrev pub told_if : Bool → Entry → List Entry
-told_if told e = if told then e ∷ [] else []
+abbrev pub marks : Option (Call × Reply) → Bool
+marks None = true
+marks (Some m) = false
 
--- those that could be told
+abbrev pub has_mark : List Noted → Bool
+has_mark [] = false
+has_mark (n ∷ ns) = marks n.made || has_mark ns
+
+-- those that were made before the last mark
 abbrev pub told_in : List Noted → List Entry
-told_in notes = flat_map (λ n. told_if n.told n.made) notes
+told_in [] = []
+told_in (n ∷ ns) = if has_mark (n ∷ ns) then made_by n ++ told_in ns else []
 
 -- what is noted of a call
 abbrev pub noted : ℕ → Call → Result Reply Unrecorded → List Noted
-noted session call (Ok reply) =
-    if is_logged reply then note (entry session call reply) true ∷ [] else []
-noted session call (Err (Now reply)) = note (entry session call reply) false ∷ []
-noted session call (Err Before) = []
+noted session call (Ok reply) = if is_logged reply then note session call reply ∷ [] else []
+noted session call (Err lost) = []
 
--- the entry of a call whose reply could be told, where the history has such
-abbrev pub told_by : ℕ → Call → Result Reply Unrecorded → List Entry
-told_by session call (Ok reply) = told_if (is_logged reply) (entry session call reply)
-told_by session call (Err lost) = []
+abbrev pub entry_if : Bool → Entry → List Entry
+entry_if made e = if made then e ∷ [] else []
 
--- one that is lost where the history isn't whole
-abbrev pub lost : Bool → ℕ
-lost whole = if whole then 0 else 1
-
--- those that were told are all entries; where the history isn't whole, all but the last one
-abbrev pub AreAllBut : Bool → List Entry → List Entry → Type 0
-AreAllBut whole told all =
-    (told ≡ take (length told) all) × (length all ≡ length told + lost whole)
+-- the entry of a call, where the history has such
+abbrev pub asked_by : ℕ → Call → Result Reply Unrecorded → List Entry
+asked_by session call (Ok reply) = entry_if (is_logged reply) (entry session call reply)
+asked_by session call (Err lost) = []

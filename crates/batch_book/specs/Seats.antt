@@ -1,5 +1,5 @@
 -- The seats of an exchange, and their lists.
-use Rattle.std.specs.Prelude.{◌≡◌, ℕ, ◌≤◌, max, ◌||◌, Bool, List, ◌++◌, length, sum_by, Option, Some, Result, is_err}
+use Rattle.std.specs.Prelude.{◌≡◌, ℕ, ◌≤◌, max, ◌||◌, Bool, true, List, ◌++◌, length, sum_by, Option, Some, Result, Ok, Err, is_err}
 use Rattle.atomic_table.specs.Seated.{TableId}
 use Rattle.progress_word.specs.Watchers.{WatcherView}
 use Rattle.own_lists.specs.Lists.{own_of}
@@ -7,25 +7,28 @@ use Rattle.batch_book.specs.declared.call.Call.{Call}
 use Rattle.batch_book.specs.declared.entry.Entry.{Entry}
 use Rattle.batch_book.specs.declared.reply.Reply.{Reply}
 use Rattle.batch_book.specs.declared.unrecorded.Unrecorded.{Unrecorded}
-use Rattle.batch_book.specs.Recording.{told_by, value_made}
+use Rattle.batch_book.specs.History.{Starts}
+use Rattle.batch_book.specs.Recording.{asked_by, value_made}
 
--- What contracts see of a seat: the word of its exchange, its session, the list of what could be
--- told to it, the greatest value that it saw of the word, its parts, and whether the record of its
--- calls is broken, so that a reply was lost
+-- What contracts see of a seat: the word of its exchange, its session, the list of what it asked,
+-- and of that what could be told to it, the greatest value that it saw of the word, its parts, and
+-- whether the record of its calls is broken, so that a reply was lost
 pub record SeatState : Type 0 where
   pub exchange : Option TableId
   pub session : ℕ
+  pub asked : List Entry
   pub log : List Entry
   pub seen : ℕ
   pub parts : ℕ
   pub broken : Bool
 
 -- a seat with this watcher on the word of its exchange
-abbrev pub open_seat : WatcherView → ℕ → List Entry → ℕ → Bool → SeatState
-open_seat o session log parts broken =
+abbrev pub open_seat : WatcherView → ℕ → (asked log : List Entry) → ℕ → Bool → SeatState
+open_seat o session asked log parts broken =
     record {
       exchange = Some o.word;
       session = session;
+      asked = asked;
       log = log;
       seen = o.seen;
       parts = parts;
@@ -38,33 +41,43 @@ pub record IsSameSeat (old new : SeatState) : Type 0 where
   pub session : new.session ≡ old.session
   pub parts : new.parts ≡ old.parts
 
--- What a call leaves of a seat. Its list has the entry behind it, where the reply can be told. The
--- seat has seen that the word is no less than the reply's value, and nothing new where that is 0.
--- Where the reply is lost the record is broken, and it stays so.
+-- What a call leaves of a seat. It has asked this too, where it was made. No less could be told to
+-- it than before. The seat has seen that the word is no less than the reply's value, and nothing new
+-- where that is 0. Where the call wasn't made the record is broken, and it stays so.
 pub record IsAsked (old : SeatState) (call : Call) (made : Result Reply Unrecorded)
     (new : SeatState) : Type 0 where
   pub seat : IsSameSeat old new
-  pub log : new.log ≡ old.log ++ told_by old.session call made
+  pub asked : new.asked ≡ old.asked ++ asked_by old.session call made
+  pub log : Starts old.log new.log
   pub later : old.seen ≤ new.seen
   pub seen : value_made made ≤ new.seen
   pub quiet : value_made made ≡ 0 → new.seen ≡ old.seen
   pub broken : new.broken ≡ is_err made || old.broken
 
+-- all that the seat has asked could be told to it; or the record is broken
+abbrev pub IsSettled : SeatState → Result (Unit {0}) Unrecorded → SeatState → Type 0
+IsSettled old (Ok done) new = new ≡ record old { log = old.asked }
+IsSettled old (Err lost) new = new ≡ record old { broken = true }
+
 -- the parts of these seats together
 abbrev pub parts_of : List SeatState → ℕ
 parts_of seats = sum_by (λ s. s.parts) seats
 
--- the entries of their lists together
+-- the entries that they asked together
 abbrev pub entries_of : List SeatState → ℕ
-entries_of seats = sum_by (λ s. length s.log) seats
+entries_of seats = sum_by (λ s. length s.asked) seats
 
 -- the entries of a session
 abbrev pub own : ℕ → List Entry → List Entry
 own session history = own_of (λ e. e.session) session history
 
--- the seat's list is the history filtered to its session
-abbrev pub LogAgrees : List Entry → SeatState → Type 0
-LogAgrees history seat = seat.log ≡ own seat.session history
+-- what the seat asked is what was made, filtered to its session
+abbrev pub AskedAgrees : List Entry → SeatState → Type 0
+AskedAgrees made seat = seat.asked ≡ own seat.session made
+
+-- what could be told to the seat are the first of its session's entries that stand where they belong
+abbrev pub IsRecorded : List Entry → SeatState → Type 0
+IsRecorded standing seat = Starts seat.log (own seat.session standing)
 
 -- a watcher from which the word was raised to a value, or needn't be
 pub record Reaches (old : WatcherView) (value : ℕ) (new : WatcherView) : Type 0 where

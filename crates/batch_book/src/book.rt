@@ -7,9 +7,9 @@ ghost use Rattle.setting_runner.specs.Runs.{TellsOutcome};
 ghost use Rattle.batch_book.specs.Holdings.{batch_in};
 ghost use Rattle.batch_book.specs.Machine.{opened, batch_of};
 ghost use Rattle.batch_book.specs.Running.{plan_to_run};
-ghost use Rattle.batch_book.specs.Replies.{is_logged, outcome_of};
+ghost use Rattle.batch_book.specs.Replies.{is_logged, outcome_of, outcome_in};
 ghost use Rattle.batch_book.specs.History.{new_account, IsReplay, IsLegal, IsFull, IsGrown, IsSound, IsKeptBook, account, has_book_room};
-ghost use Rattle.batch_book.specs.Recording.{Applies, outcome_made, outcome_entered};
+ghost use Rattle.batch_book.specs.Recording.{Applies, Flushes, IsAnswered};
 ghost use Rattle.batch_book.specs.Values.{greatest};
 
 use crate::call::Call;
@@ -63,8 +63,9 @@ impl BareBook {
 }
 
 /// The batches that sessions have submitted, the rack that these are run on, and the history of
-/// what was asked and answered. Contracts see the words that it was opened with, the history, the
-/// machine that this has led to, step by step, and whether each entry stands where it belongs.
+/// what was asked and answered. Contracts see the words that it was opened with, the history, its
+/// first entries, which stand where they belong, the machine that this has led to, step by step, and
+/// whether the others can still be put there.
 pub struct Book<H: History = Kept> {
     holdings: Holdings,
     opening: Rack,
@@ -92,10 +93,12 @@ impl<H: History> Model for Book<H> {
 
     ghost Value = { Account };
 
-    ghost view = { λ b. account b.opening (H.pushed b.history) b.holdings (H.whole b.history) };
+    ghost view = { λ b. account b.opening (H.pushed b.history) (H.stands b.history) b.holdings
+        (H.whole b.history) };
 
     ghost invariant = { λ b. IsKeptBook H.limited H.loses
-        (account b.opening (H.pushed b.history) b.holdings (H.whole b.history))
+        (account b.opening (H.pushed b.history) (H.stands b.history) b.holdings
+        (H.whole b.history))
         × (b.furthest ≡ greatest (H.pushed b.history)) };
 }
 
@@ -130,6 +133,7 @@ impl<H: History> Book<H> {
     /// The same, with this history, which is empty.
     pub fn with(alloc: Global, rack: Rack, history: H) -> Result<Book<H>, (Rack, H, AllocError)>
         requires empty { H.pushed history ≡ [] }
+        requires none { H.stands history ≡ [] }
         requires whole { H.whole history ≡ true }
         ensures ok { IfOk result (λ book. book ≡ new_account rack) }
         ensures unchanged { IfErr result (λ back. (back.0 ≡ rack) × (back.1 ≡ history)) }
@@ -153,6 +157,7 @@ impl<H: History> Book<H> {
     /// it lead, and the batches and memories are where all of them lead.
     pub fn log(&self) -> &H
         ensures pushed { H.pushed result.now ≡ self.now.history }
+        ensures stands { H.stands result.now ≡ self.now.stands }
         ensures whole { H.whole result.now ≡ self.now.whole }
         ensures replay { IsReplay (opened self.now.opening) self.now.history self.now.machine }
     {
@@ -162,9 +167,9 @@ impl<H: History> Book<H> {
     /// The book without its history, and that.
     pub fn part(self) -> (BareBook, H)
         ensures kept { IsKeptBook H.limited H.loses (account result.0.opening (H.pushed result.1)
-            result.0.machine (H.whole result.1)) }
-        ensures same { account result.0.opening (H.pushed result.1) result.0.machine
-            (H.whole result.1) ≡ self }
+            (H.stands result.1) result.0.machine (H.whole result.1)) }
+        ensures same { account result.0.opening (H.pushed result.1) (H.stands result.1)
+            result.0.machine (H.whole result.1) ≡ self }
         ensures furthest { result.0.furthest ≡ greatest (H.pushed result.1) }
     {
         let Book {
@@ -186,10 +191,10 @@ impl<H: History> Book<H> {
     /// The book that goes on with this history.
     pub fn go_on(bare: BareBook, history: H) -> Book<H>
         requires kept { IsKeptBook H.limited H.loses (account bare.opening (H.pushed history)
-            bare.machine (H.whole history)) }
+            (H.stands history) bare.machine (H.whole history)) }
         requires furthest { bare.furthest ≡ greatest (H.pushed history) }
-        ensures { result ≡ account bare.opening (H.pushed history) bare.machine
-            (H.whole history) }
+        ensures { result ≡ account bare.opening (H.pushed history) (H.stands history)
+            bare.machine (H.whole history) }
     {
         let BareBook {
             holdings,
@@ -251,12 +256,12 @@ impl<H: History> Book<H> {
         self.history.has_room() && self.holdings.has_numbers()
     }
 
-    /// One call of a session, and its reply, where that can be told: then the history has both, but
-    /// where there was no room for them, and where there was no memory: then nothing has changed. A
-    /// plan of a call that is refused is dropped.
+    /// One call of a session, and its reply: the history has both then, but where there was no room
+    /// for them, and where there was no memory: then nothing has changed. A plan of a call that is
+    /// refused is dropped.
     ///
-    /// Where the entry couldn't be put where it belongs the reply is lost, and no later call is
-    /// made.
+    /// The reply can be told once the entry stands where it belongs, which [`flush`](Book::flush)
+    /// sees to. Where one has failed before, no call is made.
     ///
     /// Where there is no room no memory is asked for. Else all of it is taken before anything
     /// changes: for the entry, for the copy of a batch that is fetched, and for the run, if there
@@ -281,7 +286,7 @@ impl<H: History> Book<H> {
         notice: &mut N,
     ) -> Result<Reply, Unrecorded>
 
-        // One step of the machine, and one entry more; told or lost.
+        // One step of the machine, and one entry more.
         ensures step { Applies self.old session call result self.new }
         ensures opening { self.new.opening ≡ self.old.opening }
         ensures full { IfOk result (λ reply.
@@ -291,17 +296,17 @@ impl<H: History> Book<H> {
         // What a run leaves of the plant, and what the notice is told. Nothing else does anything
         // to them.
         ensures plant { LeavesPlant P.ConfigPort W.is_sure self.old.machine.store.shape
-            (plan_to_run self.old.machine session call) (outcome_made result) plant.old plant.new }
-        ensures told { TellsOutcome N.hears notice.old (outcome_made result) notice.new }
+            (plan_to_run self.old.machine session call) (outcome_in result) plant.old plant.new }
+        ensures told { TellsOutcome N.hears notice.old (outcome_in result) notice.new }
     {
         if !self.history.is_whole() {
-            return Err(Unrecorded::Before);
+            return Err(Unrecorded);
         }
         if !self.has_room() {
             return Ok(Reply::Refused(BookRefusal::HistoryFull));
         }
         match self.enter(rt, session, call, plant, notice) {
-            Ok(made) => made,
+            Ok(reply) => Ok(reply),
             Err(_) => Ok(Reply::Refused(BookRefusal::NoMemory)),
         }
     }
@@ -315,20 +320,18 @@ impl<H: History> Book<H> {
         call: Call,
         plant: &mut Plant<P, W, G>,
         notice: &mut N,
-    ) -> Result<Result<Reply, Unrecorded>, AllocError>
+    ) -> Result<Reply, AllocError>
         requires whole { self.old.whole ≡ true }
         requires room { has_book_room H.limited self.old ≡ true }
 
-        ensures step { IfOk result (λ made. Applies self.old session call made self.new) }
-        ensures logged { IfOk result (λ made. IfOk made (λ reply. is_logged reply ≡ true)) }
-        ensures loses { IfOk result (λ made. OnErr made (H.loses ≡ true)) }
+        ensures step { IfOk result (λ reply. IsAnswered self.old session call reply self.new) }
+        ensures logged { IfOk result (λ reply. is_logged reply ≡ true) }
         ensures opening { self.new.opening ≡ self.old.opening }
         ensures unchanged { OnErr result (self.new ≡ self.old) }
 
         ensures plant { LeavesPlant P.ConfigPort W.is_sure self.old.machine.store.shape
-            (plan_to_run self.old.machine session call) (outcome_entered result)
-            plant.old plant.new }
-        ensures told { TellsOutcome N.hears notice.old (outcome_entered result) notice.new }
+            (plan_to_run self.old.machine session call) (outcome_in result) plant.old plant.new }
+        ensures told { TellsOutcome N.hears notice.old (outcome_in result) notice.new }
     {
         // Its contract has the bounds of the shape, by which the machine is sound.
         let _shape = self.holdings.rack().shape();
@@ -341,10 +344,25 @@ impl<H: History> Book<H> {
             call: LoggedCall::new(asked, told),
             reply: LoggedReply::of(&reply),
         };
-        match self.history.push(entry) {
-            Ok(()) => Ok(Ok(reply)),
-            Err(_) => Ok(Err(Unrecorded::Now(reply))),
-        }
+        self.history.push(entry);
+        Ok(reply)
+    }
+
+    /// Whether entries may wait.
+    pub(crate) fn may_wait(&self) -> bool
+        ensures all { result ≡ false → self.now.stands ≡ self.now.history }
+        ensures never { H.loses ≡ false → result ≡ false }
+    {
+        self.history.may_wait()
+    }
+
+    /// Puts all entries that wait where they belong. Where that fails, or did before, those that
+    /// waited are lost, and no later call is made. It takes the time of the history's flush.
+    pub fn flush(&mut self) -> Result<(), Unrecorded>
+        ensures flushed { Flushes self.old result self.new }
+        ensures loses { OnErr result (H.loses ≡ true) }
+    {
+        self.history.flush()
     }
 
     /// The same as [`try_apply`](Book::try_apply) for a history that loses no entry, as [`Kept`]

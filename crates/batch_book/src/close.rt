@@ -2,7 +2,7 @@
 
 ghost use Rattle.std.specs.Prelude.{◌≡◌, ◌≤◌, max, true, false, length, All, Some, IsSome};
 ghost use Rattle.batch_book.specs.Recording.{made_in, told_in};
-ghost use Rattle.batch_book.specs.Seats.{parts_of, entries_of, LogAgrees};
+ghost use Rattle.batch_book.specs.Seats.{parts_of, entries_of, AskedAgrees, IsRecorded};
 ghost use Rattle.batch_book.specs.Values.{greatest};
 
 use crate::access::ExchangeAccess;
@@ -40,9 +40,9 @@ pub struct SeatMissing<L: ExchangeName, P: ConfigPort, W: WireMaker, G, H: Histo
 impl<L: ExchangeName, P: ConfigPort, W: WireMaker, G, H: History> Shared<L, P, W, G, H> {
     ghost use Rattle.batch_book.specs.Closing.{Closes};
 
-    /// Closes the exchange, once all of its seats are given back, in any order. Each seat's list is
-    /// then the history filtered to its session, without a last entry that was lost, and without
-    /// those that the book had before. It takes time by the seats, and no memory.
+    /// Closes the exchange, once all of its seats are given back, in any order. What each seat asked
+    /// is then the history filtered to its session, without the entries that the book had before.
+    /// What could be told to it stands where it belongs. It takes time by the seats, and no memory.
     pub fn close(
         self,
         seats: Vec<Seat<L>>,
@@ -71,28 +71,32 @@ impl<L: ExchangeName, P: ConfigPort, W: WireMaker, G, H: History> Shared<L, P, W
     }
 }
 
-// What a seat has of its exchange, without its list, which is what was told to its session.
+// What a seat has of its exchange, without its list, which is what its session made, and of which
+// the first could be told.
 fn compared<L: ExchangeName>(keeper: &mut Keeper<NotedEntry, L>, seat: Seat<L>) -> ExchangeAccess<L>
     requires { IsSome seat.exchange }
     ensures keeper { keeper.new.history ≡ keeper.old.history }
-    ensures agrees { LogAgrees (told_in keeper.old.history) seat }
+    ensures asked { AskedAgrees (made_in keeper.old.history) seat }
+    ensures told { IsRecorded (told_in keeper.old.history) seat }
     ensures word { Some result.watcher.word ≡ seat.exchange }
     ensures seen { result.watcher.seen ≡ seat.seen }
     ensures raised { result.watcher.raised
         ≤ max (greatest L.earlier) (greatest (made_in keeper.old.history)) }
     ensures parts { result.parts ≡ seat.parts }
-    ensures amount { result.share.amount ≡ length seat.log }
+    ensures amount { result.share.amount ≡ length seat.asked }
 {
     let Place {
         access,
         own,
+        waits: _,
         broken: _,
     } = seat.into_place();
     keeper.compare(own);
     access
 }
 
-// One access that has all that the seats had, whose lists are what was told to their sessions.
+// One access that has all that the seats had, whose lists are what their sessions made, and of which
+// the first could be told.
 fn gather<L: ExchangeName>(
     word: &ProgressWord,
     keeper: &mut Keeper<NotedEntry, L>,
@@ -101,7 +105,8 @@ fn gather<L: ExchangeName>(
     requires parts { L.parts ≡ ALL_PARTS }
     requires all { ALL_PARTS ≤ parts_of seats.items }
     requires seats { All (λ s. s.exchange ≡ Some word.now) seats.items }
-    ensures agree { All (LogAgrees (told_in keeper.old.history)) seats.items }
+    ensures asked { All (AskedAgrees (made_in keeper.old.history)) seats.items }
+    ensures told { All (IsRecorded (told_in keeper.old.history)) seats.items }
     ensures word { result.watcher.word ≡ word.now }
     ensures parts { result.parts ≡ ALL_PARTS }
     ensures total { parts_of seats.items ≡ ALL_PARTS }

@@ -1,6 +1,6 @@
 //! Where the entries of a book go.
 
-ghost use Rattle.std.specs.Prelude.{◌≡◌, ◌++◌, ◌∷◌, [], true, false, ℕ, Bool, List, length, OnOk, OnErr};
+ghost use Rattle.std.specs.Prelude.{◌≡◌, ◌⊎◌, ◌++◌, ◌∷◌, [], true, false, ℕ, Bool, List, length, OnOk, OnErr};
 ghost use Rattle.batch_book.specs.declared.call.Call.{Call};
 ghost use Rattle.batch_book.specs.declared.entry.Entry.{Entry};
 ghost use Rattle.batch_book.specs.Answering.{IsReplyTo};
@@ -8,54 +8,73 @@ ghost use Rattle.batch_book.specs.History.{has_room};
 
 use crate::call::Call;
 use crate::entry::Entry;
+use crate::unrecorded::Unrecorded;
 use std::alloc::AllocError;
 
-/// An entry couldn't be put where it belongs.
-#[derive(Clone, Copy, Debug, PartialEq, Eq)]
-pub struct Unwritten;
-
 /// Where the entries of a book go. An entry is drafted before its call is made, so that want of
-/// memory changes nothing, and is pushed with the reply.
+/// memory changes nothing, and is pushed with the reply. It may wait until a flush puts it where it
+/// belongs, with all others that wait.
 ///
-/// A history is whole as long as each entry that was pushed stands where it belongs. Where the push
-/// of one fails, it is whole no more: that entry, the last one, may be missing there or be cut.
+/// A history is whole as long as no flush has failed. Once one has, the entries that waited may be
+/// missing there, and one may be cut; nothing else is put there any more.
 pub trait History {
     /// The entries that were pushed, in order.
     ghost pushed: { Self → List Entry };
 
-    /// Whether each of them stands where it belongs.
+    /// The first of them, which stand where they belong.
+    ghost stands: { Self → List Entry };
+
+    /// Whether no flush has failed.
     ghost whole: { Self → Bool };
 
     /// Whether their number is limited, to `MAX_ENTRIES`.
     ghost limited: { Bool };
 
-    /// Whether a push may fail.
+    /// Whether a flush may fail.
     ghost loses: { Bool };
 
     /// The entry of this call of a session was drafted.
     ghost drafted: { Self → ℕ → Call → Type 0 };
 
-    /// Whether each entry stands where it belongs.
+    /// Whether no flush has failed.
     fn is_whole(&self) -> bool
         ensures { result ≡ whole self.now };
+
+    /// Whether a history of this kind lets entries wait. One that loses none doesn't.
+    fn groups() -> bool
+        ensures { loses ≡ false → result ≡ false };
+
+    /// Whether entries may wait.
+    fn may_wait(&self) -> bool
+        ensures all { result ≡ false → stands self.now ≡ pushed self.now }
+        ensures never { loses ≡ false → result ≡ false };
 
     /// Whether there is room for one more entry.
     fn has_room(&self) -> bool
         ensures { result ≡ has_room limited (length (pushed self.now)) };
 
-    /// Drafts the entry of a call of a session. Nothing is pushed.
+    /// Drafts the entry of a call of a session, and takes the room for its reply. Nothing is pushed.
     fn draft(&mut self, session: usize, call: &Call) -> Result<(), AllocError>
         ensures pushed { pushed self.new ≡ pushed self.old }
+        ensures stands { stands self.new ≡ stands self.old }
         ensures whole { whole self.new ≡ whole self.old }
         ensures drafted { OnOk result (drafted self.new session call.now) };
 
-    /// Pushes the entry that was drafted.
-    fn push(&mut self, entry: Entry) -> Result<(), Unwritten>
-        requires whole { whole self.old ≡ true }
+    /// Pushes the entry that was drafted. It waits, or stands where it belongs at once.
+    fn push(&mut self, entry: Entry)
         requires drafted { drafted self.old entry.session entry.call }
         requires answers { IsReplyTo entry.call entry.reply }
         ensures pushed { pushed self.new ≡ pushed self.old ++ entry ∷ [] }
-        ensures ok { OnOk result (whole self.new ≡ true) }
-        ensures err { OnErr result (whole self.new ≡ false) }
+        ensures stands { (stands self.new ≡ stands self.old) ⊎ (stands self.new ≡ pushed self.new) }
+        ensures whole { whole self.new ≡ whole self.old };
+
+    /// Puts all entries that wait where they belong.
+    fn flush(&mut self) -> Result<(), Unrecorded>
+        ensures pushed { pushed self.new ≡ pushed self.old }
+        ensures was { OnOk result (whole self.old ≡ true) }
+        ensures all { OnOk result (stands self.new ≡ pushed self.old) }
+        ensures whole { OnOk result (whole self.new ≡ true) }
+        ensures none { OnErr result (stands self.new ≡ stands self.old) }
+        ensures lost { OnErr result (whole self.new ≡ false) }
         ensures loses { OnErr result (loses ≡ true) };
 }

@@ -4,8 +4,9 @@ ghost use Rattle.std.specs.Prelude.{◌≡◌, ◌<◌, [], true, false, vec_len
 
 use crate::call::Call;
 use crate::entry::Entry;
-use crate::history::{History, Unwritten};
+use crate::history::History;
 use crate::limits::MAX_ENTRIES;
+use crate::unrecorded::Unrecorded;
 use std::alloc::{AllocError, Global};
 
 /// The entries in memory, at most [`MAX_ENTRIES`] of them.
@@ -34,6 +35,8 @@ impl Kept {
 impl History for Kept {
     ghost pushed = { λ k. k.entries.items };
 
+    ghost stands = { λ k. k.entries.items };
+
     ghost whole = { λ _. true };
 
     ghost limited = { true };
@@ -46,6 +49,14 @@ impl History for Kept {
         true
     }
 
+    fn groups() -> bool {
+        false
+    }
+
+    fn may_wait(&self) -> bool {
+        false
+    }
+
     fn has_room(&self) -> bool {
         self.entries.len() < MAX_ENTRIES
     }
@@ -54,8 +65,11 @@ impl History for Kept {
         self.entries.reserve(1)
     }
 
-    fn push(&mut self, entry: Entry) -> Result<(), Unwritten> {
+    fn push(&mut self, entry: Entry) {
         self.entries.push(entry).unwrap();
+    }
+
+    fn flush(&mut self) -> Result<(), Unrecorded> {
         Ok(())
     }
 }

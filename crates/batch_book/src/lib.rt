@@ -8,15 +8,16 @@
 //! where the history leads. A history leads to one machine (`laws::replays`).
 //!
 //! The entries go where the book's [`History`] puts them: [`Kept`] has them in memory, [`Silent`]
-//! is known to contracts alone, and others may write them. A reply whose entry couldn't be put
-//! there is [`Unrecorded`]: it is told to nobody, and no later call is made
-//! ([`Book::try_apply`], `Applies` of `specs/Recording.antt`).
+//! is known to contracts alone, and others may write them, many at a time: entries may wait until
+//! [`Book::flush`] puts them there. Where that fails they are [`Unrecorded`], and no later call is
+//! made ([`Book::try_apply`], `Applies` and `Flushes` of `specs/Recording.antt`).
 //!
 //! A [`Shared`] is one exchange for many sessions: a book behind a lock, and a word that says how
 //! far the runs have come, which is read without the lock. Each session calls from its own
-//! [`Seat`]. Contracts see the list of what it asked and could be told. Where all seats are given
-//! back and the exchange closes, each list is the history filtered to its session, but for a last
-//! entry that was lost (`AreClosed` of `specs/Closing.antt`).
+//! [`Seat`]. Contracts see the list of what it asked, and of that what could be told: the entries
+//! that stood where they belong as [`Shared::settle`] was called. Where all seats are given back and
+//! the exchange closes, what each asked is the history filtered to its session, and what could be
+//! told to it stands where it belongs (`AreClosed` of `specs/Closing.antt`).
 #![tactic(auto)]
 
 mod access;
@@ -52,7 +53,7 @@ pub use book::{BareBook, Book};
 pub use call::Call;
 pub use close::{Closed, SeatMissing};
 pub use entry::Entry;
-pub use history::{History, Unwritten};
+pub use history::History;
 pub use kept::{BatchState, KeptBatch, Stage};
 pub use kept_history::Kept;
 pub use limits::{MAX_BATCHES, MAX_ENTRIES, MAX_NUMBER, RUN_STEP};

@@ -1,11 +1,11 @@
 //! What lies under the lock of an exchange.
 
-ghost use Rattle.std.specs.Prelude.{◌≡◌, ◌+◌, ◌++◌, ◌≤◌, [], ◌∷◌, ◌||◌, length, true, false, Some, IfOk, OnErr, is_err};
+ghost use Rattle.std.specs.Prelude.{◌≡◌, ◌+◌, ◌++◌, ◌≤◌, ◌⊎◌, [], ◌∷◌, ◌||◌, length, true, false, Some, IsSome, IfOk, OnErr, is_err};
 ghost use Rattle.batch_book.specs.Answering.{IsReplyTo};
-ghost use Rattle.batch_book.specs.History.{AreUnstopped};
-ghost use Rattle.batch_book.specs.Recording.{Applies, AreAllBut, made_in, told_in};
+ghost use Rattle.batch_book.specs.History.{AreUnstopped, Starts};
+ghost use Rattle.batch_book.specs.Recording.{Applies, Flushes, made_in, mark, told_in};
 ghost use Rattle.batch_book.specs.Replies.{NeverFail};
-ghost use Rattle.batch_book.specs.Seats.{IsAsked, open_seat};
+ghost use Rattle.batch_book.specs.Seats.{IsAsked, IsSettled, open_seat};
 
 use crate::access::ExchangeAccess;
 use crate::book::Book;
@@ -27,19 +27,20 @@ use std::snapshot::Snapshot;
 use std::sync::ledger;
 use std::thread::Threads;
 
-/// The book and the plant, the ledger's total, which is the number of entries that were told, and
+/// The book and the plant, the ledger's total, which is the number of entries that were made, and
 /// the keeper of the sessions' lists, which knows what the book's history has beyond the entries
-/// that the exchange's name says. The book was opened with the words that this says. Where port and
-/// wires never fail, no run of the book has stopped.
+/// that the exchange's name says. What could be told of these stands where it belongs. The book was
+/// opened with the words that the name says. Where port and wires never fail, no run of the book has
+/// stopped.
 #[derive(Drop)]
 pub struct Locked<L: ExchangeName, P: ConfigPort, W: WireMaker, G, H: History> {
     pub book: Book<H>,
     pub plant: Plant<P, W, G>,
     pub entries: ledger::Book<L>,
     pub keeper: Keeper<NotedEntry, L>,
-    pub ghost counted: { length (told_in keeper.history) ≡ entries.total },
+    pub ghost counted: { length (made_in keeper.history) ≡ entries.total },
     pub ghost kept: { book.history ≡ L.earlier ++ made_in keeper.history },
-    pub ghost all_told: { AreAllBut book.whole (told_in keeper.history) (made_in keeper.history) },
+    pub ghost told: { Starts (L.earlier ++ told_in keeper.history) book.stands },
     pub ghost opened: { book.opening ≡ L.opening },
     pub ghost unstopped: { NeverFail P.ConfigPort W.is_sure → AreUnstopped book.history },
 }
@@ -51,8 +52,8 @@ impl<L: ExchangeName, P: ConfigPort, W: WireMaker + Sync, G: Gate + Sync, H: His
     G,
     H,
 > {
-    /// One call of a seat. Where the reply can be told, the history and the seat's list get the
-    /// entry, or neither does.
+    /// One call of a seat. The history and what the seat asked get the entry, or neither does. Where
+    /// no entry waits the reply can be told.
     pub fn call<R: Threads + Sync>(
         &mut self,
         rt: &R,
@@ -64,15 +65,70 @@ impl<L: ExchangeName, P: ConfigPort, W: WireMaker + Sync, G: Gate + Sync, H: His
         ensures reply { IfOk result (IsReplyTo call) }
         ensures step { Applies self.old.book seat.old.session call result self.new.book }
         ensures asked { IsAsked seat.old call result seat.new }
+        ensures told { H.loses ≡ false → seat.new.log ≡ seat.new.asked }
         ensures loses { OnErr result (H.loses ≡ true) }
     {
         let session = seat.session;
         let Some(place) = seat.place.take() else {
             unreachable!()
         };
-        let (made, place) = self.ask(rt, word, session, place, call);
+        let (made, place) = self.make(rt, word, session, place, call);
         seat.place = Some(place);
         made
+    }
+
+    /// Puts all entries that wait where they belong. All that the seat has asked can be told then.
+    pub fn settle(&mut self, seat: &mut Seat<L>) -> Result<(), Unrecorded>
+        requires { IsSome seat.old.exchange }
+        ensures flushed { Flushes self.old.book result self.new.book }
+        ensures settled { IsSettled seat.old result seat.new }
+        ensures loses { OnErr result (H.loses ≡ true) }
+    {
+        let session = seat.session;
+        let Some(place) = seat.place.take() else {
+            unreachable!()
+        };
+        match self.book.flush() {
+            Ok(()) => {
+                seat.place = Some(mark(&mut self.keeper, session, place));
+                Ok(())
+            }
+            Err(lost) => {
+                seat.place = Some(place.break_off());
+                Err(lost)
+            }
+        }
+    }
+
+    // One call of the book, whose reply can be told at once where no entry waits.
+    fn make<R: Threads + Sync>(
+        &mut self,
+        rt: &R,
+        word: &ProgressWord,
+        session: usize,
+        place: Place<L>,
+        call: Call,
+    ) -> (Result<Reply, Unrecorded>, Place<L>)
+        requires word { place.access.watcher.word ≡ word.now }
+        requires session { place.own.session ≡ session }
+        ensures reply { IfOk result.0 (IsReplyTo call) }
+        ensures step { Applies self.old.book session call result.0 self.new.book }
+        ensures asked { IsAsked
+            (open_seat place.access.watcher session (made_in place.own.list)
+            (told_in place.own.list) place.access.parts place.broken)
+            call result.0
+            (open_seat result.1.access.watcher session (made_in result.1.own.list)
+            (told_in result.1.own.list) result.1.access.parts result.1.broken) }
+        ensures told { H.loses ≡ false → told_in result.1.own.list ≡ made_in result.1.own.list }
+        ensures session { result.1.own.session ≡ session }
+        ensures loses { OnErr result.0 (H.loses ≡ true) }
+    {
+        let (made, place) = self.ask(rt, word, session, place, call);
+        if self.book.may_wait() {
+            return (made, place);
+        }
+        let place = mark(&mut self.keeper, session, place);
+        (made, place)
     }
 
     // One call of the book, which raises the word from the access's watcher, and is noted.
@@ -89,17 +145,18 @@ impl<L: ExchangeName, P: ConfigPort, W: WireMaker + Sync, G: Gate + Sync, H: His
         ensures reply { IfOk result.0 (IsReplyTo call) }
         ensures step { Applies self.old.book session call result.0 self.new.book }
         ensures asked { IsAsked
-            (open_seat place.access.watcher session (told_in place.own.list) place.access.parts
-            place.broken)
+            (open_seat place.access.watcher session (made_in place.own.list)
+            (told_in place.own.list) place.access.parts place.broken)
             call result.0
-            (open_seat result.1.access.watcher session (told_in result.1.own.list)
-            result.1.access.parts result.1.broken) }
+            (open_seat result.1.access.watcher session (made_in result.1.own.list)
+            (told_in result.1.own.list) result.1.access.parts result.1.broken) }
         ensures session { result.1.own.session ≡ session }
         ensures loses { OnErr result.0 (H.loses ≡ true) }
     {
         let Place {
             access,
             own,
+            waits: _,
             broken,
         } = place;
         let ExchangeAccess {
@@ -141,9 +198,39 @@ impl<L: ExchangeName, P: ConfigPort, W: WireMaker + Sync, G: Gate + Sync, H: His
             Place {
                 access,
                 own,
+                waits: true,
                 broken,
             },
         )
+    }
+}
+
+// Notes that all that a session has asked can be told.
+fn mark<L: ExchangeName>(
+    keeper: &mut Keeper<NotedEntry, L>,
+    session: usize,
+    place: Place<L>,
+) -> Place<L>
+    requires session { place.own.session ≡ session }
+    ensures history { keeper.new.history ≡ keeper.old.history ++ mark session ∷ [] }
+    ensures access { result.access ≡ place.access }
+    ensures made { made_in result.own.list ≡ made_in place.own.list }
+    ensures told { told_in result.own.list ≡ made_in place.own.list }
+    ensures session { result.own.session ≡ session }
+    ensures broken { result.broken ≡ place.broken }
+{
+    let Place {
+        access,
+        own,
+        waits: _,
+        broken,
+    } = place;
+    let own = keeper.add(own, &NotedEntry::mark(session));
+    Place {
+        access,
+        own,
+        waits: false,
+        broken,
     }
 }
 

@@ -1,8 +1,7 @@
 //! What is noted of calls, for the lists of sessions.
 
 ghost use Rattle.std.specs.Prelude.{◌≡◌, ◌++◌, ◌+◌, ◌<◌, length};
-ghost use Rattle.batch_book.specs.History.{entry};
-ghost use Rattle.batch_book.specs.Recording.{note, noted, told_in};
+ghost use Rattle.batch_book.specs.Recording.{note, mark, noted, made_in};
 
 use crate::call::Call;
 use crate::naming::ExchangeName;
@@ -14,44 +13,54 @@ use std::snapshot::Snapshot;
 use std::sync::ledger;
 use std::sync::ledger::Share;
 
-/// An entry, and whether its reply could be told. Contracts alone see it; it takes no memory.
+/// A call that a session made, and its reply; or a mark, that all which the session has asked can
+/// be told. Contracts alone see it; it takes no memory.
 #[derive(Drop)]
 pub struct NotedEntry {
     session: Snapshot<usize>,
-    call: Snapshot<Call>,
-    reply: Snapshot<Reply>,
-    told: bool,
+    made: Option<(Snapshot<Call>, Snapshot<Reply>)>,
 }
 
 impl Model for NotedEntry {
-    ghost use Rattle.batch_book.specs.History.{entry};
-    ghost use Rattle.batch_book.specs.Recording.{Noted, note};
+    ghost use Rattle.std.specs.Prelude.{option_map};
+    ghost use Rattle.batch_book.specs.Recording.{Noted};
 
     ghost Value = { Noted };
 
-    ghost view = { λ n. note (entry n.session.value n.call.value n.reply.value) n.told };
+    ghost view = { λ n. record {
+      session = n.session.value;
+      made = option_map (λ m. (m.0.value, m.1.value)) n.made;
+    } };
 }
 
 impl OfSession for NotedEntry {
-    ghost session = { λ n. n.made.session };
+    ghost session = { λ n. n.session };
 }
 
 impl NotedEntry {
-    /// The entry of a call and its reply, which was told or lost.
-    fn of(session: usize, call: Snapshot<Call>, reply: &Reply, told: bool) -> NotedEntry
-        ensures { result ≡ note (entry session call.value reply.now) told }
+    /// A call and its reply.
+    fn of(session: usize, call: Snapshot<Call>, reply: &Reply) -> NotedEntry
+        ensures { result ≡ note session call.value reply.now }
     {
         NotedEntry {
             session: Snapshot::of(&session),
-            call,
-            reply: Snapshot::of(reply),
-            told,
+            made: Some((call, Snapshot::of(reply))),
+        }
+    }
+
+    /// All that the session has asked can be told.
+    pub(crate) fn mark(session: usize) -> NotedEntry
+        ensures { result ≡ mark session }
+    {
+        NotedEntry {
+            session: Snapshot::of(&session),
+            made: None,
         }
     }
 }
 
-/// Notes a call in the history of an exchange, and in the list of its session. The ledger counts it
-/// where its reply can be told.
+/// Notes a call in the history of an exchange, and in the list of its session. The ledger counts
+/// its entry.
 pub(crate) fn note_call<L: ExchangeName>(
     keeper: &mut Keeper<NotedEntry, L>,
     entries: &mut ledger::Book<L>,
@@ -67,9 +76,9 @@ pub(crate) fn note_call<L: ExchangeName>(
     ensures list { result.list ≡ own.list ++ noted session call.value made.now }
     ensures session { result.session ≡ session }
     ensures total { entries.new.total
-        ≡ entries.old.total + length (told_in (noted session call.value made.now)) }
+        ≡ entries.old.total + length (made_in (noted session call.value made.now)) }
     ensures amount { share.new.amount
-        ≡ share.old.amount + length (told_in (noted session call.value made.now)) }
+        ≡ share.old.amount + length (made_in (noted session call.value made.now)) }
     ensures parts { share.new.parts ≡ share.old.parts }
 {
     match made {
@@ -78,11 +87,8 @@ pub(crate) fn note_call<L: ExchangeName>(
                 return own;
             }
             entries.add(share, 1);
-            keeper.add(own, &NotedEntry::of(session, call, reply, true))
+            keeper.add(own, &NotedEntry::of(session, call, reply))
         }
-        Err(Unrecorded::Now(reply)) => {
-            keeper.add(own, &NotedEntry::of(session, call, reply, false))
-        }
-        Err(Unrecorded::Before) => own,
+        Err(_) => own,
     }
 }

@@ -1,6 +1,6 @@
 //! A session's seat at an exchange.
 
-ghost use Rattle.std.specs.Prelude.{◌≡◌, ◌≤◌, max, [], false, length, Some, IsSome};
+ghost use Rattle.std.specs.Prelude.{◌≡◌, ◌≤◌, max, [], true, false, length, Some, IsSome};
 ghost use Rattle.batch_book.specs.Recording.{made_in, told_in};
 ghost use Rattle.progress_word.specs.declared.limits.TheConstants.{ALL_PARTS};
 ghost use Rattle.batch_book.specs.Values.{greatest};
@@ -13,20 +13,44 @@ use own_lists::OwnList;
 use progress_word::ALL_PARTS;
 use std::marker::Model;
 
-/// What a seat has of its exchange: its access, its session's list, and whether a reply to the
-/// session was lost.
+/// What a seat has of its exchange: its access, its session's list, whether it may have asked
+/// something that can't be told yet, and whether the record of its calls is broken.
 #[derive(Drop)]
 pub(crate) struct Place<L: ExchangeName> {
     pub(crate) access: ExchangeAccess<L>,
     pub(crate) own: OwnList<NotedEntry, L>,
+    pub(crate) waits: bool,
     pub(crate) broken: bool,
-    pub(crate) ghost counted: { access.share.amount ≡ length (told_in own.list) },
+    pub(crate) ghost counted: { access.share.amount ≡ length (made_in own.list) },
     pub(crate) ghost highest: { access.watcher.raised
         ≤ max (greatest L.earlier) (greatest (made_in own.list)) },
+    pub(crate) ghost settled: { waits ≡ false → told_in own.list ≡ made_in own.list },
 }
 
-/// The seat of a session at an exchange. Contracts see the list of what the session has asked and
-/// could be told, of which no byte is kept.
+impl<L: ExchangeName> Place<L> {
+    /// The same where the record of its calls is broken.
+    pub(crate) fn break_off(self) -> Place<L>
+        ensures access { result.access ≡ self.access }
+        ensures own { result.own ≡ self.own }
+        ensures broken { result.broken ≡ true }
+    {
+        let Place {
+            access,
+            own,
+            waits,
+            broken: _,
+        } = self;
+        Place {
+            access,
+            own,
+            waits,
+            broken: true,
+        }
+    }
+}
+
+/// The seat of a session at an exchange. Contracts see the list of what the session has asked, and
+/// that of what could be told to it. No byte of them is kept.
 pub struct Seat<L: ExchangeName> {
     pub(crate) session: usize,
     // There, but while a call is made.
@@ -46,7 +70,7 @@ impl<L: ExchangeName> Drop for Seat<L> {
 impl<L: ExchangeName> Model for Seat<L> {
     ghost use Rattle.std.specs.Prelude.{◌≡◌, [], false, IfSome, option_map};
     ghost use Rattle.std.specs.Option.{option_map_or};
-    ghost use Rattle.batch_book.specs.Recording.{told_in};
+    ghost use Rattle.batch_book.specs.Recording.{made_in, told_in};
     ghost use Rattle.batch_book.specs.Seats.{SeatState};
 
     ghost Value = { SeatState };
@@ -54,6 +78,7 @@ impl<L: ExchangeName> Model for Seat<L> {
     ghost view = { λ s. record {
       exchange = option_map (λ p. p.access.watcher.word) s.place;
       session = s.session;
+      asked = option_map_or (λ p. made_in p.own.list) s.place [];
       log = option_map_or (λ p. told_in p.own.list) s.place [];
       seen = option_map_or (λ p. p.access.watcher.seen) s.place 0;
       parts = option_map_or (λ p. p.access.parts) s.place 0;
@@ -74,13 +99,14 @@ impl<L: ExchangeName> Seat<L> {
         requires raised { access.watcher.raised ≤ greatest L.earlier }
         requires session { own.session ≡ session }
         requires list { own.list ≡ [] }
-        ensures { result ≡ open_seat access.watcher session [] access.parts false }
+        ensures { result ≡ open_seat access.watcher session [] [] access.parts false }
     {
         Seat {
             session,
             place: Some(Place {
                 access,
                 own,
+                waits: false,
                 broken: false,
             }),
         }
@@ -104,6 +130,16 @@ impl<L: ExchangeName> Seat<L> {
         }
     }
 
+    /// Whether it may have asked something that can't be told yet.
+    pub fn waits(&self) -> bool
+        ensures { result ≡ false → self.now.log ≡ self.now.asked }
+    {
+        match &self.place {
+            Some(place) => place.waits,
+            None => false,
+        }
+    }
+
     /// What the seat has of its exchange.
     pub(crate) fn into_place(self) -> Place<L>
         requires { IsSome self.exchange }
@@ -111,7 +147,8 @@ impl<L: ExchangeName> Seat<L> {
         ensures seen { result.access.watcher.seen ≡ self.seen }
         ensures parts { result.access.parts ≡ self.parts }
         ensures session { result.own.session ≡ self.session }
-        ensures list { told_in result.own.list ≡ self.log }
+        ensures made { made_in result.own.list ≡ self.asked }
+        ensures told { told_in result.own.list ≡ self.log }
     {
         let Seat { session: _, place } = self;
         match place {

@@ -1,8 +1,8 @@
 //! One exchange, and the calls of its seats.
 
-ghost use Rattle.std.specs.Prelude.{◌≡◌, ◌≤◌, ◌<◌, true, false, Some, Ok, IfOk, OnErr};
+ghost use Rattle.std.specs.Prelude.{◌≡◌, ◌≤◌, ◌<◌, true, false, Some, IfOk, OnErr};
 ghost use Rattle.batch_book.specs.Answering.{IsReplyTo};
-ghost use Rattle.batch_book.specs.Seats.{IsSameSeat, IsAsked};
+ghost use Rattle.batch_book.specs.Seats.{IsSameSeat, IsAsked, IsSettled};
 ghost use Rattle.batch_book.specs.Values.{value_at};
 
 use crate::call::Call;
@@ -104,6 +104,7 @@ impl<L: ExchangeName, P: ConfigPort, W: WireMaker, G, H: History> Shared<L, P, W
         ensures done { result.done < RUN_STEP }
         ensures later { seat.old.seen ≤ seat.new.seen }
         ensures seat { IsSameSeat seat.old seat.new }
+        ensures asked { seat.new.asked ≡ seat.old.asked }
         ensures log { seat.new.log ≡ seat.old.log }
         ensures broken { seat.new.broken ≡ seat.old.broken }
     {
@@ -148,13 +149,12 @@ impl<L: ExchangeName, P: ConfigPort, W: WireMaker + Sync, G: Gate + Sync, H: His
         self.locked.lock(rt)
     }
 
-    /// One call of the seat's session, and its reply, where that can be told: it takes the lock,
-    /// and applies the call to the book. Call and reply are added to the seat's list, where they
-    /// are in the history. The seat has then seen what the reply tells of a run, and nothing new
-    /// where it tells of none.
+    /// One call of the seat's session, and its reply: it takes the lock, and applies the call to the
+    /// book. Call and reply are added to what the seat asked, where they are in the history. The
+    /// seat has then seen what the reply tells of a run, and nothing new where it tells of none.
     ///
-    /// Where the entry couldn't be recorded, or an earlier one couldn't, the reply is lost. Then
-    /// the seat's list is as it was.
+    /// The reply may be told once the seat is [settled](Shared::settle): at once, where no entry can
+    /// be lost. Where entries were lost before, the call isn't made.
     ///
     /// It waits until the calls of other seats that go before it are done, runs included. It takes
     /// the memory that the book takes.
@@ -167,22 +167,37 @@ impl<L: ExchangeName, P: ConfigPort, W: WireMaker + Sync, G: Gate + Sync, H: His
         requires { seat.old.exchange ≡ Some self.now.word }
         ensures reply { IfOk result (IsReplyTo call) }
         ensures asked { IsAsked seat.old call result seat.new }
+        ensures told { H.loses ≡ false → seat.new.log ≡ seat.new.asked }
         ensures loses { OnErr result (H.loses ≡ true) }
     {
         self.take(rt).call(rt, &self.word, seat, call)
     }
 
-    /// The same as [`try_call`](Shared::try_call) where the book's history loses no entry, as
-    /// [`Kept`].
+    /// The same where no entry can be lost. The reply may be told at once.
     pub fn call<R: Threads + Wait + Sync>(&self, rt: &R, seat: &mut Seat<L>, call: Call) -> Reply
         requires exchange { seat.old.exchange ≡ Some self.now.word }
         requires sure { H.loses ≡ false }
         ensures reply { IsReplyTo call result }
         ensures asked { IsAsked seat.old call (Ok result) seat.new }
+        ensures told { seat.new.log ≡ seat.new.asked }
     {
         match self.try_call(rt, seat, call) {
             Ok(reply) => reply,
             Err(_) => unreachable!(),
         }
+    }
+
+    /// Sees to it that all that the seat has asked can be told: it takes the lock, and puts all
+    /// entries that wait where they belong, whoever's they are. Where nothing waits it takes no
+    /// lock. Where an entry is lost, no more can be told to the seat than before.
+    pub fn settle<R: Wait>(&self, rt: &R, seat: &mut Seat<L>) -> Result<(), Unrecorded>
+        requires { seat.old.exchange ≡ Some self.now.word }
+        ensures settled { IsSettled seat.old result seat.new }
+        ensures loses { OnErr result (H.loses ≡ true) }
+    {
+        if !seat.waits() {
+            return Ok(());
+        }
+        self.take(rt).settle(seat)
     }
 }

@@ -4,8 +4,9 @@ ghost use Rattle.std.specs.Prelude.{◌≡◌, [], true, false};
 
 use crate::call::Call;
 use crate::entry::Entry;
-use crate::history::{History, Unwritten};
+use crate::history::History;
 use crate::past::PastEntries;
+use crate::unrecorded::Unrecorded;
 use std::alloc::AllocError;
 
 /// Entries that go nowhere. They take no memory, and there may be any number of them.
@@ -29,6 +30,8 @@ impl Silent {
 impl History for Silent {
     ghost pushed = { λ s. s.past };
 
+    ghost stands = { λ s. s.past };
+
     ghost whole = { λ _. true };
 
     ghost limited = { false };
@@ -41,6 +44,14 @@ impl History for Silent {
         true
     }
 
+    fn groups() -> bool {
+        false
+    }
+
+    fn may_wait(&self) -> bool {
+        false
+    }
+
     fn has_room(&self) -> bool {
         true
     }
@@ -49,8 +60,11 @@ impl History for Silent {
         Ok(())
     }
 
-    fn push(&mut self, entry: Entry) -> Result<(), Unwritten> {
+    fn push(&mut self, entry: Entry) {
         self.past.add(&entry);
+    }
+
+    fn flush(&mut self) -> Result<(), Unrecorded> {
         Ok(())
     }
 }

@@ -1,10 +1,3 @@
-use crate::reply::Reply;
-
-/// The entry of a call couldn't be recorded, so nobody is told the reply.
-#[derive(Drop)]
-pub enum Unrecorded {
-    /// That of an earlier call couldn't be. This one wasn't made.
-    Before,
-    /// That of this call couldn't be. It was made, and this was the reply.
-    Now(Reply),
-}
+/// The entries that wait couldn't be put where they belong, or some couldn't be before.
+#[derive(Clone, Copy, Debug, PartialEq, Eq)]
+pub struct Unrecorded;

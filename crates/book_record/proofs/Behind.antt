@@ -1,16 +1,15 @@
 -- What stands behind words that were read, and what doesn't.
-use Rattle.std.proofs.Common.{◌≡◌, ◌≢◌, ℕ, ◌≤◌, List, ◌++◌, length, codes, Option, None, Some, IfNone, sym, ◌∙◌, append_assoc, arith}
+use Rattle.std.proofs.Common.{◌≡◌, ℕ, ◌≤◌, List, ◌++◌, length, codes, Option, None, Some, IfNone, sym, ◌∙◌, append_assoc, arith}
 use Rattle.std.specs.List.{flat_map}
 use Rattle.batch.specs.Batches.{IsBatch}
 use Rattle.batch.proofs.Lines.{behind_number as number_there, ends_space}
 use Rattle.batch.specs.Text.{IsNumber, number, batch_text, line, space, line_feed}
 use Rattle.batch.specs.declared.transfer.Transfer.{Transfer}
-use Rattle.line_words.specs.HexWords.{hex8}
 use Rattle.line_words.proofs.Numbers.{behind_word, behind_number}
-use Rattle.batch_book.specs.declared.told_call.ToldCall.TheVariants.{Submit, Fetch, Settle, Run, Show, Discard, Peek, Poke}
+use Rattle.batch_book.specs.declared.told_call.ToldCall.TheVariants.{Submit}
 use Rattle.book_record.specs.RecordText.{call_text}
-use Rattle.book_record.specs.Reading.{BeginsWithNoneNamed, BeginsWithNoPeek, BeginsWithNoPoke, BeginsWithNoLine, BeginsWithNoBatch, BeginsWithNoCall, BeginsWithNoEntry}
-use Rattle.book_record.proofs.CallTexts.{named_form, peek_form, poke_form, one_ending, at_index}
+use Rattle.book_record.specs.Reading.{BeginsWithNoBatch, BeginsWithNoCall, BeginsWithNoEntry}
+use Rattle.book_record.proofs.CallTexts.{one_ending, at_index}
 
 pub still_none : {T : Type 0} (o : Option T) (P Q : Type 0) → (P → Q) → IfNone o P → IfNone o Q
 still_none None P Q f p = f p
@@ -19,18 +18,6 @@ still_none (Some x) P Q f p = tt
 -- what stands behind a word, a number and a space
 pub behind_both : (text rest after more word : List ℕ) (m n : ℕ) → text ≡ word ++ rest → IsNumber m × (rest ≡ number m space ++ after) → IsNumber n → text ≡ word ++ (number n space ++ more) → after ≡ more
 behind_both text rest after more word m n e read fits f = behind_number rest after more m n read fits (behind_word text word rest (number n space ++ more) e f)
-
--- where no line of any kind stands there, no call of one line does
-pub no_line : (text : List ℕ) → BeginsWithNoneNamed (codes "fetch ") text → BeginsWithNoneNamed (codes "settle ") text → BeginsWithNoneNamed (codes "run ") text → BeginsWithNoneNamed (codes "show ") text
-    → BeginsWithNoneNamed (codes "drop ") text → BeginsWithNoPeek text → BeginsWithNoPoke text → BeginsWithNoLine text
-no_line text f s r h d p k (Submit b) rest one can e = one
-no_line text f s r h d p k (Fetch id) rest one can e = f id rest can (e ∙ named_form (codes "fetch ") id rest)
-no_line text f s r h d p k (Settle id) rest one can e = s id rest can (e ∙ named_form (codes "settle ") id rest)
-no_line text f s r h d p k (Run id) rest one can e = r id rest can (e ∙ named_form (codes "run ") id rest)
-no_line text f s r h d p k (Show id) rest one can e = h id rest can (e ∙ named_form (codes "show ") id rest)
-no_line text f s r h d p k (Discard id) rest one can e = d id rest can (e ∙ named_form (codes "drop ") id rest)
-no_line text f s r h d p k (Peek m a) rest one can e = p m a rest can.0 can.1 (e ∙ peek_form (codes "peek ") (number m space) (hex8 a) rest)
-no_line text f s r h d p k (Poke m a w) rest one can e = k m a w rest can.0 can.1 can.2 (e ∙ poke_form (codes "poke ") (number m space) (hex8 a) (hex8 w) rest)
 
 -- ---- batches
 
@@ -45,11 +32,6 @@ fits b is =
     let few = is.few in
     omega arith
 
--- where no line of a batch stands there, and no call of one line
-pub no_call : (text : List ℕ) → BeginsWithNoneNamed (codes "batch ") text → BeginsWithNoLine text → BeginsWithNoCall text
-no_call text b l (Submit batch) rest can e = b (length batch) (flat_map line batch ++ rest) (fits batch can) (e ∙ batch_form batch rest)
-no_call text b l call rest can e = l call rest tt can e
-
 -- where the line of a batch stands there, and not the batch
 pub no_batch : (text lines : List ℕ) (count : ℕ) → IsNumber count → text ≡ codes "batch " ++ (number count line_feed ++ lines) → BeginsWithNoBatch text count → BeginsWithNoCall text
 no_batch text lines count can_count is none (Submit batch) rest can e =
@@ -57,9 +39,6 @@ no_batch text lines count can_count is none (Submit batch) rest can e =
 no_batch text lines count can_count is none call rest can e = omega (arith, at_index 0 (codes "batch " ++ (number count line_feed ++ lines)) (call_text call ++ rest) (sym is ∙ e))
 
 -- ---- entries
-
-pub no_session : (text : List ℕ) → ((n : ℕ) (rest : List ℕ) → IsNumber n → text ≢ number n space ++ rest) → (limit : ℕ) → BeginsWithNoEntry limit text
-no_session text none limit session call rest fits below can e = none session (call_text call ++ rest) fits e
 
 pub no_entry : (text after : List ℕ) (n : ℕ) → IsNumber n × (text ≡ number n space ++ after) → BeginsWithNoCall after → (limit : ℕ) → BeginsWithNoEntry limit text
 no_entry text after n read none limit session call rest fits below can e = none call rest can (behind_number text after (call_text call ++ rest) n session read fits e)

@@ -318,10 +318,6 @@ begun_by limit rest ending behind s c none fits below say is =
       | inr p ↦ record { number_fits = fits; below = below; can_say = say; missing = p.0; begins = ap (λ (l : List ℕ). number s space ++ l) (append-nil (call_text c)) ∙ p.2; whole = inr refl }
     ]
 
--- a call that stands there
-pub whole_begun : (limit : ℕ) (text replied : List ℕ) (s : ℕ) (c : PlanlessCall) → IsNumber s → s < limit → CanSay c → text ≡ number s space ++ (call_text c ++ replied) → HasBegun limit text s c replied
-whole_begun limit text replied s c fits below say is = record { number_fits = fits; below = below; can_say = say; missing = []; begins = sym is ∙ sym (append-nil text); whole = inl refl }
-
 -- ---- no call is longer
 
 number_length : (n e : ℕ) → IsNumber n → length (number n e) ≤ 10

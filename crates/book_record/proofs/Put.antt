@@ -1,21 +1,19 @@
 -- The replies of a legal history can be put.
-use Rattle.std.proofs.Common.{◌≢◌, List, [], ◌∷◌, All, refl, sym, subst}
+use Rattle.std.proofs.Common.{List, [], ◌∷◌, All, refl, sym, subst}
 use Rattle.std.proofs.lemmas.List.Elements.{All-nil, All-cons}
 use Rattle.batch.specs.Extent.{IsShape}
-use Rattle.batch.specs.declared.transfer.Transfer.{Transfer}
 use Rattle.module_memory.specs.Store.{Store}
 use Rattle.batch_book.specs.Answering.{IsReplyTo}
 use Rattle.batch_book.specs.declared.call.Call.{Call}
 use Rattle.batch_book.specs.declared.call.Call.TheVariants.{Run}
 use Rattle.batch_book.specs.declared.entry.Entry.{Entry}
 use Rattle.batch_book.specs.declared.reply.Reply.{Reply}
-use Rattle.batch_book.specs.declared.reply.Reply.TheVariants.{Fetched, Ran}
+use Rattle.batch_book.specs.declared.reply.Reply.TheVariants.{Ran}
 use Rattle.batch_book.specs.Machine.{Machine, opened, IsMachineStep}
 use Rattle.batch_book.specs.History.{IsReplay, IsSound}
 use Rattle.batch_book.proofs.Answering.{answered, sound}
 use Rattle.batch_book.proofs.OneReplay.{shape_stays}
 use Rattle.batch_book.proofs.OwnPlans.{plans_stay}
-use Rattle.client_session.specs.Steps.{CanBeTold}
 use Rattle.book_record.specs.RecordText.{CanBePut}
 
 abbrev Put : Entry → Type 0
@@ -25,11 +23,6 @@ pub has_room : (call : Call) (r : Reply) → IsReplyTo call r → CanBePut r
 has_room (Run id) (Ran run settings words) is = is.few_words
 has_room call (Ran run settings words) is = absurd is
 has_room call r is = tt
-
--- a reply without a batch is told by its line
-pub told_by_line : (r : Reply) → CanBePut r → ((batch : List Transfer) → r ≢ Fetched batch) → CanBeTold r
-told_by_line (Fetched batch) can other = absurd (other batch refl)
-told_by_line r can other = can
 
 sound_after : (m k : Machine) (e : Entry) → IsSound m → IsMachineStep m e.session e.call e.reply k → IsSound k
 sound_after m k e is step = record {

@@ -19,19 +19,21 @@ pub fn stream_on<W: Write, N: StreamName>(
 ) -> Book<Streamed<W, N>>
     requires held { W.contents writer ≡ N.held }
     requires earlier { book.history ≡ N.earlier }
-    ensures { result ≡ account book.opening book.history book.machine true }
+    ensures { result ≡ account book.opening book.history book.history book.machine true }
 {
     let (bare, log) = book.part();
     let Silent { past } = log;
     Book::go_on(bare, Streamed::behind(alloc, past, writer))
 }
 
-/// The book without its history, and the writer, which has got the text of all entries since the
-/// stream began; where the history isn't whole, of all but the last one, and a front of that.
+/// The book without its history, and the writer, which has got the text of the entries that were
+/// flushed since the stream began; where the history isn't whole, maybe a front of that of the
+/// others too.
 pub fn stream_off<W: Write, N: StreamName>(book: Book<Streamed<W, N>>) -> (BareBook, W)
     ensures opening { result.0.opening ≡ book.opening }
     ensures machine { result.0.machine ≡ book.machine }
-    ensures written { IsWritten N.held (W.contents result.1) N.earlier book.history book.whole }
+    ensures written { IsWritten N.held (W.contents result.1) N.earlier book.stands book.history
+        book.whole }
 {
     let (bare, log) = book.part();
     (bare, log.into_writer())

@@ -13,8 +13,8 @@ use exchange_limits::MAX_SESSIONS;
 use line_words::{Line, behind, hex8_and_rest};
 use std::alloc::{AllocError, Global};
 
-/// The first line of a record: the shape of its rack, the sum of the image of its opening words, and
-/// how many clients have names.
+/// The first line of a record: the shape of its rack, the sum of the image of its opening words,
+/// and how many clients have names.
 fn rack_line(shape: Shape, sum: u32, names: usize) -> Line
     requires { IsNumber names }
     ensures { result ≡ rack_line shape sum names }

@@ -1,6 +1,7 @@
 //! The writer of a record.
 
-ghost use Rattle.std.specs.Prelude.{◌≡◌, ◌++◌, All, OnOk};
+ghost use Rattle.std.specs.Prelude.{◌≡◌, ◌≤◌, ◌+◌, ◌++◌, All, OnOk, IsOk, length, vec_len, vec_capacity};
+ghost use Rattle.line_words.specs.declared.limits.TheConstants.{LINE_ROOM};
 ghost use Rattle.std.specs.List.{flat_map};
 ghost use Rattle.batch.specs.Text.{number, space};
 ghost use Rattle.batch_book.specs.Told.{told};
@@ -15,7 +16,8 @@ use std::alloc::AllocError;
 
 /// Puts words and a line feed.
 fn push_line(text: &mut Vec<u8>, words: &[u8]) -> Result<(), AllocError>
-    ensures { OnOk result (text.new.items ≡ text.old.items ++ with_feed words.now) }
+    ensures put { OnOk result (text.new.items ≡ text.old.items ++ with_feed words.now) }
+    ensures room { vec_len text.old + length words.now + 1 ≤ vec_capacity text.old → IsOk result }
 {
     text.extend_from_slice(words)?;
     text.push(b'\n')?;
@@ -80,7 +82,8 @@ pub fn id_of<B: Drop>(call: &ToldCall<B>) -> usize
 /// Puts the line of a reply to a call that names this batch.
 pub fn push_reply(text: &mut Vec<u8>, id: usize, reply: &Reply) -> Result<(), AllocError>
     requires { CanBePut reply.now }
-    ensures { OnOk result (text.new.items ≡ text.old.items ++ reply_text id reply.now) }
+    ensures put { OnOk result (text.new.items ≡ text.old.items ++ reply_text id reply.now) }
+    ensures room { vec_len text.old + LINE_ROOM ≤ vec_capacity text.old → IsOk result }
 {
     if let Reply::Fetched(_) = reply {
         return push_line(text, b"fetched");
@@ -93,7 +96,8 @@ pub fn push_reply(text: &mut Vec<u8>, id: usize, reply: &Reply) -> Result<(), Al
 /// Puts the line of a reply of the history.
 pub fn push_logged(text: &mut Vec<u8>, id: usize, reply: &LoggedReply) -> Result<(), AllocError>
     requires { CanBePut reply.now }
-    ensures { OnOk result (text.new.items ≡ text.old.items ++ reply_text id reply.now) }
+    ensures put { OnOk result (text.new.items ≡ text.old.items ++ reply_text id reply.now) }
+    ensures room { vec_len text.old + LINE_ROOM ≤ vec_capacity text.old → IsOk result }
 {
     match reply.kept() {
         Some(reply) => push_reply(text, id, reply),

@@ -1,5 +1,5 @@
 -- How what one part of a session asks follows what another one asked.
-use Rattle.std.proofs.Common.{◌≡◌, ℕ, ◌+◌, ◌<◌, ◌≤◌, [], length, Option, Some, None, Result, Ok, Err, IfOk, IfErr, MatchOption, MatchResult, subst, arith}
+use Rattle.std.proofs.Common.{◌≡◌, ℕ, ◌+◌, ◌<◌, ◌≤◌, List, [], length, Option, Some, None, Result, Ok, Err, IfOk, IfErr, MatchOption, MatchResult, subst, arith}
 use Rattle.client_session.specs.declared.limits.TheConstants.{MAX_READS}
 use Rattle.client_session.specs.declared.fault.ServeFault.{ServeFault}
 use Rattle.client_session.specs.declared.fault.ServeFault.TheVariants as fault
@@ -7,7 +7,8 @@ use Rattle.client_session.specs.declared.input.InputFault.{InputFault}
 use Rattle.client_session.specs.declared.input.InputFault.TheVariants.{Cut}
 use Rattle.client_session.specs.Asking.{RisesBy, IsWithinLimit, AsksWithinLimit, StopsAsking, GivesEachTime}
 use Rattle.client_session.specs.Bytes.{PendingInput}
-use Rattle.client_session.specs.Steps.{of_input}
+use Rattle.client_session.specs.Seats.{SeatView}
+use Rattle.client_session.specs.Steps.{AreUntold, of_input}
 
 pub RisesBy-none : (a : Option ℕ) → RisesBy a a 0
 RisesBy-none None = tt
@@ -59,3 +60,29 @@ pub asked_at_end : (r : Result (Option ℕ) InputFault) (a b : Option ℕ) (m n 
     → MatchResult r (λ found. MatchOption found (StopsAsking a b m None) (λ _. GivesEachTime a b m n)) (λ e. StopsAsking a b m (Some (of_input e)))
 asked_at_end (Ok found) a b m n h s ok err = rw ok.0 s
 asked_at_end (Err e) a b m n h s ok err = rw err.0 (stops_cut s)
+
+few_reads : (end : Option ServeFault) (reads : ℕ) → IsWithinLimit end reads → reads ≤ MAX_READS
+few_reads None reads is = is
+few_reads (Some fault.Turns) reads is = omega (arith, is)
+few_reads (Some fault.Read) reads is = is
+few_reads (Some fault.Write) reads is = is
+few_reads (Some fault.LineTooLong) reads is = is
+few_reads (Some fault.Cut) reads is = is
+few_reads (Some fault.NoMemory) reads is = is
+few_reads (Some fault.Record) reads is = is
+
+-- nor where lines couldn't be told
+within_untold : (e : ServeFault) (old new : SeatView) (w v : Option (List ℕ)) (lines : List ℕ) (reads : ℕ) → AreUntold e old new w v lines → reads ≤ MAX_READS → IsWithinLimit (Some e) reads
+within_untold fault.Write old new w v lines reads is few = few
+within_untold fault.Record old new w v lines reads is few = few
+within_untold fault.Read old new w v lines reads is few = absurd is
+within_untold fault.LineTooLong old new w v lines reads is few = absurd is
+within_untold fault.Cut old new w v lines reads is few = absurd is
+within_untold fault.Turns old new w v lines reads is few = absurd is
+within_untold fault.NoMemory old new w v lines reads is few = absurd is
+
+pub asks_no_more : {a b : Option ℕ} {n : ℕ} (e : ServeFault) (old new : SeatView) (w v : Option (List ℕ)) (lines : List ℕ) → AreUntold e old new w v lines → GivesEachTime a b 0 n → AsksWithinLimit a b (Some e)
+asks_no_more e old new w v lines is s = record { asks = s.asks; counted = s.counted; within = within_untold e old new w v lines s.asks is (omega (arith, s.all, s.few)) }
+
+pub asks_still : {a b : Option ℕ} (end : Option ServeFault) (e : ServeFault) (old new : SeatView) (w v : Option (List ℕ)) (lines : List ℕ) → AreUntold e old new w v lines → AsksWithinLimit a b end → AsksWithinLimit a b (Some e)
+asks_still end e old new w v lines is s = record { asks = s.asks; counted = s.counted; within = within_untold e old new w v lines s.asks is (few_reads end s.asks s.within) }

@@ -17,6 +17,7 @@ use Rattle.batch_book.specs.Replies.{is_logged}
 use Rattle.batch_book.specs.Answering.{IsReplyTo}
 use Rattle.batch_book.specs.History.{entry}
 use Rattle.batch_book.specs.Values.{value_of}
+use Rattle.batch_book.proofs.Fronts.{starts_same, starts_then}
 use Rattle.refusals.specs.declared.refusal.Refusal.TheVariants as refusal
 use Rattle.refusals.specs.Refusals.{refusal_line}
 use Rattle.refusals.specs.Sources.{of_batch}
@@ -31,14 +32,16 @@ use Rattle.client_session.specs.Steps.{CanBeTold, IsNoFetch, Did, Acts, Breaks, 
 use Rattle.client_session.proofs.Lists.{every_weaker, every_append}
 
 pub stays : (p : SeatView) → GoesOnFrom false p p
-stays p = record { exchange = refl; shape = refl; session = refl; parts = refl; seen = omega arith; broken = refl }
+stays p = record { exchange = refl; shape = refl; loses = refl; session = refl; parts = refl; log = starts_same p.log p.log refl; seen = omega arith; broken = refl }
 
 pub goes_on : (breaks : Bool) (a b c : SeatView) → GoesOnFrom false a b → GoesOnFrom breaks b c → GoesOnFrom breaks a c
 goes_on breaks a b c p q = record {
   exchange = q.exchange ∙ p.exchange;
   shape = q.shape ∙ p.shape;
+  loses = q.loses ∙ p.loses;
   session = q.session ∙ p.session;
   parts = q.parts ∙ p.parts;
+  log = starts_then a.log b.log c.log p.log q.log;
   seen = omega (arith, p.seen, q.seen);
   broken = q.broken ∙ ap (λ (b : Bool). breaks || b) p.broken;
 }
@@ -72,7 +75,7 @@ can_be_told c (Refused why) other is = tt
 
 -- nothing was done but to answer
 did_nothing : (p : SeatView) (line : List ℕ) → Did p p (plain_answer [] line)
-did_nothing p line = record { goes_on = stays p; log = sym (append-nil p.log); low = tt; high = tt }
+did_nothing p line = record { goes_on = stays p; asked = sym (append-nil p.asked); low = tt; high = tt }
 
 pub says : (p : SeatView) (IsSo : Answer → Type 0) (words line : List ℕ) → IsSo (plain_answer [] words) → line ≡ words → Acts p p IsSo line
 says p IsSo words line h e = record { answer = plain_answer [] words; did = did_nothing p words; is_so = h; line_is = e }
@@ -82,7 +85,7 @@ shown_if seen true by c r is h = rw (sym is) (h, tt)
 shown_if seen false by c r is h = rw (sym is) tt
 
 did_call : (old new : SeatView) (c : Call) (r : Reply) (line : List ℕ) → IsCalled old c r new → Did old new (plain_answer (logged old.session c r) line)
-did_call old new c r line h = record { goes_on = h.goes_on; log = h.log; low = tt; high = shown_if new.seen (is_logged r) old.session c r refl h.seen }
+did_call old new c r line h = record { goes_on = h.goes_on; asked = h.asked; low = tt; high = shown_if new.seen (is_logged r) old.session c r refl h.seen }
 
 -- a call was made, and its reply is the line
 acts_call : (old new : SeatView) (id : ℕ) (c : Call) (r : Reply) (line : List ℕ) (IsSo : Answer → Type 0) → IsCalled old c r new → IsSo (tells old.session id c r) → line ≡ reply_line id r → Acts old new IsSo line
@@ -91,15 +94,15 @@ acts_call old new id c r line IsSo h so e = record { answer = tells old.session 
 pub called : (old new : SeatView) (id : ℕ) (c : Call) (r : Reply) (line : List ℕ) → IsCalled old c r new → line ≡ reply_line id r → Acts old new (TellsReply old.session id c) line
 called old new id c r line h e = acts_call old new id c r line (TellsReply old.session id c) h (r, h.answers, refl) e
 
--- a call couldn't be recorded, and nothing was added before
+-- a call wasn't made, and nothing was added before
 pub breaks : (old new : SeatView) (fault : ServeFault) (HasBegun : List Entry → Type 0) → fault ≡ Record → IsUncalled old new → HasBegun [] → Breaks fault old new HasBegun
-breaks old new fault HasBegun is un begun = record { fault_is = is; goes_on = un.goes_on; entries = []; log = un.log ∙ sym (append-nil old.log); begun = begun }
+breaks old new fault HasBegun is un begun = record { fault_is = is; goes_on = un.goes_on; entries = []; asked = un.asked ∙ sym (append-nil old.asked); begun = begun }
 
 -- what was done first, and then without a reading
 did_more : (old mid new : SeatView) (a b : List Entry) (x y line : List ℕ) → Did old mid (plain_answer a x) → Did mid new (plain_answer b y) → Did old new (plain_answer (a ++ b) line)
 did_more old mid new a b x y line p q = record {
   goes_on = goes_on false old mid new p.goes_on q.goes_on;
-  log = q.log ∙ ap (λ l. l ++ b) p.log ∙ append_assoc old.log a b;
+  asked = q.asked ∙ ap (λ l. l ++ b) p.asked ∙ append_assoc old.asked a b;
   low = tt;
   high = rw (map-append (λ (e : Entry). value_of e.reply) a b) (every_append (λ v. v ≤ new.seen) _ _ (every_weaker (λ v. v ≤ mid.seen) (λ v. v ≤ new.seen) _ (λ v le. omega (arith, le, q.goes_on.seen)) p.high) q.high);
 }
@@ -120,7 +123,7 @@ settled old mid new id batch plan line h shortest of acts =
     (inl (plan, r, shortest, of, acts.is_so.1, refl))
     (acts.line_is ∙ ap (λ (x : Answer). x.line) same)
 
--- and so that of its plan couldn't be recorded, or it was settled
+-- and a call with its plan wasn't made, or it was settled
 pub settled_or : {T : Type 0} (old mid new : SeatView) (id : ℕ) (batch : List Transfer) (plan : Plan) (line : List ℕ) (r : Result T ServeFault) → IsCalled old (call.Fetch id) (Fetched batch) mid → IsPlan plan → plan.batch ≡ batch
     → Does mid new (TellsReply mid.session id (call.Settle id plan)) (λ es. es ≡ []) line r → Does old new (Plans old.session id) (IsFetching old.session id) line r
 settled_or old mid new id batch plan line (Ok x) h shortest of does = settled old mid new id batch plan line h shortest of does
@@ -128,7 +131,7 @@ settled_or old mid new id batch plan line (Err e) h shortest of b = record {
   fault_is = b.fault_is;
   goes_on = goes_on true old mid new h.goes_on b.goes_on;
   entries = entry old.session (call.Fetch id) (Fetched batch) ∷ [];
-  log = b.log ∙ (ap (λ es. mid.log ++ es) b.begun ∙ (append-nil mid.log ∙ h.log));
+  asked = b.asked ∙ (ap (λ es. mid.asked ++ es) b.begun ∙ (append-nil mid.asked ∙ h.asked));
   begun = inr (batch, refl);
 }
 
@@ -155,7 +158,7 @@ read_progress old new r line h e = record {
   answer = record { entries = []; reading = Some r; line = progress_line r };
   did = record {
     goes_on = h.goes_on;
-    log = h.log ∙ sym (append-nil old.log);
+    asked = h.asked ∙ sym (append-nil old.asked);
     low = (omega (arith, h.goes_on.seen, h.seen), tt);
     high = (omega (arith, h.seen), tt);
   };

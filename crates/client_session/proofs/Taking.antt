@@ -1,10 +1,12 @@
 -- How one read follows another.
-use Rattle.std.proofs.Common.{◌≡◌, ◌+◌, ◌<◌, ◌≤◌, ℕ, zero, suc, List, [], ◌++◌, length, Option, None, Result, Ok, Err, IfOk, MatchOption, sym, ap, ◌∙◌, append_assoc, append-nil, arith}
-use Rattle.std.proofs.lemmas.List.{length-append}
-use Rattle.client_session.specs.declared.limits.TheConstants.{LINE_BYTES, MAX_READS}
+use Rattle.std.proofs.Common.{◌≡◌, ◌+◌, ◌<◌, ◌≤◌, ℕ, zero, suc, List, [], ◌++◌, length, Option, Some, None, Result, Ok, Err, IfOk, IfErr, MatchOption, subst, refl, sym, ap, ◌∙◌, append_assoc, append-nil, arith}
+use Rattle.std.proofs.lemmas.List.{length-append, nil_from_length}
+use Rattle.client_session.specs.declared.limits.TheConstants.{INPUT_BYTES, LINE_BYTES, MAX_READS}
 use Rattle.std.specs.Io.KnownBytes.{IsAtEnd}
 use Rattle.client_session.specs.declared.input.InputFault.{InputFault}
-use Rattle.client_session.specs.Bytes.{PendingInput, TakesIn, HasLine, fuel}
+use Rattle.client_session.specs.declared.input.InputFault.TheVariants.{Read, LineTooLong, Cut, Turns}
+use Rattle.client_session.specs.Bytes.{PendingInput, TakesIn, HasLine, IsSessionLine, fuel}
+use Rattle.client_session.specs.Faults.{HasBroughtNothing, IsFaultAt}
 use Rattle.client_session.proofs.Known.{Consumes-more, Consumes-nil}
 
 pub TakesIn-none : (a : Option (List ℕ)) (h : PendingInput) → TakesIn a a h h
@@ -19,12 +21,36 @@ TakesIn-more a b c old mid new t u = record {
 }
 
 -- what is left falls where a read gave n bytes
-pub fuel_read : (old new : PendingInput) (n : ℕ) → length new.pending ≡ length old.pending + n → length new.pending ≤ LINE_BYTES + 1 → old.reads ≤ new.reads → new.reads ≤ MAX_READS → (0 < n → new.reads ≡ old.reads + 1) → fuel new ≤ fuel old
+pub fuel_read : (old new : PendingInput) (n : ℕ) → length new.pending ≡ length old.pending + n → length new.pending ≤ INPUT_BYTES → old.reads ≤ new.reads → new.reads ≤ MAX_READS → (0 < n → new.reads ≡ old.reads + 1) → fuel new ≤ fuel old
 fuel_read old new zero longer room more limit counted = omega arith
 fuel_read old new (suc n) longer room more limit counted = let more = counted (omega arith) in omega arith
+
+-- no line is there
+pub none_of : (o : Option ℕ) → ((x : ℕ) → o ≡ Some x → ⊥) → o ≡ None
+none_of None h = refl
+none_of (Some x) h = absurd (h x refl)
 
 -- where no more bytes come, and none are pending
 pub found_at_end : (r : Result (Option ℕ) InputFault) (known : Option (List ℕ)) (h : PendingInput) → IsAtEnd known → IfOk r (λ found. (found ≡ None) × (h.pending ≡ []))
     → IfOk r (λ found. MatchOption found ((h.pending ≡ []) × IsAtEnd known) (λ n. HasLine h.pending n × (n ≤ LINE_BYTES)))
 found_at_end (Ok found) known h end is = rw is.0 (is.1, end)
 found_at_end (Err e) known h end is = tt
+
+-- no byte came
+same_pending : {a b : Option (List ℕ)} (old new : PendingInput) → TakesIn a b old new → length new.pending ≡ length old.pending → new.pending ≡ old.pending
+same_pending old new t same =
+    let none : t.bytes ≡ [] = nil_from_length t.bytes (omega (arith, ap length t.kept, length-append old.pending t.bytes, same)) in
+    sym t.kept ∙ ap (λ l. old.pending ++ l) none ∙ append-nil old.pending
+
+-- and so a line that is pending is cut
+pub cut_at_end : {a b : Option (List ℕ)} (r : Result (Option ℕ) InputFault) (old new : PendingInput) → TakesIn a b old new → length new.pending ≡ length old.pending → IsAtEnd b → IsSessionLine old.pending
+    → IfErr r (λ e. (e ≡ Cut) × (0 < length new.pending)) → IfErr r (λ e. IsFaultAt e b new)
+cut_at_end (Ok found) old new t same end line err = tt
+cut_at_end (Err e) old new t same end line err = rw err.0 (subst IsSessionLine (sym (same_pending old new t same)) line, err.1, end)
+
+-- the reader failed, or was asked as often as it may be, before a line was there
+pub fault_before : (e : InputFault) (known : Option (List ℕ)) (old new : PendingInput) → IsSessionLine old.pending → HasBroughtNothing e old new → IsFaultAt e known new
+fault_before Read known old new line none = subst IsSessionLine (sym none.0) line
+fault_before Turns known old new line none = (subst IsSessionLine (sym none.0) line, none.1)
+fault_before LineTooLong known old new line none = absurd none.1
+fault_before Cut known old new line none = absurd none.1

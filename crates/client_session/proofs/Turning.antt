@@ -3,7 +3,7 @@ use Rattle.std.proofs.Common.{◌≡◌, ℕ, ◌+◌, ◌<◌, ◌≤◌, List,
 use Rattle.std.proofs.lemmas.List.{take-append-drop, length-append, length-drop}
 use Rattle.std.proofs.lemmas.Bool.{lt-ltb, le-ltb}
 use Rattle.batch.specs.declared.limits.TheConstants.{MAX_TRANSFERS}
-use Rattle.client_session.specs.declared.limits.TheConstants.{LINE_BYTES}
+use Rattle.client_session.specs.declared.limits.TheConstants.{INPUT_BYTES, LINE_BYTES}
 use Rattle.client_session.specs.declared.command.SessionCommand.{SessionCommand}
 use Rattle.client_session.specs.declared.command.SessionCommand.TheVariants.{Batch, Plan, Run, Show, Drop, Peek, Poke, Progress, Bye}
 use Rattle.client_session.specs.declared.fault.ServeFault.{ServeFault}
@@ -27,7 +27,7 @@ pub front_is : (bytes : List ℕ) (n : ℕ) → HasLine bytes n → bytes ≡ wi
 front_is bytes n has = sym (take-append-drop (n + 1) bytes) ∙ ap (λ l. l ++ drop (n + 1) bytes) (sym (line_front bytes n has))
 
 -- there was no memory for the first line of a batch
-pub stopped_at_once : (a : Option (List ℕ)) (old : PendingInput) (seat : SeatView) (n count : ℕ) → HasLine old.pending n → n ≤ LINE_BYTES → length old.pending ≤ LINE_BYTES + 1 → BeginsBatch (take n old.pending) count → TurnStopped NoMemory a a old seat seat
+pub stopped_at_once : (a : Option (List ℕ)) (old : PendingInput) (seat : SeatView) (n count : ℕ) → HasLine old.pending n → n ≤ LINE_BYTES → length old.pending ≤ INPUT_BYTES → BeginsBatch (take n old.pending) count → TurnStopped NoMemory a a old seat seat
 stopped_at_once a old seat n count has short room begins = record {
   bytes = [];
   consumed = Consumes-nil a;
@@ -110,7 +110,7 @@ fails Turns a b old from to s = s
 fails NoMemory a b old from to s = s
 fails Record a b old from to s = absurd s.rest
 
--- a reply is lost
+-- a call wasn't made
 lost_as : (e : ServeFault) (a b : Option (List ℕ)) (old : PendingInput) (from to : SeatView) → e ≡ Record → TurnLost a b old from to → TurnFails e a b old from to
 lost_as e a b old from to is lost = subst (λ (x : ServeFault). TurnFails x a b old from to) (sym is) lost
 
@@ -145,7 +145,7 @@ batch_taken a b old mid new from to n count before after all line has short begi
       last = tt;
     }
 
--- it was taken whole, and its reply is lost
+-- it was taken whole, and not submitted
 pub batch_lost : (e : ServeFault) (a b : Option (List ℕ)) (old mid new : PendingInput) (from to : SeatView) (n count : ℕ) (before after : List ℕ) → HasLine old.pending n → n ≤ LINE_BYTES
     → BeginsBatch (take n old.pending) count → mid.pending ≡ drop (n + 1) old.pending → LinesTaken a b mid new before after count
     → Breaks e from to (λ (es : List Entry). es ≡ []) → TurnFails e a b old from to
@@ -157,7 +157,7 @@ batch_lost e a b old mid new from to n count before after has short begins rest 
   rest = new.pending;
   kept = lines_are a b old mid new n count before after has rest t;
   goes_on = broken.goes_on;
-  log = broken.log;
+  asked = broken.asked;
 }
 
 none_after : (command : Option SessionCommand) → StandsAlone command → lines_after command ≡ 0
@@ -196,7 +196,7 @@ alone_taken a old new from to n command line ends has short means alone rest sam
       last = last;
     }
 
--- its reply is lost
+-- a call of it wasn't made
 pub alone_lost : (e : ServeFault) (a : Option (List ℕ)) (old new : PendingInput) (from to : SeatView) (n : ℕ) (command : Option SessionCommand) → HasLine old.pending n → n ≤ LINE_BYTES
     → Means (take n old.pending) command → StandsAlone command → new.pending ≡ drop (n + 1) old.pending → Breaks e from to (IsBegun from.session command) → TurnFails e a a old from to
 alone_lost e a old new from to n command has short means alone rest broken = lost_as e a a old from to broken.fault_is record {
@@ -207,5 +207,5 @@ alone_lost e a old new from to n command has short means alone rest broken = los
   rest = new.pending;
   kept = append-nil old.pending ∙ front_is old.pending n has ∙ ap (λ l. with_feed (take n old.pending) ++ l) (sym rest) ∙ ap (λ l. l ++ new.pending) (sym (append-nil (with_feed (take n old.pending))));
   goes_on = broken.goes_on;
-  log = broken.log;
+  asked = broken.asked;
 }

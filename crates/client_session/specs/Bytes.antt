@@ -3,7 +3,7 @@ use Rattle.std.specs.Prelude.{◌≡◌, ◌≢◌, ℕ, ◌+◌, ◌-◌, ◌*�
 use Rattle.std.specs.List.{All}
 use Rattle.std.specs.Io.KnownBytes.{Consumes}
 use Rattle.batch.specs.Text.{line_feed}
-use Rattle.client_session.specs.declared.limits.TheConstants.{LINE_BYTES, MAX_READS}
+use Rattle.client_session.specs.declared.limits.TheConstants.{INPUT_BYTES, LINE_BYTES, MAX_READS}
 
 -- bytes that were read and stand in no line yet, and how often the reader gave some
 pub record PendingInput : Type 0 where
@@ -32,4 +32,4 @@ pub record TakesIn (before after : Option (List ℕ)) (old new : PendingInput) :
 -- more than the bytes that may still come, by as many as a read may give, with those that are
 -- pending
 abbrev pub fuel : PendingInput → ℕ
-fuel h = (LINE_BYTES + 2) * (MAX_READS - h.reads) + length h.pending
+fuel h = (INPUT_BYTES + 1) * (MAX_READS - h.reads) + length h.pending

@@ -1,5 +1,5 @@
 -- When each fault of the input comes.
-use Rattle.std.specs.Prelude.{◌≡◌, ℕ, ◌+◌, ◌<◌, List, length, Option}
+use Rattle.std.specs.Prelude.{◌≡◌, ℕ, ◌+◌, ◌<◌, List, length, take, Option}
 use Rattle.std.specs.Io.KnownBytes.{IsAtEnd}
 use Rattle.client_session.specs.declared.limits.TheConstants.{LINE_BYTES, MAX_READS}
 use Rattle.client_session.specs.Bytes.{PendingInput, HasNoFeed, IsSessionLine}
@@ -21,5 +21,6 @@ HasBroughtNothing fault old new = (new.pending ≡ old.pending) × IsReadOrTurns
 abbrev pub IsFaultAt : InputFault → Option (List ℕ) → PendingInput → Type 0
 IsFaultAt Read known h = IsSessionLine h.pending
 IsFaultAt Turns known h = IsSessionLine h.pending × (h.reads ≡ MAX_READS)
-IsFaultAt LineTooLong known h = HasNoFeed h.pending × (length h.pending ≡ LINE_BYTES + 1)
+IsFaultAt LineTooLong known h =
+    HasNoFeed (take (LINE_BYTES + 1) h.pending) × (LINE_BYTES < length h.pending)
 IsFaultAt Cut known h = IsSessionLine h.pending × (0 < length h.pending) × IsAtEnd known

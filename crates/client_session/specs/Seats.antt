@@ -8,30 +8,35 @@ use Rattle.batch_book.specs.declared.limits.TheConstants.{RUN_STEP}
 use Rattle.batch_book.specs.declared.reading.Reading.{Reading}
 use Rattle.batch_book.specs.declared.reply.Reply.{Reply}
 use Rattle.batch_book.specs.Answering.{IsReplyTo}
-use Rattle.batch_book.specs.History.{entry}
+use Rattle.batch_book.specs.History.{Starts, entry}
 use Rattle.batch_book.specs.Replies.{is_logged}
 use Rattle.batch_book.specs.Seats.{SeatState}
 use Rattle.batch_book.specs.Values.{value_at, value_of}
 
--- the word of the seat's exchange, the shape of its rack, the session's number, the seat's parts,
--- its list, the greatest progress that it has seen, and whether the record of a call of it is broken
+-- the word of the seat's exchange, the shape of its rack, whether its history may lose an entry,
+-- the session's number, the seat's parts, what it asked, and of that what could be told to it, the
+-- greatest progress that it has seen, and whether the record of a call of it is broken
 pub record SeatView : Type 0 where
   pub exchange : Option TableId
   pub shape : Extent
+  pub loses : Bool
   pub session : ℕ
   pub parts : ℕ
+  pub asked : List Entry
   pub log : List Entry
   pub seen : ℕ
   pub broken : Bool
 
--- the seat, where the rack has this shape
-abbrev pub seat_view : Extent → SeatState → SeatView
-seat_view shape seat =
+-- the seat, where the history may lose an entry or not, and the rack has this shape
+abbrev pub seat_view : Bool → Extent → SeatState → SeatView
+seat_view loses shape seat =
     record {
       exchange = seat.exchange;
       shape = shape;
+      loses = loses;
       session = seat.session;
       parts = seat.parts;
+      asked = seat.asked;
       log = seat.log;
       seen = seat.seen;
       broken = seat.broken;
@@ -45,30 +50,33 @@ reading_value r = value_at r.run r.done
 abbrev pub logged : ℕ → Call → Reply → List Entry
 logged session call reply = if is_logged reply then entry session call reply ∷ [] else []
 
--- the same seat, which has seen no less; its record was broken before, or this has broken it
+-- the same seat, which has seen no less, and to which no less could be told; its record was broken
+-- before, or this has broken it
 pub record GoesOnFrom (breaks : Bool) (old new : SeatView) : Type 0 where
   pub exchange : new.exchange ≡ old.exchange
   pub shape : new.shape ≡ old.shape
+  pub loses : new.loses ≡ old.loses
   pub session : new.session ≡ old.session
   pub parts : new.parts ≡ old.parts
+  pub log : Starts old.log new.log
   pub seen : old.seen ≤ new.seen
   pub broken : new.broken ≡ breaks || old.broken
 
 -- a call was made
 pub record IsCalled (old : SeatView) (call : Call) (reply : Reply) (new : SeatView) : Type 0 where
   pub goes_on : GoesOnFrom false old new
-  pub log : new.log ≡ old.log ++ logged old.session call reply
+  pub asked : new.asked ≡ old.asked ++ logged old.session call reply
   pub answers : IsReplyTo call reply
   pub seen : value_of reply ≤ new.seen
 
--- a call wasn't made, or its reply is lost
+-- a call wasn't made, since the record is broken
 pub record IsUncalled (old new : SeatView) : Type 0 where
   pub goes_on : GoesOnFrom true old new
-  pub log : new.log ≡ old.log
+  pub asked : new.asked ≡ old.asked
 
 -- the progress word was read
 pub record IsProgressRead (old : SeatView) (r : Reading) (new : SeatView) : Type 0 where
   pub goes_on : GoesOnFrom false old new
-  pub log : new.log ≡ old.log
+  pub asked : new.asked ≡ old.asked
   pub seen : new.seen ≡ reading_value r
   pub done : r.done < RUN_STEP

@@ -1,14 +1,15 @@
 -- What the parts of a session do.
-use Rattle.std.specs.Prelude.{◌≡◌, ℕ, ◌+◌, ◌*◌, ◌<◌, ◌≤◌, Bool, true, false, List, ◌++◌, length, Option, Some, Result, Ok, Err, MatchBool}
+use Rattle.std.specs.Prelude.{◌≡◌, ℕ, ◌+◌, ◌*◌, ◌<◌, ◌≤◌, ◌⊎◌, Bool, true, false, List, [], ◌++◌, length, take, Option, Some, Result, Ok, Err, MatchBool}
 use Rattle.std.specs.List.{AllByRecursion}
 use Rattle.std.specs.Io.KnownBytes.{Consumes, Appends, IsAtEnd}
+use Rattle.byte_streams.specs.Writing.{IsCutShort}
 use Rattle.batch.specs.declared.limits.TheConstants.{MAX_TRANSFERS, MAX_WORDS}
 use Rattle.batch_book.specs.declared.call.Call.{Call}
 use Rattle.batch_book.specs.declared.entry.Entry.{Entry}
 use Rattle.batch_book.specs.declared.call.Call.TheVariants.{Fetch}
 use Rattle.batch_book.specs.declared.reply.Reply.{Reply}
 use Rattle.batch_book.specs.declared.reply.Reply.TheVariants.{Fetched, Ran}
-use Rattle.client_session.specs.declared.limits.TheConstants.{LINE_BYTES, MAX_READS}
+use Rattle.client_session.specs.declared.limits.TheConstants.{INPUT_BYTES, LINE_BYTES, MAX_READS}
 use Rattle.client_session.specs.declared.input.InputFault.{InputFault}
 use Rattle.client_session.specs.declared.input.InputFault.TheVariants as input
 use Rattle.client_session.specs.declared.command.SessionCommand.{SessionCommand}
@@ -45,7 +46,7 @@ StandsAlone command = Unit {0}
 -- the seat did this
 pub record Did (old new : SeatView) (a : Answer) : Type 0 where
   pub goes_on : GoesOnFrom false old new
-  pub log : new.log ≡ old.log ++ a.entries
+  pub asked : new.asked ≡ old.asked ++ a.entries
   pub low : AllByRecursion (λ r. old.seen ≤ r) (readings_of a.reading)
   pub high : AllByRecursion (λ v. v ≤ new.seen) (shown a)
 
@@ -56,16 +57,16 @@ pub record Acts (old new : SeatView) (IsSo : Answer → Type 0) (line : List ℕ
   pub is_so : IsSo answer
   pub line_is : line ≡ answer.line
 
--- a call couldn't be recorded: such entries were added before, and nothing is told
+-- a call wasn't made, since the record is broken: such entries were added before
 pub record Breaks (fault : ServeFault) (old new : SeatView)
     (HasBegun : List Entry → Type 0) : Type 0 where
   pub fault_is : fault ≡ Record
   pub goes_on : GoesOnFrom true old new
   pub entries : List Entry
-  pub log : new.log ≡ old.log ++ entries
+  pub asked : new.asked ≡ old.asked ++ entries
   pub begun : HasBegun entries
 
--- something such was done, and this is its line; or a call couldn't be recorded
+-- something such was done, and this is its line; or a call wasn't made
 abbrev pub Does : {T : Type 0} → SeatView → SeatView → (Answer → Type 0) → (List Entry → Type 0)
     → List ℕ → Result T ServeFault → Type 0
 Does old new IsSo HasBegun line (Ok done) = Acts old new IsSo line
@@ -86,10 +87,11 @@ pub record LinesTaken (before after : Option (List ℕ)) (old new : PendingInput
 -- what is pending where a fault stopped the taking of lines
 abbrev pub PendingAt : ServeFault → Option (List ℕ) → PendingInput → Type 0
 PendingAt Read known h = IsSessionLine h.pending
-PendingAt LineTooLong known h = HasNoFeed h.pending × (length h.pending ≡ LINE_BYTES + 1)
+PendingAt LineTooLong known h =
+    HasNoFeed (take (LINE_BYTES + 1) h.pending) × (LINE_BYTES < length h.pending)
 PendingAt Cut known h = IsSessionLine h.pending × IsAtEnd known
 PendingAt Turns known h = IsSessionLine h.pending × (h.reads ≡ MAX_READS)
-PendingAt NoMemory known h = length h.pending ≤ LINE_BYTES + 1
+PendingAt NoMemory known h = length h.pending ≤ INPUT_BYTES
 PendingAt Write known h = ⊥
 PendingAt Record known h = ⊥
 
@@ -122,8 +124,7 @@ pub record TurnStopped (fault : ServeFault) (before after : Option (List ℕ)) (
   pub same : to ≡ from
   pub rest : RestAt fault after (old.reads + length bytes) (old.pending ++ bytes)
 
--- a turn was taken from the input, of which nothing is told, since a call of it couldn't be
--- recorded
+-- a turn was taken from the input, of which nothing is told, since a call of it wasn't made
 pub record TurnLost (before after : Option (List ℕ)) (old : PendingInput)
     (from to : SeatView) : Type 0 where
   pub turn : LostTurn
@@ -133,7 +134,7 @@ pub record TurnLost (before after : Option (List ℕ)) (old : PendingInput)
   pub rest : List ℕ
   pub kept : old.pending ++ bytes ≡ lost_text turn ++ rest
   pub goes_on : GoesOnFrom true from to
-  pub log : to.log ≡ from.log ++ turn.entries
+  pub asked : to.asked ≡ from.asked ++ turn.entries
 
 -- either, by the fault
 abbrev pub TurnFails : ServeFault → (before after : Option (List ℕ)) → PendingInput → SeatView
@@ -141,11 +142,26 @@ abbrev pub TurnFails : ServeFault → (before after : Option (List ℕ)) → Pen
 TurnFails Record before after old from to = TurnLost before after old from to
 TurnFails fault before after old from to = TurnStopped fault before after old from to
 
--- writing failed, and so much as a front of the line was written
-pub record IsCutLine (fault : ServeFault) (out_before out_after : Option (List ℕ))
-    (line : List ℕ) : Type 0 where
-  pub fault_is : fault ≡ Write
-  pub front : List ℕ
-  pub missing : List ℕ
-  pub line_is : line ≡ front ++ missing
-  pub appended : Appends out_before out_after front
+-- all that the seat asked can be told, and these lines were written
+pub record AreTold (old new : SeatView) (out_before out_after : Option (List ℕ))
+    (lines : List ℕ) : Type 0 where
+  pub seat : new ≡ record old { log = old.asked }
+  pub appended : Appends out_before out_after lines
+
+-- the lines that were held were told; or they are held still, where an entry can be lost
+abbrev pub MayTell : (old new : SeatView) → (out_before out_after : Option (List ℕ))
+    → (held still : List ℕ) → Type 0
+MayTell old new out_before out_after held still =
+    (AreTold old new out_before out_after held × (still ≡ []))
+    ⊎ ((old.loses ≡ true) × (new ≡ old) × (out_after ≡ out_before) × (still ≡ held))
+
+-- There are some, and they weren't told: so much as a front of them was written. Or the record is
+-- broken, and nothing was.
+abbrev pub AreUntold : ServeFault → (old new : SeatView) → (out_before out_after : Option (List ℕ))
+    → List ℕ → Type 0
+AreUntold Write old new out_before out_after lines =
+    (new ≡ record old { log = old.asked }) × (0 < length lines)
+    × IsCutShort out_before out_after lines
+AreUntold Record old new out_before out_after lines =
+    (new ≡ record old { broken = true }) × (out_after ≡ out_before)
+AreUntold fault old new out_before out_after lines = ⊥

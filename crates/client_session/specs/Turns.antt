@@ -136,7 +136,7 @@ pub record IsTurn (shape : Extent) (by : ℕ) (t : Turn) : Type 0 where
   pub whole : length t.body ≡ lines_after t.command
   pub does : DoesCommand shape by t.command (turn_text t) t.did
 
--- ---- a command whose reply is lost
+-- ---- a command of which a call wasn't made
 
 -- for `plan` its batch was fetched, or nothing was done
 abbrev pub IsFetching : ℕ → ℕ → List Entry → Type 0
@@ -144,7 +144,7 @@ IsFetching by id entries =
     (entries ≡ []) ⊎ ((batch : List Transfer)
     × (entries ≡ entry by (call.Fetch id) (Fetched batch) ∷ []))
 
--- the entries that a command may have added before one of it was lost
+-- the entries that a command may have added before that
 abbrev pub IsBegun : ℕ → Option SessionCommand → List Entry → Type 0
 IsBegun by (Some (PlanOf id)) entries = IsFetching by id entries
 IsBegun by command entries = entries ≡ []

@@ -111,8 +111,8 @@ fn plan<
     }
 }
 
-/// Does what a line commands that has no lines behind it, and puts the reply line. The fault is that
-/// a call couldn't be recorded.
+/// Does what a line commands that has no lines behind it, and puts the reply line. The fault is
+/// that a call wasn't made, since the record is broken.
 pub(crate) fn answer<
     R: Threads + Wait + Sync,
     L: ExchangeName,

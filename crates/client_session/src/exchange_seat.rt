@@ -1,6 +1,6 @@
 //! A seat, and what its session asks of the exchange.
 
-ghost use Rattle.std.specs.Prelude.{◌≡◌, true, Some, IfOk, IfErr, OnErr};
+ghost use Rattle.std.specs.Prelude.{◌≡◌, true, false, Some, IfOk, IfErr, OnOk, OnErr};
 ghost use Rattle.client_session.specs.declared.fault.ServeFault.TheVariants.{Record};
 ghost use Rattle.client_session.specs.Seats.{seat_view, IsCalled, IsUncalled, IsProgressRead};
 
@@ -28,7 +28,7 @@ impl<'a, L: ExchangeName, P: ConfigPort, W: WireMaker, G, K: History> Model
 
     ghost Value = { SeatView };
 
-    ghost view = { λ d. seat_view d.shared.now.shape d.seat };
+    ghost view = { λ d. seat_view K.loses d.shared.now.shape d.seat };
 
     ghost invariant = { λ d. d.seat.exchange ≡ Some d.shared.now.word };
 }
@@ -44,14 +44,14 @@ impl<'a, L: ExchangeName, P: ConfigPort, W: WireMaker, G, K: History> ExchangeSe
     /// The seat at its exchange.
     pub fn new(shared: &'a Shared<L, P, W, G, K>, seat: Seat<L>) -> ExchangeSeat<'a, L, P, W, G, K>
         requires { seat.exchange ≡ Some shared.now.word }
-        ensures { result ≡ seat_view shared.now.shape seat }
+        ensures { result ≡ seat_view K.loses shared.now.shape seat }
     {
         ExchangeSeat { shared, seat }
     }
 
     /// The seat.
     pub fn into_seat(self) -> Seat<L>
-        ensures { seat_view self.entry.shape result ≡ self.entry }
+        ensures { seat_view self.entry.loses self.entry.shape result ≡ self.entry }
     {
         self.seat
     }
@@ -61,6 +61,13 @@ impl<'a, L: ExchangeName, P: ConfigPort, W: WireMaker, G, K: History> ExchangeSe
         ensures { result ≡ self.now.shape }
     {
         self.shared.shape()
+    }
+
+    /// Whether it may have asked something that can't be told yet.
+    pub fn waits(&self) -> bool
+        ensures { result ≡ true → self.now.loses ≡ true }
+    {
+        K::groups() && self.seat.waits()
     }
 
     /// Reads the progress word.
@@ -79,8 +86,8 @@ impl<L: ExchangeName, P: ConfigPort, W: WireMaker + Sync, G: Gate + Sync, K: His
     G,
     K,
 > {
-    /// Makes a call of the book. The fault is that it couldn't be recorded, or an earlier one
-    /// couldn't.
+    /// Makes a call of the book, whose reply can be told once the seat is settled. The fault is
+    /// that the record is broken.
     pub fn call<R: Threads + Wait + Sync>(
         &mut self,
         rt: &R,
@@ -91,9 +98,19 @@ impl<L: ExchangeName, P: ConfigPort, W: WireMaker + Sync, G: Gate + Sync, K: His
         ensures err { OnErr result (IsUncalled self.old self.new) }
         ensures loses { OnErr result (K.loses ≡ true) }
     {
-        match self.shared.try_call(rt, &mut self.seat, call) {
-            Ok(reply) => Ok(reply),
-            Err(_) => Err(ServeFault::Record),
-        }
+        let reply = self.shared.try_call(rt, &mut self.seat, call)?;
+        Ok(reply)
+    }
+
+    /// Sees to it that all which the session has asked can be told. The fault is that the record is
+    /// broken.
+    pub fn settle<R: Wait>(&mut self, rt: &R) -> Result<(), ServeFault>
+        ensures ok { OnOk result (self.new ≡ record self.old { log = self.old.asked }) }
+        ensures fault { IfErr result (λ fault. fault ≡ Record) }
+        ensures err { OnErr result (self.new ≡ record self.old { broken = true }) }
+        ensures loses { OnErr result (K.loses ≡ true) }
+    {
+        self.shared.settle(rt, &mut self.seat)?;
+        Ok(())
     }
 }

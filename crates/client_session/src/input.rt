@@ -1,14 +1,14 @@
 //! Lines from any reader, through a buffer of its own, with a limit on the calls of `read`.
 
-ghost use Rattle.std.specs.Prelude.{◌≡◌, ◌+◌, ◌-◌, ◌<◌, ◌≤◌, length, take, drop, [], Some, None, MatchResult, MatchOption, IfOk, IfErr};
+ghost use Rattle.std.specs.Prelude.{◌≡◌, ◌+◌, ◌-◌, ◌<◌, ◌≤◌, length, take, drop, [], Some, None, MatchResult, MatchOption, IfSome, IfNone, IfOk, IfErr};
 ghost use Rattle.std.specs.Io.KnownBytes.{IsAtEnd};
-ghost use Rattle.client_session.specs.Bytes.{PendingInput, TakesIn, HasLine, fuel};
+ghost use Rattle.client_session.specs.Bytes.{PendingInput, TakesIn, HasLine, HasNoFeed, fuel};
 ghost use Rattle.client_session.specs.Asking.{GivesEachTime, StopsAsking};
 ghost use Rattle.client_session.specs.Faults.{HasBroughtNothing, IsFaultAt};
 ghost use Rattle.client_session.specs.Steps.{of_input};
 
 use crate::asked_reader::AskedReader;
-use crate::limits::{LINE_BYTES, MAX_READS};
+use crate::limits::{INPUT_BYTES, LINE_BYTES, MAX_READS};
 use std::marker::Model;
 
 /// Why no line came.
@@ -27,21 +27,31 @@ pub(crate) enum InputFault {
 /// Bytes that were read and not yet taken.
 #[derive(Drop)]
 pub(crate) struct Input {
-    buffer: [u8; LINE_BYTES + 1],
-    len: usize,
+    buffer: [u8; INPUT_BYTES],
+    start: usize,
+    end: usize,
     reads: usize,
 }
 
 impl Model for Input {
-    ghost use Rattle.std.specs.Prelude.{◌≤◌, ◌+◌, take};
-    ghost use Rattle.client_session.specs.declared.limits.TheConstants.{LINE_BYTES, MAX_READS};
+    ghost use Rattle.std.specs.Prelude.{◌≤◌};
+    ghost use Rattle.std.specs.List.{between};
+    ghost use Rattle.client_session.specs.declared.limits.TheConstants.{INPUT_BYTES, MAX_READS};
     ghost use Rattle.client_session.specs.Bytes.{PendingInput};
 
     ghost Value = { PendingInput };
 
-    ghost view = { λ s. record { pending = take s.len s.buffer; reads = s.reads } };
+    ghost view = { λ s. record { pending = between s.start s.end s.buffer; reads = s.reads } };
 
-    ghost invariant = { λ s. (s.len ≤ LINE_BYTES + 1) × (s.reads ≤ MAX_READS) };
+    ghost invariant = { λ s. (s.start ≤ s.end) × (s.end ≤ INPUT_BYTES) × (s.reads ≤ MAX_READS) };
+}
+
+/// Where the first line feed of the bytes is.
+fn first_feed(bytes: &[u8]) -> Option<usize>
+    ensures some { IfSome result (λ n. HasLine bytes.now n) }
+    ensures none { IfNone result (HasNoFeed bytes.now) }
+{
+    bytes.iter().position(|b| *b == b'\n')
 }
 
 impl Input {
@@ -49,8 +59,9 @@ impl Input {
         ensures { result ≡ record { pending = []; reads = 0 } }
     {
         Input {
-            buffer: [0; LINE_BYTES + 1],
-            len: 0,
+            buffer: [0; INPUT_BYTES],
+            start: 0,
+            end: 0,
             reads: 0,
         }
     }
@@ -59,7 +70,30 @@ impl Input {
     pub(crate) fn pending(&self) -> &[u8]
         ensures { result.now ≡ self.now.pending }
     {
-        &self.buffer[..self.len]
+        &self.buffer[self.start..self.end]
+    }
+
+    /// The length of the line in front, without its line feed, where it is there. No more is looked
+    /// at than a line and its line feed may have.
+    fn line_length(&self) -> Option<usize>
+        ensures some { IfSome result (λ n. HasLine self.now.pending n × (n ≤ LINE_BYTES)) }
+        ensures none { IfNone result (HasNoFeed (take (LINE_BYTES + 1) self.now.pending)) }
+        ensures room { (length self.now.pending ≤ INPUT_BYTES) × (self.now.reads ≤ MAX_READS) }
+    {
+        let pending = &self.buffer[self.start..self.end];
+        first_feed(&pending[..(LINE_BYTES + 1).min(pending.len())])
+    }
+
+    /// The line in front, where it is there.
+    pub(crate) fn line(&self) -> Option<&[u8]> {
+        let n = self.line_length()?;
+        Some(&self.pending()[..n])
+    }
+
+    /// Whether so many lines are there behind the line in front. Takes time by their length.
+    pub(crate) fn has_lines(&self, count: usize) -> bool {
+        let mut feeds = self.pending().iter().filter(|b| **b == b'\n');
+        feeds.nth(count).is_some()
     }
 
     /// Drops the first n bytes.
@@ -68,12 +102,10 @@ impl Input {
         ensures pending { self.new.pending ≡ drop n self.old.pending }
         ensures reads { self.new.reads ≡ self.old.reads }
     {
-        let len = self.len;
-        self.buffer.copy_within(n..len, 0);
-        self.len = len - n;
+        self.start += n;
     }
 
-    /// Asks the reader once, where there is room.
+    /// Asks the reader once. What is pending is moved to the front first.
     fn fill<R: AskedReader>(&mut self, reader: &mut R) -> Result<usize, InputFault>
         requires { length self.old.pending ≤ LINE_BYTES }
         ensures takes { TakesIn (R.remaining reader.old) (R.remaining reader.new) self.old
@@ -89,16 +121,19 @@ impl Input {
         ensures stops { IfErr result (λ e.
             StopsAsking (R.asked reader.old) (R.asked reader.new) self.old.reads
             (Some (of_input e))) }
-        ensures room { (length self.new.pending ≤ LINE_BYTES + 1) × (self.new.reads ≤ MAX_READS)
+        ensures room { (length self.new.pending ≤ INPUT_BYTES) × (self.new.reads ≤ MAX_READS)
             × (self.old.reads ≤ self.new.reads) }
     {
         if self.reads == MAX_READS {
             return Err(InputFault::Turns);
         }
-        let len = self.len;
+        let len = self.end - self.start;
+        self.buffer.copy_within(self.start..self.end, 0);
+        self.start = 0;
+        self.end = len;
         match reader.ask(&mut self.buffer[len..]) {
             Ok(n) => {
-                self.len = len + n;
+                self.end = len + n;
                 self.reads += n.min(1);
                 Ok(n)
             }
@@ -111,7 +146,7 @@ impl Input {
         ensures ok { IfOk result (λ found. (found ≡ None) × (self.now.pending ≡ [])) }
         ensures err { IfErr result (λ e. (e ≡ InputFault.Cut) × (0 < length self.now.pending)) }
     {
-        if self.len == 0 {
+        if self.start == self.end {
             Ok(None)
         } else {
             Err(InputFault::Cut)
@@ -139,13 +174,13 @@ impl Input {
             (λ e. StopsAsking (R.asked reader.old) (R.asked reader.new) self.old.reads
             (Some (of_input e))) }
         ensures fuel { fuel self.new ≤ fuel self.old }
-        ensures room { (length self.new.pending ≤ LINE_BYTES + 1) × (self.new.reads ≤ MAX_READS) }
+        ensures room { (length self.new.pending ≤ INPUT_BYTES) × (self.new.reads ≤ MAX_READS) }
     {
         loop {
-            if let Some(n) = self.pending().iter().position(|b| *b == b'\n') {
+            if let Some(n) = self.line_length() {
                 return Ok(Some(n));
             }
-            if self.len == LINE_BYTES + 1 {
+            if self.pending().len() > LINE_BYTES {
                 return Err(InputFault::LineTooLong);
             }
             if self.fill(reader)? == 0 {

@@ -2,14 +2,14 @@
 //!
 //! [`serve`] reads the commands of one client and answers them from one seat of an exchange.
 //! Contracts see a session as a relation between the bytes that were read, the entries that are new
-//! in the seat's list, the progress that the seat has seen, and the bytes that were written
+//! in what the seat asked, the progress that the seat has seen, and the bytes that were written
 //! (`HasEnded` of `specs/Sessions.antt`). A line means one command at most (`laws::one_meaning`).
 //! Each command did what the table of commands says (`DoesCommand` of `specs/Turns.antt`), and what
 //! was written are their reply lines, in order. No reading of the progress is behind an earlier one
-//! (`AreReadings`). Where a fault ends the session, the commands before it were served. Where that
-//! is a call which couldn't be recorded, its command was read whole, and nothing is told of it
-//! (`IsBroken`). A reader that counts is asked at most a million times (`AsksWithinLimit` of
-//! `specs/Asking.antt`).
+//! (`AreReadings`). Where entries may wait to be recorded, replies are held until theirs are, and
+//! told together. Where a fault ends the session, the commands before it were served. Where the
+//! record is broken, nothing is told of those whose replies were held (`IsBroken`). A reader that
+//! counts is asked at most a million times (`AsksWithinLimit` of `specs/Asking.antt`).
 //!
 //! A [`Listener`] hears beside them what was said, and what of it is refused. What it tells is told
 //! of refusals (`TellsOfRefusals` of `specs/Listening.antt`); which ones no contract says.
@@ -20,6 +20,7 @@ mod asked_reader;
 mod command;
 mod exchange_seat;
 mod fault;
+mod held_lines;
 mod input;
 pub mod laws;
 mod limits;
@@ -32,6 +33,6 @@ mod turns;
 pub use asked_reader::{AskedReader, CountedReader};
 pub use command::SessionCommand;
 pub use fault::ServeFault;
-pub use limits::{COMMAND_ROOM, LINE_BYTES, MAX_READS};
+pub use limits::{COMMAND_ROOM, INPUT_BYTES, LINE_BYTES, MAX_READS};
 pub use listener::{Listener, NoListener};
 pub use serving::serve;

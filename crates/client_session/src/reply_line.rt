@@ -225,7 +225,8 @@ impl ReplyLine {
 
     /// The line.
     pub fn as_bytes(&self) -> &[u8]
-        ensures { result.now ≡ self.now }
+        ensures line { result.now ≡ self.now }
+        ensures room { length self.now ≤ LINE_ROOM }
     {
         self.line.as_bytes()
     }

@@ -1,56 +1,199 @@
 //! The session.
 
-ghost use Rattle.std.specs.Prelude.{◌≡◌, true, Some, OnOk, IfErr};
+ghost use Rattle.std.specs.Prelude.{◌≡◌, ◌<◌, ◌≤◌, ◌+◌, [], true, false, Some, OnOk, OnErr, IfErr, length};
 ghost use Rattle.std.specs.Io.KnownBytes.{Appends};
+ghost use Rattle.byte_streams.specs.Writing.{IsCutShort};
+ghost use Rattle.line_words.specs.declared.limits.TheConstants.{LINE_ROOM};
 ghost use Rattle.batch_book.specs.Seats.{IsSameSeat};
 ghost use Rattle.client_session.specs.Asking.{AsksWithinLimit};
 ghost use Rattle.client_session.specs.Listening.{TellsOfRefusals};
-ghost use Rattle.client_session.specs.Sessions.{HasEnded, GoesThrough, IsServed, fault_in, seat_back, fault_back};
-ghost use Rattle.client_session.specs.Steps.{IsCutLine};
+ghost use Rattle.client_session.specs.Seats.{seat_view};
+ghost use Rattle.client_session.specs.Sessions.{HasEnded, HoldsAtEnd, GoesThrough, IsAllTold, IsServed, cuts_off, fault_in, seat_back, fault_back};
+ghost use Rattle.client_session.specs.Steps.{AreTold, AreUntold, MayTell};
+ghost use Rattle.client_session.specs.declared.limits.TheConstants.{HELD_BYTES};
 
 use crate::asked_reader::AskedReader;
+use crate::command::SessionCommand;
 use crate::exchange_seat::ExchangeSeat;
 use crate::fault::ServeFault;
+use crate::held_lines::HeldLines;
 use crate::input::Input;
 use crate::listener::Listener;
 use crate::reply_line::ReplyLine;
 use crate::turns::turn;
 use batch_book::{ExchangeName, History, Seat, Shared};
+use byte_streams::write_bytes;
 use crossbar::ConfigPort;
 use exchange_limits::WorkerCount;
 use peek_poke::WireMaker;
+use refusals::Refusal;
 use schedule_certificate::Gate;
 use std::alloc::Global;
 use std::io::Write;
 use std::sync::Wait;
 use std::thread::Threads;
 
-/// Writes the line whole, or a front of it.
-fn send<O: Write>(writer: &mut O, line: &[u8]) -> Result<(), ServeFault>
-    ensures ok { OnOk result (Appends (O.contents writer.old) (O.contents writer.new) line.now) }
-    ensures err { IfErr result (λ e.
-        IsCutLine e (O.contents writer.old) (O.contents writer.new) line.now) }
+/// Writes the bytes, where there are any.
+fn send<O: Write>(writer: &mut O, bytes: &[u8]) -> Result<(), ServeFault>
+    ensures ok { OnOk result (Appends (O.contents writer.old) (O.contents writer.new) bytes.now) }
+    ensures fault { IfErr result (λ e. e ≡ ServeFault.Write) }
+    ensures some { OnErr result (0 < length bytes.now) }
+    ensures err { OnErr result
+        (IsCutShort (O.contents writer.old) (O.contents writer.new) bytes.now) }
 {
-    let mut rest = line;
-    while !rest.is_empty() {
-        match writer.write(rest) {
-            Ok(0) => return Err(ServeFault::Write),
-            Ok(n) => rest = &rest[n..],
-            Err(_) => return Err(ServeFault::Write),
-        }
+    if bytes.is_empty() {
+        return Ok(());
     }
-    match writer.flush() {
+    match write_bytes(writer, bytes) {
         Ok(()) => Ok(()),
         Err(_) => Err(ServeFault::Write),
     }
 }
 
-/// Tells of the refusal that a line says, where it says one.
-fn tell_refusal<H: Listener>(listener: &mut H, line: &ReplyLine)
+/// Tells of a refusal, where there is one.
+fn tell_refusal<H: Listener>(listener: &mut H, refusal: Option<Refusal>)
     ensures { TellsOfRefusals H.may_tell (H.told listener.old) (H.told listener.new) }
 {
-    if let Some(refusal) = line.refusal() {
+    if let Some(refusal) = refusal {
         listener.refused(refusal);
+    }
+}
+
+/// Sees to it that all which the session has asked can be told, and then writes the lines that are
+/// held, together. The listener hears of the refusal that the last line says.
+fn tell<
+    R: Wait,
+    L: ExchangeName,
+    P: ConfigPort,
+    W: WireMaker + Sync,
+    G: Gate + Sync,
+    K: History,
+    O: Write,
+    H: Listener,
+>(
+    rt: &R,
+    seat: &mut ExchangeSeat<'_, L, P, W, G, K>,
+    writer: &mut O,
+    listener: &mut H,
+    held: &mut HeldLines,
+) -> Result<(), ServeFault>
+    ensures ok { OnOk result (AreTold seat.old seat.new (O.contents writer.old)
+        (O.contents writer.new) held.old) }
+    ensures none { OnOk result (held.new ≡ []) }
+    ensures err { IfErr result (λ e. AreUntold e seat.old seat.new (O.contents writer.old)
+        (O.contents writer.new) held.old) }
+    ensures loses { IfErr result (λ e. e ≡ ServeFault.Record → K.loses ≡ true) }
+    ensures beside { TellsOfRefusals H.may_tell (H.told listener.old) (H.told listener.new) }
+{
+    seat.settle(rt)?;
+    send(writer, held.as_bytes())?;
+    tell_refusal(listener, held.clear());
+    Ok(())
+}
+
+/// Whether the command in front of the input is done at once: its lines are there, and it plans
+/// and runs nothing.
+fn is_quick(input: &Input) -> bool {
+    let Some(line) = input.line() else {
+        return false;
+    };
+    if line.starts_with(b"r") || line.starts_with(b"pl") {
+        return false;
+    }
+    if !line.starts_with(b"ba") {
+        return true;
+    }
+    match SessionCommand::read(line) {
+        Some(SessionCommand::Batch(count)) => input.has_lines(count),
+        _ => true,
+    }
+}
+
+/// Tells what is held, where no more is to be held before the next command.
+fn tell_first<
+    R: Wait,
+    L: ExchangeName,
+    P: ConfigPort,
+    W: WireMaker + Sync,
+    G: Gate + Sync,
+    K: History,
+    O: Write,
+    H: Listener,
+>(
+    rt: &R,
+    seat: &mut ExchangeSeat<'_, L, P, W, G, K>,
+    input: &Input,
+    writer: &mut O,
+    listener: &mut H,
+    held: &mut HeldLines,
+) -> Result<(), ServeFault>
+    ensures ok { OnOk result (MayTell seat.old seat.new (O.contents writer.old)
+        (O.contents writer.new) held.old held.new) }
+    ensures room { OnOk result (length held.new + LINE_ROOM ≤ HELD_BYTES) }
+    ensures err { IfErr result (λ e. AreUntold e seat.old seat.new (O.contents writer.old)
+        (O.contents writer.new) held.old) }
+    ensures loses { IfErr result (λ e. e ≡ ServeFault.Record → K.loses ≡ true) }
+    ensures beside { TellsOfRefusals H.may_tell (H.told listener.old) (H.told listener.new) }
+{
+    if held.has_room() && seat.waits() && !held.refuses() && is_quick(input) {
+        return Ok(());
+    }
+    tell(rt, seat, writer, listener, held)
+}
+
+/// Serves the session of a seat at its exchange, but for its last reply lines, which are held.
+fn serve_lines<
+    R: Threads + Wait + Sync,
+    L: ExchangeName,
+    P: ConfigPort,
+    W: WireMaker + Sync,
+    G: Gate + Sync,
+    K: History,
+    I: AskedReader,
+    O: Write,
+    H: Listener,
+>(
+    rt: &R,
+    alloc: Global,
+    seat: &mut ExchangeSeat<'_, L, P, W, G, K>,
+    reader: &mut I,
+    writer: &mut O,
+    listener: &mut H,
+    workers: WorkerCount,
+    held: &mut HeldLines,
+) -> Result<(), ServeFault>
+    requires { held.old ≡ [] }
+    ensures session { IsAllTold seat.old → GoesThrough (I.remaining reader.old)
+        (I.remaining reader.new) (O.contents writer.old) (O.contents writer.new) seat.old seat.new
+        (HoldsAtEnd (fault_in result) (I.remaining reader.new) held.new seat.old seat.new) }
+    ensures asks { AsksWithinLimit (I.asked reader.old) (I.asked reader.new) (fault_in result) }
+    ensures loses { fault_in result ≡ Some ServeFault.Record → K.loses ≡ true }
+    ensures beside { TellsOfRefusals H.may_tell (H.told listener.old) (H.told listener.new) }
+{
+    let mut input = Input::new();
+    loop {
+        tell_first(rt, seat, &input, writer, listener, held)?;
+        let Some(n) = input.next_line(reader)? else {
+            return Ok(());
+        };
+        let mut line = ReplyLine::new();
+        let ends = turn(
+            rt, alloc, seat, &mut input, reader, listener, &mut line, n, workers,
+        )?;
+        held.put(&line);
+        if ends {
+            return Ok(());
+        }
+    }
+}
+
+/// Whether a session that ended so tells no more.
+fn is_cut_off(ended: &Result<(), ServeFault>) -> bool
+    ensures { result ≡ cuts_off (fault_in ended.now) }
+{
+    match ended {
+        Err(ServeFault::Write) | Err(ServeFault::Record) => true,
+        _ => false,
     }
 }
 
@@ -74,36 +217,37 @@ fn serve_seat<
     listener: &mut H,
     workers: WorkerCount,
 ) -> Result<(), ServeFault>
-    ensures session { GoesThrough (I.remaining reader.old) (I.remaining reader.new)
-        (O.contents writer.old) (O.contents writer.new) seat.old seat.new
+    ensures session { IsAllTold seat.old → GoesThrough (I.remaining reader.old)
+        (I.remaining reader.new) (O.contents writer.old) (O.contents writer.new) seat.old seat.new
         (HasEnded (fault_in result) (I.remaining reader.new) seat.old seat.new) }
     ensures asks { AsksWithinLimit (I.asked reader.old) (I.asked reader.new) (fault_in result) }
     ensures loses { fault_in result ≡ Some ServeFault.Record → K.loses ≡ true }
     ensures beside { TellsOfRefusals H.may_tell (H.told listener.old) (H.told listener.new) }
 {
-    let mut input = Input::new();
-    while let Some(n) = input.next_line(reader)? {
-        let mut line = ReplyLine::new();
-        let ends = turn(
-            rt, alloc, seat, &mut input, reader, listener, &mut line, n, workers,
-        )?;
-        send(writer, line.as_bytes())?;
-        tell_refusal(listener, &line);
-        if ends {
-            return Ok(());
-        }
+    let mut held = HeldLines::new();
+    let ended = serve_lines(
+        rt, alloc, seat, reader, writer, listener, workers, &mut held,
+    );
+    if is_cut_off(&ended) {
+        return ended;
     }
-    Ok(())
+    tell(rt, seat, writer, listener, &mut held)?;
+    ended
 }
 
 /// Serves the session of one client from a seat: reads its commands, and writes a reply line to
-/// each, whole, before the next command is looked at. The seat comes back, whether the session
-/// ended by itself, behind a whole command or by `bye`, or by a fault.
+/// each. The seat comes back, whether the session ended by itself, behind a whole command or by
+/// `bye`, or by a fault.
+///
+/// Each line is written before the next command is looked at. But where entries may wait to be
+/// recorded, the commands that are there are done at once, and their lines are held until all are
+/// recorded, and written together: before more is read, before a plan, a run, or a batch that isn't
+/// all there, and behind a refusal.
 ///
 /// A client that asks for a plan has it made by so many workers, outside the exchange's lock. A
 /// reply takes no memory, so none is lost for want of it whose call was made; want of memory is a
-/// reply, but for the text of a batch, where it ends the session. A call that couldn't be recorded,
-/// or one behind it, ends it too: no reply is written that isn't recorded.
+/// reply, but for the text of a batch, where it ends the session. A broken record ends it too: no
+/// reply is written that isn't recorded.
 ///
 /// The listener hears each command, and each line that is none, before it is done, and each refusal
 /// behind its reply line. What it tells stands behind what it had told, and is told of such
@@ -134,10 +278,12 @@ pub fn serve<
     workers: WorkerCount,
 ) -> Result<Seat<L>, (Seat<L>, ServeFault)>
     requires seat { seat.exchange ≡ Some shared.now.word }
+    requires told { seat.log ≡ seat.asked }
     ensures seat { IsSameSeat seat (seat_back result) }
-    ensures session { IsServed shared.now.shape seat result
+    ensures session { IsServed (seat_view K.loses shared.now.shape) seat result
         (I.remaining reader.old) (I.remaining reader.new)
         (O.contents writer.old) (O.contents writer.new) }
+    ensures told { K.loses ≡ false → (seat_back result).log ≡ (seat_back result).asked }
     ensures asks { AsksWithinLimit (I.asked reader.old) (I.asked reader.new) (fault_back result) }
     ensures loses { fault_back result ≡ Some ServeFault.Record → K.loses ≡ true }
     ensures beside { TellsOfRefusals H.may_tell (H.told listener.old) (H.told listener.new) }

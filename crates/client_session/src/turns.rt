@@ -13,7 +13,7 @@ use crate::command::SessionCommand;
 use crate::exchange_seat::ExchangeSeat;
 use crate::fault::ServeFault;
 use crate::input::Input;
-use crate::limits::{LINE_BYTES, MAX_READS};
+use crate::limits::{INPUT_BYTES, LINE_BYTES, MAX_READS};
 use crate::listener::Listener;
 use crate::reply_line::ReplyLine;
 use batch::MAX_TRANSFERS;
@@ -75,7 +75,7 @@ fn batch<
 ) -> Result<(), ServeFault>
     requires empty { line.old ≡ [] }
     requires found { HasLine input.old.pending n × (n ≤ LINE_BYTES) }
-    requires room { length input.old.pending ≤ LINE_BYTES + 1 }
+    requires room { length input.old.pending ≤ INPUT_BYTES }
     requires reads { input.old.reads ≤ MAX_READS }
     requires means { BeginsBatch (take n input.old.pending) count }
     ensures ok { OnOk result (TurnTaken (I.remaining reader.old) (I.remaining reader.new)
@@ -142,7 +142,7 @@ pub(crate) fn turn<
 ) -> Result<bool, ServeFault>
     requires empty { line.old ≡ [] }
     requires found { HasLine input.old.pending n × (n ≤ LINE_BYTES) }
-    requires room { length input.old.pending ≤ LINE_BYTES + 1 }
+    requires room { length input.old.pending ≤ INPUT_BYTES }
     requires reads { input.old.reads ≤ MAX_READS }
     ensures ok { IfOk result (λ ends. TurnTaken (I.remaining reader.old) (I.remaining reader.new)
         input.old input.new seat.old seat.new line.new ends) }

@@ -48,7 +48,7 @@ impl Lack {
     fn message(self) -> &'static str {
         match self {
             Lack::Word => "a word is missing",
-            Lack::Planning => "`--steady` and `--workers` exclude each other",
+            Lack::Planning => "`--steady` plans with one worker: leave `--workers` out",
             Lack::Source => "`--schedule` excludes `--steady` and `--workers`",
             Lack::Record => "`--resume` and `--sync` are for `--record`",
             Lack::Clients => "a client's name is empty or has a line feed",

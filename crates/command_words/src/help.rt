@@ -466,7 +466,8 @@ SHAPE is MxKxW, in the form that `exchange run --help` shows. 1 to 16 clients
 are served at once, each in a thread of its own, on one exchange: one rack,
 whose words are at first 0, or those of the image where there is one. Lines and
 replies are those that `exchange serve --help` shows. Each reply is written as
-soon as it is there, and before the client's next line is read.
+soon as it is there, and before the client's next line is read. With --record,
+lines that come together are answered together.
 
 What a client says is read from CLIENT.in, and its replies are written to
 CLIENT.out. Usually both are named pipes. Plain files work too: CLIENT.out is
@@ -493,7 +494,7 @@ host that is killed leaves all that was answered, and no line `end`. With
 --resume FILE may have what such a host left, if that had the same SHAPE, image
 and clients: its calls are made again, what isn't whole is cut off, and the
 clients go on where it ends, each in the session of its place. With --sync a
-reply is sent once its entry is on the disk; each call then waits for that.
+reply is sent once its entry is on the disk; all calls then wait for that.
 --image-out writes the words at the end, in the form that
 `exchange apply --help` shows, to a new file that then takes the name FILE.
 

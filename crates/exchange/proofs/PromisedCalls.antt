@@ -1,6 +1,6 @@
 -- The promises of `serve`, `host` and `talk`: what the files of a record and of an image hold, and how
 -- the program ends.
-use Rattle.std.proofs.Common.{◌≡◌, ◌≢◌, ◌≤◌, ◌∙◌, ◌++◌, ◌+◌, ◌||◌, ℕ, Bool, true, false, List, [], ◌∷◌, length, take, map, fold, Option, Some, None, inl, inr, ◌⊎◌, refl, sym, ap, ap₂, subst, append-nil, arith}
+use Rattle.std.proofs.Common.{◌≡◌, ◌≢◌, ◌≤◌, ◌∙◌, ◌++◌, ◌+◌, ◌||◌, ℕ, true, false, List, [], ◌∷◌, length, map, fold, Option, Some, None, inl, inr, ◌⊎◌, refl, sym, ap, ap₂, subst, append-nil}
 use Rattle.std.specs.Prelude.{IfSome, codes, is_some, option_map, option_to_list, slice_get}
 use Rattle.std.specs.List.{AllByRecursion, flat_map, list_any}
 use Rattle.std.proofs.lemmas.List.Elements.{recursion_from_All}
@@ -8,13 +8,11 @@ use Rattle.batch.specs.Extent.{Extent}
 use Rattle.batch_book.proofs.OneReplay.{shape_stays}
 use Rattle.batch_book.specs.History.{Account, new_account}
 use Rattle.batch_book.specs.Machine.{Machine, opened}
-use Rattle.batch_book.specs.Recording.{AreAllBut}
 use Rattle.batch_book.specs.Seats.{own}
 use Rattle.batch_book.specs.Values.{greatest}
 use Rattle.batch_book.specs.declared.entry.Entry.{Entry}
 use Rattle.book_record.specs.Fronts.{end_line}
 use Rattle.book_record.specs.Heads.{session_limit}
-use Rattle.book_record.specs.RecordText.{entry_text}
 use Rattle.clap.specs.Words.{Text}
 use Rattle.client_session.specs.Turns.{AreReadings, turn_text}
 use Rattle.client_session.specs.declared.fault.ServeFault.{ServeFault}
@@ -26,9 +24,9 @@ use Rattle.command_words.specs.declared.jobs.SharedRack.{SharedRack}
 use Rattle.command_words.specs.declared.uses.Access.TheVariants.{Write}
 use Rattle.command_words.specs.declared.uses.FileUse.{FileUse}
 use Rattle.exchange.proofs.EndStatuses.{gave_up}
-use Rattle.exchange.proofs.PromisedSessions.{AreCallsOf, HasOwn, all_are_told, all_sessions, are_calls, calls_of, in_order, one_session, opens, seen_within, shape_of}
+use Rattle.exchange.proofs.PromisedSessions.{AreCallsOf, HasOwn, all_own, all_sessions, all_stand, are_calls, calls_of, in_order, one_session, opens, seen_within, session_so, shape_of}
 use Rattle.exchange.specs.Keeping.{AreKeptBut}
-use Rattle.exchange.specs.Promises.{AreHeld, AreAllHeld, AreKept, AreKeptInPart, AreToldKept, Calls, GoesOnFrom, HasHosted, HasRefusedSessions, HasServed, HasTalked, HoldsGiven, Hosted, IsAsItWas, IsBegun, IsEmpty, IsHosted, IsKept, IsKeptInPart, IsSessionOf, IsUnput, IsWrongLive, IsWrongRackOf, Run, Session, calls_told, clients_of, hosted_text, kept_by, name_at, record_of, whole_record}
+use Rattle.exchange.specs.Promises.{AreHeld, AreAllHeld, AreKept, AreKeptInPart, AreToldKept, Calls, GoesOnFrom, HasHosted, HasRefusedSessions, HasServed, HasTalked, HoldsGiven, Hosted, IsAsItWas, IsBegun, IsEmpty, IsHosted, IsKept, IsKeptInPart, IsSessionOf, IsUnput, IsWrongLive, IsWrongRackOf, Run, Session, all_turns, clients_of, hosted_text, kept_by, name_at, whole_record}
 use Rattle.exchange.specs.Responses.{Given, IsResponseTo, Named, Response}
 use Rattle.kept_sessions.specs.Answers.{IsLiveAnswer, IsWrongStart, hosting, loses, talking}
 use Rattle.kept_sessions.specs.Keeping.{AreLiveKept, AreScriptsKept, AreWritten, HasAllTold}
@@ -49,6 +47,7 @@ use Rattle.plan_answers.specs.Refusals.{Printed, Refuses}
 use Rattle.plan_answers.specs.declared.limits.TheConstants.{REFUSED}
 use Rattle.rack_answers.specs.Openings.{IsOfImageOrZeros}
 use Rattle.record_replay.specs.Replays.{IsRemade}
+use Rattle.record_replay.specs.SessionRecords.{record_of}
 use Rattle.record_replay.specs.declared.fault.RecordFault.{RecordFault}
 use Rattle.refusals.specs.Refusals.{refusal_line}
 use Rattle.refusals.specs.declared.refusal.Refusal.{Refusal}
@@ -63,13 +62,6 @@ use Rattle.session_answers.specs.declared.ended_session.Ending.TheVariants.{Serv
 
 -- ---- the files of a record and of an image
 
--- as many of one list as of another are the same
-same_front : (whole : Bool) (a b all : List Entry) → AreAllBut whole a all → AreAllBut whole b all → a ≡ b
-same_front whole a b all x y =
-    let many = x.1 in let others = y.1 in
-    let same : length a ≡ length b = omega (arith, many, others) in
-    x.0 ∙ ap (λ (n : ℕ). take n all) same ∙ sym y.0
-
 module _ {C : Type 0} (received : C → Closed) where
   whole_kept : (name : Option Text) (bytes : List ℕ) (receipt : Option C) → IsFileWritten received name bytes receipt None → IsKept (is_some name) bytes (option_map received receipt)
   whole_kept None bytes receipt is = ap (λ (r : Option C). option_map received r) is.0
@@ -83,19 +75,18 @@ module _ {C : Type 0} (received : C → Closed) where
   part_kept (Some name) bytes (Some receipt) (Some lost) is = (is.0, λ stands. absurd (let bad : true ≡ false = sym stands ∙ is.1 in cc))
 
   front_kept : (name : Option Text) (bytes : List ℕ) (receipt : Option C) (lost : Option Reason) (names : List Text) (book : Account) (calls : Calls) → AreCallsOf calls book → IsFileWritten received name bytes receipt lost → IfSome receipt (λ r. HasAllTold names book (received r).bytes)
-      → IsBegun (is_some name) (record_of names calls.opening (calls_told calls)) (option_map received receipt)
+      → IsBegun (is_some name) (record_of names calls.opening (calls.earlier ++ calls.standing)) (option_map received receipt)
   front_kept None bytes receipt lost names book calls are is told = ap (λ (r : Option C). option_map received r) is.0
   front_kept (Some name) bytes None lost names book calls are is told = absurd is
   front_kept (Some name) bytes (Some receipt) lost names book calls are is told =
-      let same : told.told ≡ calls_told calls = same_front book.whole told.told (calls_told calls) book.history told.all are.told in
-      (told.rest, told.stands ∙ ap₂ (λ (o : Store) (es : List Entry). Some ((head_for o names ++ flat_map entry_text es) ++ told.rest)) (sym are.opening) same)
+      let r = told.2 in (r.rest, told.1 ∙ ap (λ (x : List ℕ). Some x) r.has ∙ ap₂ (λ (o : Store) (es : List Entry). Some (record_of names o es ++ r.rest)) (sym are.opening) (sym are.stand))
 
   unput : (name : Option Text) (receipt : Option C) → HasNothingGone received name receipt → IsUnput (option_map received receipt)
   unput name None is = tt
   unput name (Some receipt) is = ap (λ (c : Closed). c.stands) is.1
 
   record_is : (names : List Text) (calls : Calls) (book : Account) → AreCallsOf calls book → whole_of names book ≡ whole_record names calls
-  record_is names calls book are = ap₂ (λ (o : Store) (es : List Entry). (head_for o names ++ flat_map entry_text es) ++ end_line) (sym are.opening) (sym are.entries)
+  record_is names calls book are = ap₂ (λ (o : Store) (es : List Entry). record_of names o es ++ end_line) (sym are.opening) (sym are.entries)
 
   image_is : (calls : Calls) (book : Account) → AreCallsOf calls book → image_of book.machine.store ≡ image_of calls.left.store
   image_is calls book are = ap (λ (m : Machine). image_of m.store) (sym are.machine)
@@ -114,10 +105,7 @@ module _ {C : Type 0} (received : C → Closed) where
     )
 
     pub are_told : (lost : Lost) → AreWritten received (recorded_in rack) rack.image_out names book receipts lost → IfSome receipts.recorded (λ r. HasAllTold names book (received r).bytes) → AreToldKept (kept_by received receipts) rack names calls
-    are_told lost is told = (
-      front_kept (recorded_in rack) (whole_of names book) receipts.recorded lost.recorded names book calls are is.0 told,
-      part_kept rack.image_out _ receipts.image lost.image (subst (λ (x : List ℕ). IsFileWritten received rack.image_out x receipts.image lost.image) (image_is calls book are) is.1),
-    )
+    are_told lost is told = (are_part lost is, front_kept (recorded_in rack) (whole_of names book) receipts.recorded lost.recorded names book calls are is.0 told)
 
 -- ---- what comes of a job that has sessions
 
@@ -205,24 +193,25 @@ module _ {C : Type 0} (received : C → Closed) (receipts : Receipts C) (lost : 
       let one = closing.one in
       let b = beginning false (new_account opening) in
       let parts = map (λ (t : Transcript). t.part) sessions in
-      let all = all_sessions b one.told texts sessions (recursion_from_All (HasItsScript b texts) sessions of.each) (recursion_from_All (HasOwn one.told) parts one.are_parts) in
-      let are = are_calls false opening [] parts book one in
+      let calls = calls_of false opening [] one.made one.standing book in
+      let all = all_sessions b calls texts sessions refl (recursion_from_All (HasItsScript b texts) sessions of.each) (all_own false opening [] parts book one) in
       let written = subst (λ (l : Option Account). AreScriptsKept received (recorded_in rack) rack.image_out l receipts lost) is_left kept in
       inl (record {
         extent = of_rack.extent;
-        calls = calls_of opening [] one.told book;
+        calls = calls;
         texts = texts;
         sessions = all.0;
         begins = record { shaped = of_rack.shape_read; opens = opens run rack.image bytes of_rack.extent opening held_image of_rack.words };
         held = held;
         numbers = all.1.numbers ∙ of.numbers;
-        each = subst (λ (e : Extent). AllByRecursion (λ (s : Session). IsSessionOf e one.told (slice_get texts s.number) s) all.0) (shape_of bytes of_rack.extent opening of_rack.words) all.1.each;
+        each = subst (λ (e : Extent). AllByRecursion (λ (s : Session). IsSessionOf e calls (slice_get texts s.number) s) all.0) (shape_of bytes of_rack.extent opening of_rack.words) all.1.each;
         order = in_order false opening [] parts book one all.0 (all.1.entries 0) (all.1.seen (greatest book.history) (recursion_from_All (λ (p : Part). p.seen ≤ greatest book.history) parts one.seen));
         no_earlier = refl;
-        whole = all_are_told false opening [] parts book one refl;
+        unrecorded = refl;
+        whole = all_stand false opening [] parts book one refl;
         status = status ∙ closing.status ∙ ap status_at all.1.failed;
         prints = subst run.prints (closing.prints ∙ all.1.text) prints;
-        kept = keep book (calls_of opening [] one.told book) are written;
+        kept = keep book calls (are_calls false opening [] parts book one) written;
       })
 
   pub scripts_come : (named : Named) (given : Given) (ends : List SessionEnd) (workers : ℕ)
@@ -258,24 +247,24 @@ kept_named (Some recorded) image name is all = λ same. all.0 tt ((let e : recor
 record HasBegunSo (run : Run) (record_out : Option RecordFile) (opening : Store) (names : List Text) (was : Account) : Type 0 where
   is_opening : was.opening ≡ opening
   shape : was.machine.store.shape ≡ opening.shape
-  goes_on : (calls : Calls) → calls.opening ≡ was.opening → calls.earlier ≡ was.history → (is_some record_out ≡ false → calls.untold ≡ []) → GoesOnFrom run record_out names calls
+  goes_on : (calls : Calls) → calls.opening ≡ was.opening → calls.earlier ≡ was.history → calls.recorded ≡ is_some record_out → (is_some record_out ≡ false → calls.standing ≡ calls.made) → GoesOnFrom run record_out names calls
 
 begun_so : (run : Run) (holds : Holding) (record_out : Option RecordFile) (opening : Store) (names : List Text) (was : Account) → ((out : RecordFile) (text : List ℕ) → record_out ≡ Some out → holds out.name text → run.holds out.name text) → BeginsFor holds record_out opening names was → HasBegunSo run record_out opening names was
 begun_so run holds None opening names was by_name is = record {
   is_opening = ap (λ (a : Account). a.opening) is;
   shape = ap (λ (a : Account). a.machine.store.shape) is;
-  goes_on = λ calls same earlier none. (earlier ∙ ap (λ (a : Account). a.history) is, none refl);
+  goes_on = λ calls same earlier recorded none. (earlier ∙ ap (λ (a : Account). a.history) is, recorded, none refl);
 }
 begun_so run holds (Some out) opening names was by_name (held, holds_so, inl new) = record {
   is_opening = ap (λ (a : Account). a.opening) new.2;
   shape = ap (λ (a : Account). a.machine.store.shape) new.2;
-  goes_on = λ calls same earlier none.
+  goes_on = λ calls same earlier recorded none.
       (held, by_name out held refl holds_so, inl (earlier ∙ ap (λ (a : Account). a.history) new.2, (new.0, ap (λ (o : Store). head_for o names) (same ∙ ap (λ (a : Account). a.opening) new.2) ∙ new.1)));
 }
 begun_so run holds (Some out) opening names was by_name (held, holds_so, inr (resumes, r)) = record {
   is_opening = r.is_opening;
   shape = shape_stays (opened opening) was.history was.machine r.remade.replayed.replay;
-  goes_on = λ calls same earlier none.
+  goes_on = λ calls same earlier recorded none.
       let at : opening ≡ calls.opening = sym r.is_opening ∙ sym same in (
         held,
         by_name out held refl holds_so,
@@ -316,29 +305,29 @@ first_end a b more others same = cc
 other_ends : (a b : SessionEnd) (more others : List SessionEnd) → a ∷ more ≡ b ∷ others → more ≡ others
 other_ends a b more others same = cc
 
-module _ (comes : Text → Option (List ℕ)) (had : Text → List ℕ) (names : List Text) (endings : List (Ending (List ℕ))) (b : Beginning) (history : List Entry) where
+module _ (comes : Text → Option (List ℕ)) (had : Text → List ℕ) (names : List Text) (endings : List (Ending (List ℕ))) (b : Beginning) (calls : Calls) (recorded : b.loses ≡ calls.recorded) where
   abbrev Known : KnownClients
   Known = clients_by comes had names
 
   abbrev IsHostedAt : Hosted → Type 0
-  IsHostedAt h = IsHosted b.shape history (clients_of comes had endings) (name_at names h.its.number) h.its h.end
+  IsHostedAt h = IsHosted b.shape calls (clients_of comes had endings) (name_at names h.its.number) h.its h.end
 
   record IsHostedOne (v : HostedSession) (e : Ending (List ℕ)) (h : Hosted) : Type 0 where
     number : h.its.number ≡ v.part.session
     end : h.end ≡ e
-    own_are : own h.its.number history ≡ v.part.entries
-    seen : AreReadings b.seen v.part.seen h.its.turns
+    own_are : own h.its.number calls.made ≡ v.part.asked
+    seen : AreReadings b.seen v.part.seen (all_turns h.its)
     is : IsHostedAt h
 
-  one_hosted : (part : Part) (end : SessionEnd) (e : Ending (List ℕ)) → end ≡ seen_end Some e → IsHostedSession b Known part end → HasOwn history part → (h : Hosted) × IsHostedOne (record { part = part; end = end }) e h
+  one_hosted : (part : Part) (end : SessionEnd) (e : Ending (List ℕ)) → end ≡ seen_end Some e → IsHostedSession b Known part end → HasOwn calls part → (h : Hosted) × IsHostedOne (record { part = part; end = end }) e h
   one_hosted part end Unopened is hosted own_is =
       let unopened = subst (λ (x : SessionEnd). IsHostedSession b Known part x) is hosted in (
-        record { its = record { number = part.session; turns = []; told = []; rest = []; fault = None }; end = Unopened },
-        record { number = refl; end = refl; own_are = sym own_is; seen = record { low = tt; high = tt; rising = tt }; is = sym own_is ∙ unopened.entries },
+        record { its = session_so part.session None [] [] [] []; end = Unopened },
+        record { number = refl; end = refl; own_are = sym own_is.0; seen = record { low = tt; high = tt; rising = tt }; is = sym own_is.0 ∙ unopened.asked },
       )
   one_hosted part end (Served fault bytes) is hosted own_is =
       let w = subst (λ (x : SessionEnd). IsHostedSession b Known part x) is hosted in
-      let one = one_session b history (comes (name_at names part.session ++ codes ".in")) w.rest (record { part = part; told = w.told; fault = fault }) w.session own_is in
+      let one = one_session b calls (comes (name_at names part.session ++ codes ".in")) w.rest (record { part = part; told = w.told; fault = fault }) recorded w.session own_is in
       let at : name_at names part.session ≡ name_at names one.0.number = ap (name_at names) (sym one.1.number) in (
         record { its = one.0; end = Served fault bytes },
         record {
@@ -347,7 +336,7 @@ module _ (comes : Text → Option (List ℕ)) (had : Text → List ℕ) (names :
           own_are = one.1.own_are;
           seen = one.1.seen;
           is = (
-            subst (λ (n : Text). IsSessionOf b.shape history (comes (n ++ codes ".in")) one.0) at one.1.is,
+            subst (λ (n : Text). IsSessionOf b.shape calls (comes (n ++ codes ".in")) one.0) at one.1.is,
             one.1.fault,
             w.wrote ∙ ap₂ (λ (n : Text) (x : List ℕ). had (n ++ codes ".out") ++ x) at (sym one.1.told),
           );
@@ -359,10 +348,10 @@ module _ (comes : Text → Option (List ℕ)) (had : Text → List ℕ) (names :
     pub ends : map (λ (h : Hosted). h.end) hs ≡ es
     pub each : AllByRecursion IsHostedAt hs
     pub text : flat_map (text_hosted Known) vs ≡ flat_map (hosted_text names) hs
-    pub entries : (n : ℕ) → fold (λ a (s : Session). a + length (own s.number history)) n (map (λ (h : Hosted). h.its) hs) ≡ fold (λ a (p : Part). a + length p.entries) n (map (λ (v : HostedSession). v.part) vs)
-    pub seen : (most : ℕ) → AllByRecursion (λ (p : Part). p.seen ≤ most) (map (λ (v : HostedSession). v.part) vs) → AllByRecursion (λ (s : Session). AreReadings b.seen most s.turns) (map (λ (h : Hosted). h.its) hs)
+    pub entries : (n : ℕ) → fold (λ a (s : Session). a + length (own s.number calls.made)) n (map (λ (h : Hosted). h.its) hs) ≡ fold (λ a (p : Part). a + length p.asked) n (map (λ (v : HostedSession). v.part) vs)
+    pub seen : (most : ℕ) → AllByRecursion (λ (p : Part). p.seen ≤ most) (map (λ (v : HostedSession). v.part) vs) → AllByRecursion (λ (s : Session). AreReadings b.seen most (all_turns s)) (map (λ (h : Hosted). h.its) hs)
 
-  pub all_hosted : (vs : List HostedSession) (es : List (Ending (List ℕ))) → map (λ (v : HostedSession). v.end) vs ≡ ends_of es → AllByRecursion (λ (v : HostedSession). IsHostedSession b Known v.part v.end) vs → AllByRecursion (HasOwn history) (map (λ (v : HostedSession). v.part) vs)
+  pub all_hosted : (vs : List HostedSession) (es : List (Ending (List ℕ))) → map (λ (v : HostedSession). v.end) vs ≡ ends_of es → AllByRecursion (λ (v : HostedSession). IsHostedSession b Known v.part v.end) vs → AllByRecursion (HasOwn calls) (map (λ (v : HostedSession). v.part) vs)
       → (hs : List Hosted) × AreHostedSo vs es hs
   all_hosted [] [] same each owns = ([], record { numbers = refl; ends = refl; each = tt; text = refl; entries = λ n. refl; seen = λ most all. tt })
   all_hosted [] (e ∷ es) same each owns = absurd (cc)
@@ -378,20 +367,21 @@ module _ (comes : Text → Option (List ℕ)) (had : Text → List ℕ) (names :
           ends = ap₂ (λ (x : Ending (List ℕ)) (xs : List (Ending (List ℕ))). x ∷ xs) one.1.end more.1.ends;
           each = (one.1.is, more.1.each);
           text = ap₂ (λ (x y : List ℕ). x ++ y) (ap₂ (λ (n : ℕ) (l : List ℕ). hosted_heading Known n ++ l) (sym one.1.number) (ap (λ (x : SessionEnd). ending_line x) first ∙ same_line e ∙ ap (λ (x : Ending (List ℕ)). ending_line x) (sym one.1.end))) more.1.text;
-          entries = λ n. ap (λ (xs : List Entry). fold (λ a (s : Session). a + length (own s.number history)) (n + length xs) (map (λ (h : Hosted). h.its) more.0)) one.1.own_are ∙ more.1.entries (n + length v.part.entries);
-          seen = λ most all. (seen_within one.0.its.turns b.seen v.part.seen most all.0 one.1.seen, more.1.seen most all.1);
+          entries = λ n. ap (λ (xs : List Entry). fold (λ a (s : Session). a + length (own s.number calls.made)) (n + length xs) (map (λ (h : Hosted). h.its) more.0)) one.1.own_are ∙ more.1.entries (n + length v.part.asked);
+          seen = λ most all. (seen_within (all_turns one.0.its) b.seen v.part.seen most all.0 one.1.seen, more.1.seen most all.1);
         },
       )
 
 -- the same session with what it read, where that isn't known otherwise
-as_came : (extent : Extent) (history : List Entry) (came : Option (List ℕ)) (s : Session) → IsSessionOf extent history came s → IsSessionOf extent history (Some (flat_map turn_text s.turns ++ s.rest)) s
-as_came extent history came s is = record {
+as_came : (extent : Extent) (calls : Calls) (came : Option (List ℕ)) (s : Session) → IsSessionOf extent calls came s → IsSessionOf extent calls (Some (flat_map turn_text (all_turns s) ++ s.rest)) s
+as_came extent calls came s is = record {
   untold = is.untold;
   unseen = is.unseen;
   read = refl;
   each = is.each;
   lines = is.lines;
   entries = is.entries;
+  stand = is.stand;
   ends = is.ends;
 }
 
@@ -418,18 +408,18 @@ module _ {C : Type 0} (received : C → Closed) (receipts : Receipts C) (lost : 
         let b = beginning (loses rack) was in
         let begun = begun_so run named.holds rack.record_out opening names was by_name begins in
         let parts = map (λ (v : HostedSession). v.part) sessions in
-        let all = all_hosted comes had names endings b one.told sessions endings (ended ∙ same) (recursion_from_All (λ (v : HostedSession). IsHostedSession b (clients_by comes had names) v.part v.end) sessions of.each) (recursion_from_All (HasOwn one.told) parts one.are_parts) in
-        let calls = calls_of was.opening was.history one.told book in
+        let calls = calls_of (loses rack) was.opening was.history one.made one.standing book in
+        let all = all_hosted comes had names endings b calls refl sessions endings (ended ∙ same) (recursion_from_All (λ (v : HostedSession). IsHostedSession b (clients_by comes had names) v.part v.end) sessions of.each) (all_own (loses rack) was.opening was.history parts book one) in
         let extent_is : b.shape ≡ of_rack.extent = begun.shape ∙ shape_of bytes of_rack.extent opening of_rack.words in
         inl (record {
           extent = of_rack.extent;
           calls = calls;
           sessions = all.0;
           begins = record { shaped = of_rack.shape_read; opens = opens run rack.image bytes of_rack.extent was.opening held (subst (λ (o : Store). IsOfImageOrZeros of_rack.extent bytes o) (sym begun.is_opening) of_rack.words) };
-          goes_on = begun.goes_on calls refl refl (all_are_told (loses rack) was.opening was.history parts book one);
+          goes_on = begun.goes_on calls refl refl refl (all_stand (loses rack) was.opening was.history parts book one);
           numbers = all.1.numbers ∙ of.numbers;
           ends = all.1.ends;
-          each = subst (λ (e : Extent). AllByRecursion (λ (h : Hosted). IsHosted e one.told (clients_of comes had endings) (name_at names h.its.number) h.its h.end) all.0) extent_is all.1.each;
+          each = subst (λ (e : Extent). AllByRecursion (λ (h : Hosted). IsHosted e calls (clients_of comes had endings) (name_at names h.its.number) h.its h.end) all.0) extent_is all.1.each;
           order = in_order (loses rack) was.opening was.history parts book one (map (λ (h : Hosted). h.its) all.0) (all.1.entries 0) (all.1.seen (greatest book.history) (recursion_from_All (λ (p : Part). p.seen ≤ greatest book.history) parts one.seen));
           status = status ∙ closing.status ∙ ap (λ (es : List SessionEnd). status_at (list_any has_failed es)) same ∙ ap status_at (same_failures endings);
           prints = subst run.prints (closing.prints ∙ all.1.text) prints;
@@ -470,22 +460,21 @@ module _ {C : Type 0} (received : C → Closed) (receipts : Receipts C) (lost : 
       let b = beginning (loses rack) was in
       let begun = begun_so run named.holds rack.record_out opening [] was by_name begins in
       let parts = t.part ∷ [] in
-      let owns = recursion_from_All (HasOwn one.told) parts one.are_parts in
-      let s = one_session b one.told before after t session owns.0 in
-      let calls = calls_of was.opening was.history one.told book in
+      let calls = calls_of (loses rack) was.opening was.history one.made one.standing book in
+      let s = one_session b calls before after t refl session (all_own (loses rack) was.opening was.history parts book one).0 in
       let extent_is : b.shape ≡ of_rack.extent = begun.shape ∙ shape_of bytes of_rack.extent opening of_rack.words in
-      let came = flat_map turn_text s.0.turns ++ s.0.rest in
+      let came = flat_map turn_text (all_turns s.0) ++ s.0.rest in
       inl (record {
         extent = of_rack.extent;
         calls = calls;
         its = s.0;
         came = came;
         begins = record { shaped = of_rack.shape_read; opens = opens run rack.image bytes of_rack.extent was.opening held (subst (λ (o : Store). IsOfImageOrZeros of_rack.extent bytes o) (sym begun.is_opening) of_rack.words) };
-        goes_on = begun.goes_on calls refl refl (all_are_told (loses rack) was.opening was.history parts book one);
+        goes_on = begun.goes_on calls refl refl refl (all_stand (loses rack) was.opening was.history parts book one);
         held = input came s.1.is.read;
         number = s.1.number ∙ first;
-        is = as_came of_rack.extent one.told before s.0 (subst (λ (e : Extent). IsSessionOf e one.told before s.0) extent_is s.1.is);
-        order = in_order (loses rack) was.opening was.history parts book one (s.0 ∷ []) (ap (λ (es : List Entry). 0 + length es) s.1.own_are) (seen_within s.0.turns b.seen t.part.seen (greatest book.history) (recursion_from_All (λ (p : Part). p.seen ≤ greatest book.history) parts one.seen).0 s.1.seen, tt);
+        is = as_came of_rack.extent calls before s.0 (subst (λ (e : Extent). IsSessionOf e calls before s.0) extent_is s.1.is);
+        order = in_order (loses rack) was.opening was.history parts book one (s.0 ∷ []) (ap (λ (es : List Entry). 0 + length es) s.1.own_are) (seen_within (all_turns s.0) b.seen t.part.seen (greatest book.history) (recursion_from_All (λ (p : Part). p.seen ≤ greatest book.history) parts one.seen).0 s.1.seen, tt);
         status = status ∙ closing.status ∙ ap (λ (o : Option ServeFault). status_at (is_some o)) (sym s.1.fault);
         prints = subst run.prints (ap₂ (λ (x y : List ℕ). x ++ y) (sym told_is ∙ sym s.1.told) (closing.prints ∙ ap (λ (o : Option ServeFault). line_of_end o) (sym s.1.fault))) prints;
         kept = keep book calls (are_calls (loses rack) was.opening was.history parts book one) kept;

@@ -1,25 +1,28 @@
 -- The promises of `serve`, `host` and `talk`: sessions, and the order of their calls.
-use Rattle.std.proofs.Common.{◌≡◌, ◌≤◌, ◌∙◌, ◌++◌, ◌+◌, ◌||◌, ℕ, Bool, true, false, List, [], ◌∷◌, length, drop, map, fold, length-drop, take-append-drop, Option, Some, None, inl, inr, refl, sym, ap, ap₂, subst, append_assoc, append-nil, arith}
+use Rattle.std.proofs.Common.{◌≡◌, ◌≤◌, ◌∙◌, ◌++◌, ◌+◌, ◌||◌, ℕ, Bool, true, false, List, [], ◌∷◌, length, map, fold, Option, Some, None, inl, inr, refl, sym, ap, ap₂, subst, append_assoc, append-nil, arith}
+use Rattle.std.proofs.lemmas.List.{append_cancel_left}
+use Rattle.std.proofs.lemmas.List.Elements.{recursion_from_All}
 use Rattle.std.specs.Prelude.{IfSome, is_some, slice_get, unwrap_or}
 use Rattle.std.specs.List.{AllByRecursion, flat_map, list_any}
 use Rattle.std.specs.Io.KnownBytes.{Consumes, IsAtEnd}
 use Rattle.batch.specs.Extent.{Extent}
-use Rattle.batch_book.specs.History.{Account, AreUnstopped, IsReplay}
+use Rattle.batch_book.proofs.Fronts.{front, starts, starts_same, starts_then}
+use Rattle.batch_book.specs.History.{Account, AreUnstopped, IsReplay, Starts}
 use Rattle.batch_book.specs.Machine.{opened}
-use Rattle.batch_book.specs.Recording.{AreAllBut, lost as missing_in}
 use Rattle.batch_book.specs.Seats.{own}
 use Rattle.batch_book.specs.Values.{greatest}
 use Rattle.batch_book.specs.declared.reading.Reading.{Reading}
 use Rattle.batch_book.specs.declared.entry.Entry.{Entry}
 use Rattle.clap.specs.Words.{Text}
+use Rattle.client_session.proofs.Lists.{every_both}
 use Rattle.client_session.specs.Seats.{SeatView}
-use Rattle.client_session.specs.Sessions.{HasEnded, IsSession, added_entries, lines_of}
-use Rattle.client_session.specs.Turns.{AreReadings, IsAboveReadings, IsBegun as HasBegunBefore, IsTurn, Turn as Turned, lost_text, readings_of, turn_text}
+use Rattle.client_session.specs.Sessions.{HasEnded, IsSession, added_entries, lines_of, lost_entries, lost_texts}
+use Rattle.client_session.specs.Turns.{AreReadings, IsAboveReadings, IsBegun as HasBegunBefore, IsLostTurn, IsTurn, LostTurn, Turn as Turned, readings_of, turn_text}
 use Rattle.client_session.specs.declared.command.SessionCommand.{SessionCommand}
 use Rattle.client_session.specs.declared.command.SessionCommand.TheVariants.{Batch, Bye, Drop, Peek, Plan as PlanOf, Poke, Progress, Run as RunOf, Show}
 use Rattle.client_session.specs.declared.fault.ServeFault.{ServeFault}
 use Rattle.client_session.specs.declared.fault.ServeFault.TheVariants.{Cut, LineTooLong, NoMemory, Read, Record, Turns, Write}
-use Rattle.exchange.specs.Promises.{Calls, EndsSo, HaveOneOrder, HoldsGiven, IsSessionOf, OpensWith, Run, Session, calls_told, told_text}
+use Rattle.exchange.specs.Promises.{Calls, EndsSo, HaveOneOrder, HoldsGiven, IsSessionOf, OpensWith, Run, Session, all_calls, all_turns, told_text}
 use Rattle.module_memory.specs.Store.{Store}
 use Rattle.rack_answers.specs.Openings.{IsOfImageOrZeros}
 use Rattle.session_answers.specs.Frames.{Transcript, session_text, sessions_text}
@@ -29,37 +32,49 @@ use Rattle.session_answers.specs.Sessions.{Beginning, IsServedSession}
 
 -- ---- how a session ended
 
+abbrev pub session_so : ℕ → Option ServeFault → (turns held : List Turned) → (told rest : List ℕ) → Session
+session_so number fault turns held told rest = record { number = number; turns = turns; held = held; told = told; rest = rest; fault = fault }
+
 -- what it read, made and told, as its promise says it
-record HasEndedSo (old new : SeatView) (fault : Option ServeFault) (after : Option (List ℕ)) (read : List ℕ) (made : List Entry) (told : List ℕ) : Type 0 where
+record HasEndedSo (number : ℕ) (recorded : Bool) (old new : SeatView) (fault : Option ServeFault) (after : Option (List ℕ)) (read : List ℕ) (made : List Entry) (told : List ℕ) : Type 0 where
   turns : List Turned
+  held : List Turned
   left : List ℕ
   untold : List ℕ
   unseen : List Entry
-  each : AllByRecursion (IsTurn old.shape old.session) turns
-  bytes : read ≡ flat_map turn_text turns ++ left
+  each : AllByRecursion (IsTurn old.shape old.session) (turns ++ held)
+  bytes : read ≡ flat_map turn_text (turns ++ held) ++ left
   lines : lines_of turns ≡ told ++ untold
-  entries : made ≡ added_entries turns ++ unseen
-  readings : AreReadings old.seen new.seen turns
-  ends : EndsSo fault turns (left ++ unwrap_or after []) untold unseen
+  entries : made ≡ added_entries (turns ++ held) ++ unseen
+  stand : Starts (added_entries turns) new.log
+  readings : AreReadings old.seen new.seen (turns ++ held)
+  ends : EndsSo recorded (session_so number fault turns held told (left ++ unwrap_or after [])) untold unseen fault
 
 no_more : (after : Option (List ℕ)) → IsAtEnd after → unwrap_or after [] ≡ []
 no_more None at_end = refl
 no_more (Some bytes) at_end = at_end
 
-plain : (old new : SeatView) (fault : Option ServeFault) (after : Option (List ℕ)) (read : List ℕ) (made : List Entry) (told : List ℕ) (turns : List Turned) (left : List ℕ)
-    → IsSession false old new turns read left made told → EndsSo fault turns (left ++ unwrap_or after []) [] [] → HasEndedSo old new fault after read made told
-plain old new fault after read made told turns left s ends = record {
-  turns = turns;
-  left = left;
-  untold = [];
-  unseen = [];
-  each = s.each;
-  bytes = s.bytes_are;
-  lines = sym s.text_is ∙ sym (append-nil told);
-  entries = s.entries_are ∙ sym (append-nil (added_entries turns));
-  readings = s.readings;
-  ends = ends;
-}
+-- where all that was asked could be told, and no line is held
+plain : (number : ℕ) (recorded : Bool) (old new : SeatView) (fault : Option ServeFault) (after : Option (List ℕ)) (read : List ℕ) (made : List Entry) (told untold : List ℕ) (turns : List Turned) (left : List ℕ)
+    → IsSession false old new turns read left made (told ++ untold) → new.log ≡ made → EndsSo recorded (session_so number fault turns [] told (left ++ unwrap_or after [])) untold [] fault → HasEndedSo number recorded old new fault after read made told
+plain number recorded old new fault after read made told untold turns left s all ends =
+    let r = subst (λ (ts : List Turned). IsSession false old new ts read left made (told ++ untold)) (sym (append-nil turns)) s in record {
+      turns = turns;
+      held = [];
+      left = left;
+      untold = untold;
+      unseen = [];
+      each = r.each;
+      bytes = r.bytes_are;
+      lines = sym s.text_is;
+      entries = r.entries_are ∙ sym (append-nil (added_entries (turns ++ [])));
+      stand = starts_same (added_entries turns) new.log (sym (all ∙ s.entries_are));
+      readings = r.readings;
+      ends = ends;
+    }
+
+whole_told : (old new : SeatView) (read : List ℕ) (made : List Entry) (told : List ℕ) (turns : List Turned) (left : List ℕ) → IsSession false old new turns read left made told → IsSession false old new turns read left made (told ++ [])
+whole_told old new read made told turns left s = subst (λ (x : List ℕ). IsSession false old new turns read left made x) (sym (append-nil told)) s
 
 no_entry : (es : List Entry) → es ≡ [] → length es ≤ 1
 no_entry es none = let e : length es ≡ 0 = ap (λ (l : List Entry). length l) none in omega (arith, e)
@@ -77,39 +92,36 @@ few_before by (Some (Poke «module» address word)) es none = no_entry es none
 few_before by (Some Progress) es none = no_entry es none
 few_before by (Some Bye) es none = no_entry es none
 
-ended_so : (fault : Option ServeFault) (after : Option (List ℕ)) (old new : SeatView) (read : List ℕ) (made : List Entry) (told : List ℕ) → HasEnded fault after old new read made told → HasEndedSo old new fault after read made told
-ended_so None after old new read made told (turns, left, s, inl whole) =
-    plain old new None after read made told turns left s (refl, refl, inl (whole.0, ap₂ (λ (x y : List ℕ). x ++ y) whole.1 (no_more after whole.2)))
-ended_so None after old new read made told (turns, left, s, inr bye) = plain old new None after read made told turns left s (refl, refl, inr bye)
-ended_so (Some Write) after old new read made told c = record {
-  turns = c.before ++ c.last ∷ [];
-  left = c.rest;
-  untold = c.missing;
-  unseen = [];
-  each = c.session.each;
-  bytes = c.session.bytes_are;
-  lines = sym c.session.text_is;
-  entries = c.session.entries_are ∙ sym (append-nil (added_entries (c.before ++ c.last ∷ [])));
-  readings = c.session.readings;
-  ends = (refl, (c.before, c.last, c.front, refl, c.go_on, c.line));
-}
-ended_so (Some Record) after old new read made told b = record {
+few_lost : (by : ℕ) (lost : List LostTurn) → AllByRecursion (IsLostTurn by) lost → length lost ≤ 1 → length (lost_entries lost) ≤ 1
+few_lost by [] all one = omega arith
+few_lost by (t ∷ []) all one = subst (λ (es : List Entry). length es ≤ 1) (sym (append-nil t.entries)) (few_before by t.command t.entries all.0.begun)
+few_lost by (t ∷ u ∷ more) all one = absurd (omega (arith, one))
+
+ended_so : (number : ℕ) (recorded : Bool) (fault : Option ServeFault) (after : Option (List ℕ)) (old new : SeatView) (read : List ℕ) (made : List Entry) (told : List ℕ) → old.log ≡ [] → new.asked ≡ made → (recorded ≡ false → old.loses ≡ false) → (fault ≡ Some Record → recorded ≡ true) → HasEnded fault after old new read made told → HasEndedSo number recorded old new fault after read made told
+ended_so number recorded None after old new read made told none same keeps lost (turns, left, s, inl whole, all) =
+    plain number recorded old new None after read made told [] turns left (whole_told old new read made told turns left s) (all ∙ same) (refl, refl, refl, inl (whole.0, ap₂ (λ (x y : List ℕ). x ++ y) whole.1 (no_more after whole.2)))
+ended_so number recorded None after old new read made told none same keeps lost (turns, left, s, inr bye, all) =
+    plain number recorded old new None after read made told [] turns left (whole_told old new read made told turns left s) (all ∙ same) (refl, refl, refl, inr bye)
+ended_so number recorded (Some Write) after old new read made told none same keeps lost c = plain number recorded old new (Some Write) after read made told c.missing c.turns c.rest c.session (c.recorded ∙ same) (refl, refl, c.may_end, λ unrecorded. c.last (keeps unrecorded))
+ended_so number recorded (Some Record) after old new read made told none same keeps lost b = record {
   turns = b.turns;
-  left = lost_text b.last ++ b.rest;
+  held = b.held;
+  left = lost_texts b.lost ++ b.rest;
   untold = [];
-  unseen = b.last.entries;
+  unseen = lost_entries b.lost;
   each = b.session.each;
   bytes = b.session.bytes_are;
-  lines = sym b.session.text_is ∙ sym (append-nil told);
-  entries = b.entries_are ∙ ap (λ (x : List Entry). x ++ b.last.entries) b.session.entries_are;
+  lines = sym b.told ∙ sym (append-nil told);
+  entries = b.entries_are ∙ ap (λ (x : List Entry). x ++ lost_entries b.lost) b.session.entries_are;
+  stand = subst (λ (x : List Entry). Starts (x ++ added_entries b.turns) new.log) none b.recorded;
   readings = b.session.readings;
-  ends = (refl, few_before old.session b.last.command b.last.entries b.lost.begun, b.go_on);
+  ends = (lost refl, refl, few_lost old.session b.lost b.are_lost b.one, b.may_end);
 }
-ended_so (Some Read) after old new read made told e = plain old new (Some Read) after read made told e.0 e.1 e.2 (refl, refl, e.3)
-ended_so (Some LineTooLong) after old new read made told e = plain old new (Some LineTooLong) after read made told e.0 e.1 e.2 (refl, refl, e.3)
-ended_so (Some Cut) after old new read made told e = plain old new (Some Cut) after read made told e.0 e.1 e.2 (refl, refl, e.3)
-ended_so (Some Turns) after old new read made told e = plain old new (Some Turns) after read made told e.0 e.1 e.2 (refl, refl, e.3)
-ended_so (Some NoMemory) after old new read made told e = plain old new (Some NoMemory) after read made told e.0 e.1 e.2 (refl, refl, e.3)
+ended_so number recorded (Some Read) after old new read made told none same keeps lost e = plain number recorded old new (Some Read) after read made told [] e.0 e.1 (whole_told old new read made told e.0 e.1 e.2) (e.5 ∙ same) (refl, refl, refl, e.3)
+ended_so number recorded (Some LineTooLong) after old new read made told none same keeps lost e = plain number recorded old new (Some LineTooLong) after read made told [] e.0 e.1 (whole_told old new read made told e.0 e.1 e.2) (e.5 ∙ same) (refl, refl, refl, e.3)
+ended_so number recorded (Some Cut) after old new read made told none same keeps lost e = plain number recorded old new (Some Cut) after read made told [] e.0 e.1 (whole_told old new read made told e.0 e.1 e.2) (e.5 ∙ same) (refl, refl, refl, e.3)
+ended_so number recorded (Some Turns) after old new read made told none same keeps lost e = plain number recorded old new (Some Turns) after read made told [] e.0 e.1 (whole_told old new read made told e.0 e.1 e.2) (e.5 ∙ same) (refl, refl, refl, e.3)
+ended_so number recorded (Some NoMemory) after old new read made told none same keeps lost e = plain number recorded old new (Some NoMemory) after read made told [] e.0 e.1 (whole_told old new read made told e.0 e.1 e.2) (e.5 ∙ same) (refl, refl, refl, e.3)
 
 -- ---- one session
 
@@ -118,35 +130,40 @@ read_so None after read front left c is = tt
 read_so (Some xs) None read front left c is = absurd c
 read_so (Some xs) (Some ys) read front left c is = c ∙ ap (λ (x : List ℕ). x ++ ys) is ∙ append_assoc front left ys
 
+-- what a session asked are its own calls, and what it could be told stand first of these
+abbrev pub HasOwn : Calls → Part → Type 0
+HasOwn calls p = (p.asked ≡ own p.session calls.made) × Starts p.log (own p.session calls.standing)
+
 -- what is so of the session of a transcript
-pub record IsSeen (b : Beginning) (history : List Entry) (came : Option (List ℕ)) (t : Transcript) (s : Session) : Type 0 where
+pub record IsSeen (b : Beginning) (calls : Calls) (came : Option (List ℕ)) (t : Transcript) (s : Session) : Type 0 where
   pub number : s.number ≡ t.part.session
   pub told : s.told ≡ t.told
   pub fault : s.fault ≡ t.fault
   pub text : session_text t ≡ told_text s
-  pub own_are : own s.number history ≡ t.part.entries
-  pub seen : AreReadings b.seen t.part.seen s.turns
-  pub is : IsSessionOf b.shape history came s
+  pub own_are : own s.number calls.made ≡ t.part.asked
+  pub seen : AreReadings b.seen t.part.seen (all_turns s)
+  pub is : IsSessionOf b.shape calls came s
 
-pub one_session : (b : Beginning) (history : List Entry) (before after : Option (List ℕ)) (t : Transcript) → IsServedSession b before after t → t.part.entries ≡ own t.part.session history → (s : Session) × IsSeen b history before t s
-one_session b history before after t h entries =
-    let e = ended_so t.fault after h.seat _ h.read t.part.entries t.told h.ended in
-    let s : Session = record { number = t.part.session; turns = e.turns; told = t.told; rest = e.left ++ unwrap_or after []; fault = t.fault } in (
-      s,
+pub one_session : (b : Beginning) (calls : Calls) (before after : Option (List ℕ)) (t : Transcript) → b.loses ≡ calls.recorded → IsServedSession b before after t → HasOwn calls t.part → (s : Session) × IsSeen b calls before t s
+one_session b calls before after t recorded h owns =
+    let e = ended_so t.part.session calls.recorded t.fault after h.seat _ h.read t.part.asked t.told h.is_new.log refl (λ none. h.is_new.loses_is ∙ recorded ∙ none) (λ is. sym recorded ∙ h.lost is) h.ended in
+    let turns = e.turns ++ e.held in (
+      session_so t.part.session t.fault e.turns e.held t.told (e.left ++ unwrap_or after []),
       record {
         number = refl;
         told = refl;
         fault = refl;
         text = refl;
-        own_are = sym entries;
-        seen = subst (λ (n : ℕ). AreReadings n t.part.seen e.turns) h.is_new.seen e.readings;
+        own_are = sym owns.0;
+        seen = subst (λ (n : ℕ). AreReadings n t.part.seen turns) h.is_new.seen e.readings;
         is = record {
           untold = e.untold;
           unseen = e.unseen;
-          read = read_so before after h.read (flat_map turn_text e.turns) e.left h.consumed e.bytes;
-          each = subst (λ (n : ℕ). AllByRecursion (IsTurn b.shape n) e.turns) h.is_new.session_is (subst (λ (x : Extent). AllByRecursion (IsTurn x h.seat.session) e.turns) h.is_new.shape_is e.each);
+          read = read_so before after h.read (flat_map turn_text turns) e.left h.consumed e.bytes;
+          each = subst (λ (n : ℕ). AllByRecursion (IsTurn b.shape n) turns) h.is_new.session_is (subst (λ (x : Extent). AllByRecursion (IsTurn x h.seat.session) turns) h.is_new.shape_is e.each);
           lines = e.lines;
-          entries = sym entries ∙ e.entries;
+          entries = sym owns.0 ∙ e.entries;
+          stand = starts_then (added_entries e.turns) t.part.log (own t.part.session calls.standing) e.stand owns.1;
           ends = e.ends;
         };
       },
@@ -169,87 +186,74 @@ seen_within turns low high most le r = record { low = r.low; high = none_ahead t
 -- ---- the order of calls
 
 -- the calls of a book that sessions leave, which they began with these
-abbrev pub calls_of : Store → (earlier told : List Entry) → Account → Calls
-calls_of opening earlier told book = record { opening = opening; earlier = earlier; told = told; untold = drop (length (earlier ++ told)) book.history; left = book.machine }
+abbrev pub calls_of : Bool → Store → (earlier made standing : List Entry) → Account → Calls
+calls_of loses opening earlier made standing book = record { opening = opening; earlier = earlier; made = made; recorded = loses; standing = standing; left = book.machine }
 
 -- the calls are those of the book
 pub record AreCallsOf (calls : Calls) (book : Account) : Type 0 where
   pub opening : calls.opening ≡ book.opening
-  pub entries : calls_told calls ++ calls.untold ≡ book.history
+  pub entries : all_calls calls ≡ book.history
   pub machine : calls.left ≡ book.machine
-  pub told : AreAllBut book.whole (calls_told calls) book.history
+  pub stand : calls.earlier ++ calls.standing ≡ book.stands
 
-all_entries : (whole : Bool) (front history : List Entry) → AreAllBut whole front history → front ++ drop (length front) history ≡ history
-all_entries whole front history is = ap (λ (x : List Entry). x ++ drop (length front) history) is.0 ∙ take-append-drop (length front) history
-
-few_missing : (whole : Bool) → missing_in whole ≤ 1
-few_missing true = omega arith
-few_missing false = omega arith
-
-few_untold : (whole : Bool) (front history : List Entry) → AreAllBut whole front history → length (drop (length front) history) ≤ 1
-few_untold whole front history is = let cut = length-drop (length front) history in let few = few_missing whole in let all = is.1 in omega (arith, cut, few, all)
-
-none_in : (es : List Entry) → length es ≡ 0 → es ≡ []
-none_in [] none = refl
-none_in (e ∷ es) none = absurd (omega (arith, none))
-
-none_untold : (whole : Bool) (front history : List Entry) → whole ≡ true → AreAllBut whole front history → drop (length front) history ≡ []
-none_untold true front history is all = let cut = length-drop (length front) history in let same = all.1 in none_in (drop (length front) history) (omega (arith, cut, same))
-none_untold false front history is all = absurd (cc)
+-- what starts another behind the same
+same_behind : (earlier standing made : List Entry) → Starts (earlier ++ standing) (earlier ++ made) → Starts standing made
+same_behind earlier standing made is =
+    let f = front (earlier ++ standing) (earlier ++ made) is in starts standing made f.0 (append_cancel_left earlier made (standing ++ f.0) (f.1 ∙ append_assoc earlier standing f.0))
 
 -- the book is whole, where it can't lose an entry
-pub whole_so : (whole loses : Bool) → (whole ≡ false → loses ≡ true) → loses ≡ false → whole ≡ true
+whole_so : (whole loses : Bool) → (whole ≡ false → loses ≡ true) → loses ≡ false → whole ≡ true
 whole_so true loses lost none = refl
 whole_so false loses lost none = absurd (let bad : false ≡ true = sym none ∙ lost refl in cc)
 
 module _ (loses : Bool) (opening : Store) (earlier : List Entry) (parts : List Part) (book : Account) (one : HaveOneHistory loses opening earlier parts book) where
-  abbrev calls : Calls
-  calls = calls_of opening earlier one.told book
+  abbrev pub theirs : Calls
+  theirs = calls_of loses opening earlier one.made one.standing book
 
-  pub are_calls : AreCallsOf calls book
-  are_calls = record { opening = sym one.is_opening; entries = all_entries book.whole (earlier ++ one.told) book.history one.all_told; machine = refl; told = one.all_told }
+  pub are_calls : AreCallsOf theirs book
+  are_calls = record { opening = sym one.is_opening; entries = sym one.are; machine = refl; stand = sym one.stand }
 
-  pub in_order : (ss : List Session) → fold (λ a (s : Session). a + length (own s.number one.told)) 0 ss ≡ fold (λ a (p : Part). a + length p.entries) 0 parts → AllByRecursion (λ (s : Session). AreReadings (greatest earlier) (greatest book.history) s.turns) ss → HaveOneOrder calls ss
+  pub all_own : AllByRecursion (HasOwn theirs) parts
+  all_own = every_both (λ (p : Part). p.asked ≡ own p.session one.made) (λ (p : Part). Starts p.log (own p.session one.standing)) (HasOwn theirs) parts (λ p asked log. (asked, log)) (recursion_from_All _ parts one.are_parts) (recursion_from_All _ parts one.recorded)
+
+  pub in_order : (ss : List Session) → fold (λ a (s : Session). a + length (own s.number one.made)) 0 ss ≡ fold (λ a (p : Part). a + length p.asked) 0 parts → AllByRecursion (λ (s : Session). AreReadings (greatest earlier) (greatest book.history) (all_turns s)) ss → HaveOneOrder theirs ss
   in_order ss same seen = record {
-    right = subst (λ (es : List Entry). IsReplay (opened opening) es book.machine) (sym (all_entries book.whole (earlier ++ one.told) book.history one.all_told)) one.replay;
+    right = subst (λ (es : List Entry). IsReplay (opened opening) es book.machine) one.are one.replay;
     no_other = one.counted ∙ sym same;
-    few = few_untold book.whole (earlier ++ one.told) book.history one.all_told;
-    unstopped = subst AreUnstopped (sym (all_entries book.whole (earlier ++ one.told) book.history one.all_told)) one.unstopped;
-    seen = subst (λ (es : List Entry). AllByRecursion (λ (s : Session). AreReadings (greatest earlier) (greatest es) s.turns) ss) (sym (all_entries book.whole (earlier ++ one.told) book.history one.all_told)) seen;
+    front = same_behind earlier one.standing one.made (subst (λ (x : List Entry). Starts x (earlier ++ one.made)) one.stand (subst (λ (x : List Entry). Starts book.stands x) one.are one.front));
+    unstopped = subst AreUnstopped one.are one.unstopped;
+    seen = subst (λ (es : List Entry). AllByRecursion (λ (s : Session). AreReadings (greatest earlier) (greatest es) (all_turns s)) ss) one.are seen;
   }
 
-  pub all_are_told : loses ≡ false → calls.untold ≡ []
-  all_are_told none = none_untold book.whole (earlier ++ one.told) book.history (whole_so book.whole loses one.lost none) one.all_told
+  pub all_stand : loses ≡ false → one.standing ≡ one.made
+  all_stand none = append_cancel_left earlier one.standing one.made (sym one.stand ∙ one.whole (whole_so book.whole loses one.lost none) ∙ one.are)
 
 -- ---- the sessions of scripts
 
-abbrev pub HasOwn : List Entry → Part → Type 0
-HasOwn history p = p.entries ≡ own p.session history
-
-pub record AreSeen (b : Beginning) (history : List Entry) (texts : List (List ℕ)) (ts : List Transcript) (ss : List Session) : Type 0 where
+pub record AreSeen (b : Beginning) (calls : Calls) (texts : List (List ℕ)) (ts : List Transcript) (ss : List Session) : Type 0 where
   pub numbers : map (λ (s : Session). s.number) ss ≡ map (λ (t : Transcript). t.part.session) ts
-  pub each : AllByRecursion (λ (s : Session). IsSessionOf b.shape history (slice_get texts s.number) s) ss
+  pub each : AllByRecursion (λ (s : Session). IsSessionOf b.shape calls (slice_get texts s.number) s) ss
   pub text : sessions_text ts ≡ flat_map told_text ss
   pub failed : list_any (λ (t : Transcript). is_some t.fault) ts ≡ list_any (λ (s : Session). is_some s.fault) ss
-  pub entries : (n : ℕ) → fold (λ a (s : Session). a + length (own s.number history)) n ss ≡ fold (λ a (p : Part). a + length p.entries) n (map (λ (t : Transcript). t.part) ts)
-  pub seen : (most : ℕ) → AllByRecursion (λ (p : Part). p.seen ≤ most) (map (λ (t : Transcript). t.part) ts) → AllByRecursion (λ (s : Session). AreReadings b.seen most s.turns) ss
+  pub entries : (n : ℕ) → fold (λ a (s : Session). a + length (own s.number calls.made)) n ss ≡ fold (λ a (p : Part). a + length p.asked) n (map (λ (t : Transcript). t.part) ts)
+  pub seen : (most : ℕ) → AllByRecursion (λ (p : Part). p.seen ≤ most) (map (λ (t : Transcript). t.part) ts) → AllByRecursion (λ (s : Session). AreReadings b.seen most (all_turns s)) ss
 
-pub all_sessions : (b : Beginning) (history : List Entry) (texts : List (List ℕ)) (ts : List Transcript) → AllByRecursion (HasItsScript b texts) ts → AllByRecursion (HasOwn history) (map (λ (t : Transcript). t.part) ts)
-    → (ss : List Session) × AreSeen b history texts ts ss
-all_sessions b history texts [] each owns = ([], record { numbers = refl; each = tt; text = refl; failed = refl; entries = λ n. refl; seen = λ most all. tt })
-all_sessions b history texts (t ∷ ts) each owns =
+pub all_sessions : (b : Beginning) (calls : Calls) (texts : List (List ℕ)) (ts : List Transcript) → b.loses ≡ calls.recorded → AllByRecursion (HasItsScript b texts) ts → AllByRecursion (HasOwn calls) (map (λ (t : Transcript). t.part) ts)
+    → (ss : List Session) × AreSeen b calls texts ts ss
+all_sessions b calls texts [] recorded each owns = ([], record { numbers = refl; each = tt; text = refl; failed = refl; entries = λ n. refl; seen = λ most all. tt })
+all_sessions b calls texts (t ∷ ts) recorded each owns =
     let has = each.0 in
-    let one = one_session b history (Some has.0) (Some has.1) t has.3 owns.0 in
-    let more = all_sessions b history texts ts each.1 owns.1 in
+    let one = one_session b calls (Some has.0) (Some has.1) t recorded has.3 owns.0 in
+    let more = all_sessions b calls texts ts recorded each.1 owns.1 in
     let its : slice_get texts one.0.number ≡ Some has.0 = ap (λ (n : ℕ). slice_get texts n) one.1.number ∙ has.2 in (
       one.0 ∷ more.0,
       record {
         numbers = ap₂ (λ (n : ℕ) (ns : List ℕ). n ∷ ns) one.1.number more.1.numbers;
-        each = (subst (λ (c : Option (List ℕ)). IsSessionOf b.shape history c one.0) (sym its) one.1.is, more.1.each);
+        each = (subst (λ (c : Option (List ℕ)). IsSessionOf b.shape calls c one.0) (sym its) one.1.is, more.1.each);
         text = ap₂ (λ (x y : List ℕ). x ++ y) one.1.text more.1.text;
         failed = ap₂ ◌||◌ (ap (λ (o : Option ServeFault). is_some o) (sym one.1.fault)) more.1.failed;
-        entries = λ n. ap (λ (es : List Entry). fold (λ a (s : Session). a + length (own s.number history)) (n + length es) more.0) one.1.own_are ∙ more.1.entries (n + length t.part.entries);
-        seen = λ most all. (seen_within one.0.turns b.seen t.part.seen most all.0 one.1.seen, more.1.seen most all.1);
+        entries = λ n. ap (λ (es : List Entry). fold (λ a (s : Session). a + length (own s.number calls.made)) (n + length es) more.0) one.1.own_are ∙ more.1.entries (n + length t.part.asked);
+        seen = λ most all. (seen_within (all_turns one.0) b.seen t.part.seen most all.0 one.1.seen, more.1.seen most all.1);
       },
     )
 

@@ -95,12 +95,12 @@ use Rattle.switch_driver.specs.Lines.{stage_line}
 use Rattle.switch_settings.specs.declared.fault.SettingFault.{SettingFault}
 use Rattle.switch_settings.specs.Answers.{AllAgree}
 use Rattle.switch_settings.specs.Pairs.{all_enquiries}
-use Rattle.batch_book.specs.History.{AreUnstopped, IsReplay}
+use Rattle.batch_book.specs.History.{AreUnstopped, IsReplay, Starts}
 use Rattle.batch_book.specs.Machine.{Machine, opened}
 use Rattle.batch_book.specs.Seats.{own}
 use Rattle.batch_book.specs.Values.{greatest}
 use Rattle.batch_book.specs.declared.entry.Entry.{Entry}
-use Rattle.client_session.specs.Sessions.{EndByBye, GoOn, added_entries, lines_of}
+use Rattle.client_session.specs.Sessions.{EndByBye, GoOn, IsEndOfLastLine, MayEnd, added_entries, lines_of}
 use Rattle.client_session.specs.Turns.{AreReadings, IsTurn, Turn as Turned, turn_text}
 use Rattle.command_words.specs.declared.jobs.Request.{Request}
 use Rattle.command_words.specs.declared.jobs.SharedRack.{SharedRack}
@@ -116,12 +116,12 @@ use Rattle.named_files.specs.Streams.{Closed, IsFrontOf}
 use Rattle.named_files.specs.declared.outputs.Receipts.{Receipts}
 use Rattle.kept_sessions.specs.Records.{IsBegun as BeginsRecord, head_for}
 use Rattle.book_record.specs.Fronts.{end_line}
-use Rattle.book_record.specs.RecordText.{entry_text}
 use Rattle.book_record.specs.Heads.{AreNames, BeginsWithNoHead, IsHeadOf, session_limit}
 use Rattle.kept_sessions.specs.Records.{IsWrongFor}
 use Rattle.rack_answers.specs.Openings.{IsRackOf, IsWrongRack}
 use Rattle.record_replay.specs.ReplayAnswers.{IsNoRecordOn, IsRecordOn, IsShapeOf, of_record}
 use Rattle.record_replay.specs.Replays.{IsRecordError, IsRemade}
+use Rattle.record_replay.specs.SessionRecords.{record_of}
 use Rattle.record_replay.specs.declared.fault.RecordError.{RecordError}
 use Rattle.record_replay.specs.declared.fault.RecordFault.{RecordFault}
 use Rattle.exchange.specs.declared.limits.TheConstants.{MISUSED, UNWRITTEN}
@@ -717,73 +717,79 @@ pub record BeginsOn (run : Run) (rack : SharedRack) (extent : Extent) (opening :
   pub shaped : DenotesShape rack.shape extent
   pub opens : OpensWith run rack.image extent opening
 
--- a session: its number; its commands, each with its lines and with what it did; what it was told;
--- what is left of what came; and the fault that ended it, where one did
+-- a session: its number; its commands, each with its lines and with what it did: those of which it
+-- was told, and those behind them of which it wasn't; what it was told; what is left of what came;
+-- and the fault that ended it, where one did
 pub record Session : Type 0 where
   pub number : ℕ
   pub turns : List Turned
+  pub held : List Turned
   pub told : List ℕ
   pub rest : List ℕ
   pub fault : Option ServeFault
 
--- How a session ended, where this of its commands' lines wasn't told, and no command that was told
+-- all commands that it did
+abbrev pub all_turns : Session → List Turned
+all_turns s = s.turns ++ s.held
+
+-- How a session ended, where this of its commands' lines wasn't told, and no command that was done
 -- made these entries. By itself: all was told, and all was read, or `bye` was the last command.
--- Where it couldn't be told, an end of its last line is missing. Where a call couldn't be recorded,
--- its command may have made one entry before. No command was done behind `bye`.
-abbrev pub EndsSo : Option ServeFault → List Turned → (rest untold : List ℕ) → List Entry → Type 0
-EndsSo None turns rest untold unseen =
-    (untold ≡ []) × (unseen ≡ []) × ((GoOn turns × (rest ≡ [])) ⊎ EndByBye turns)
-EndsSo (Some Write) turns rest untold unseen =
-    (unseen ≡ []) × ((before : List Turned) × (last : Turned) × (front : List ℕ)
-    × (turns ≡ before ++ last ∷ []) × GoOn before × (last.did.line ≡ front ++ untold))
-EndsSo (Some Record) turns rest untold unseen =
-    (untold ≡ []) × (length unseen ≤ 1) × GoOn turns
-EndsSo (Some fault) turns rest untold unseen = (untold ≡ []) × (unseen ≡ []) × GoOn turns
+-- Where it couldn't be told, an end of its lines is missing; without a record, of its last line.
+-- Where calls couldn't be recorded, nothing was told of the last commands that were done, and one
+-- more may have made an entry. No command was done behind `bye`.
+abbrev pub EndsSo : (recorded : Bool) → Session → (untold : List ℕ) → List Entry → Option ServeFault
+    → Type 0
+EndsSo recorded s untold unseen None =
+    (s.held ≡ []) × (untold ≡ []) × (unseen ≡ [])
+    × ((GoOn s.turns × (s.rest ≡ [])) ⊎ EndByBye s.turns)
+EndsSo recorded s untold unseen (Some Write) =
+    (s.held ≡ []) × (unseen ≡ []) × MayEnd s.turns
+    × (recorded ≡ false → IsEndOfLastLine s.turns untold)
+EndsSo recorded s untold unseen (Some Record) =
+    (recorded ≡ true) × (untold ≡ []) × (length unseen ≤ 1) × MayEnd (all_turns s)
+EndsSo recorded s untold unseen (Some fault) =
+    (s.held ≡ []) × (untold ≡ []) × (unseen ≡ []) × GoOn s.turns
 
--- It read what came, where that is known, command by command, and did what each asks for. It was
--- told the lines of what they did, in their order. The entries of this history that have its number
--- are those that its commands made, in their order.
-pub record IsSessionOf (extent : Extent) (history : List Entry) (came : Option (List ℕ))
-    (s : Session) : Type 0 where
-  pub untold : List ℕ
-  pub unseen : List Entry
-  pub read : IfSome came (λ text. text ≡ flat_map turn_text s.turns ++ s.rest)
-  pub each : AllByRecursion (IsTurn extent s.number) s.turns
-  pub lines : lines_of s.turns ≡ s.told ++ untold
-  pub entries : own s.number history ≡ added_entries s.turns ++ unseen
-  pub ends : EndsSo s.fault s.turns s.rest untold unseen
-
--- Calls, in one order: the words with which their rack began; those of an earlier record, with which
--- sessions began; theirs, of which they were told; those of which nobody was told; and what all lead
--- to.
+-- Calls, in one order: the words with which their rack began; those of an earlier record, with
+-- which sessions began; theirs; whether these are recorded as they are made; the first of them, which
+-- stand in that record, or all; and what all lead to.
 pub record Calls : Type 0 where
   pub opening : Store
   pub earlier : List Entry
-  pub told : List Entry
-  pub untold : List Entry
+  pub made : List Entry
+  pub recorded : Bool
+  pub standing : List Entry
   pub left : Machine
 
-abbrev pub calls_told : Calls → List Entry
-calls_told calls = calls.earlier ++ calls.told
+abbrev pub all_calls : Calls → List Entry
+all_calls calls = calls.earlier ++ calls.made
 
--- how far the runs of these calls have come, first of the earlier ones, and then of all
-abbrev pub seen_before : Calls → ℕ
-seen_before calls = greatest calls.earlier
-
-abbrev pub seen_behind : Calls → ℕ
-seen_behind calls = greatest (calls_told calls ++ calls.untold)
+-- It read what came, where that is known, command by command, and did what each asks for. It was
+-- told the lines of what the first of them did, in their order. The calls that have its number are
+-- those that its commands made, in their order. Those of which it was told stand in the record.
+pub record IsSessionOf (extent : Extent) (calls : Calls) (came : Option (List ℕ)) (s : Session)
+    : Type 0 where
+  pub untold : List ℕ
+  pub unseen : List Entry
+  pub read : IfSome came (λ text. text ≡ flat_map turn_text (all_turns s) ++ s.rest)
+  pub each : AllByRecursion (IsTurn extent s.number) (all_turns s)
+  pub lines : lines_of s.turns ≡ s.told ++ untold
+  pub entries : own s.number calls.made ≡ added_entries (all_turns s) ++ unseen
+  pub stand : Starts (added_entries s.turns) (own s.number calls.standing)
+  pub ends : EndsSo calls.recorded s untold unseen s.fault
 
 -- Each answer follows from the calls before it, and no run was stopped. Just the calls of these
--- sessions stand there behind the earlier ones, and at most one more, of which nobody was told. The
--- progress that a session saw never fell back, was no less than that of the earlier calls, and no
--- more than that of all.
+-- sessions stand there behind the earlier ones, and the first of them in the record. The progress
+-- that a session saw never fell back, was no less than that of the earlier calls, and no more than
+-- that of all.
 pub record HaveOneOrder (calls : Calls) (sessions : List Session) : Type 0 where
-  pub right : IsReplay (opened calls.opening) (calls_told calls ++ calls.untold) calls.left
-  pub no_other : length calls.told ≡ sum_by (λ s. length (own s.number calls.told)) sessions
-  pub few : length calls.untold ≤ 1
-  pub unstopped : AreUnstopped (calls_told calls ++ calls.untold)
+  pub right : IsReplay (opened calls.opening) (all_calls calls) calls.left
+  pub no_other : length calls.made ≡ sum_by (λ s. length (own s.number calls.made)) sessions
+  pub front : Starts calls.standing calls.made
+  pub unstopped : AreUnstopped (all_calls calls)
   pub seen : AllByRecursion
-      (λ s. AreReadings (seen_before calls) (seen_behind calls) s.turns) sessions
+      (λ s. AreReadings (greatest calls.earlier) (greatest (all_calls calls)) (all_turns s))
+      sessions
 
 -- what is left of the files that were opened for a record, and for an image
 pub record Kept : Type 0 where
@@ -821,14 +827,9 @@ IsBegun true text (Some file) = (rest : List ℕ) × (file.bytes ≡ Some (text 
 abbrev pub IsUnput : Option Closed → Type 0
 IsUnput file = IfSome file (λ file. file.stands ≡ false)
 
--- what a record tells of these entries
-abbrev pub record_of : List Text → Store → List Entry → List ℕ
-record_of names opening entries = head_for opening names ++ flat_map entry_text entries
-
 -- all that a record tells of calls, of clients with these names
 abbrev pub whole_record : List Text → Calls → List ℕ
-whole_record names calls =
-    record_of names calls.opening (calls_told calls ++ calls.untold) ++ end_line
+whole_record names calls = record_of names calls.opening (all_calls calls) ++ end_line
 
 -- what sessions leave of the calls of clients with these names
 abbrev pub Leave : Type 1
@@ -847,12 +848,12 @@ AreKeptInPart kept rack names calls =
     IsKeptInPart (is_some (recorded_in rack)) (whole_record names calls) kept.recorded
     × IsKeptInPart (is_some rack.image_out) (image_of calls.left.store) kept.image
 
--- The record of live sessions has all of which somebody was told. The image is as above.
+-- both do, and the record of live sessions has all calls that are to stand there
 abbrev pub AreToldKept : Kept → SharedRack → List Text → Calls → Type 0
 AreToldKept kept rack names calls =
-    IsBegun (is_some (recorded_in rack)) (record_of names calls.opening (calls_told calls))
-    kept.recorded
-    × IsKeptInPart (is_some rack.image_out) (image_of calls.left.store) kept.image
+    AreKeptInPart kept rack names calls
+    × IsBegun (is_some (recorded_in rack))
+    (record_of names calls.opening (calls.earlier ++ calls.standing)) kept.recorded
 
 -- what a session was told, below its heading; where a fault ended it, a line says so behind that
 abbrev pub told_text : Session → List ℕ
@@ -870,11 +871,11 @@ pub record HasServed (run : Run) (rack : SharedRack) (scripts : List Text)
   pub begins : BeginsOn run rack extent calls.opening
   pub held : AreAllHeld run.holds scripts texts
   pub numbers : map (λ s. s.number) sessions ≡ range_with_len 0 (length texts)
-  pub each :
-      AllByRecursion (λ s. IsSessionOf extent calls.told (slice_get texts s.number) s) sessions
+  pub each : AllByRecursion (λ s. IsSessionOf extent calls (slice_get texts s.number) s) sessions
   pub order : HaveOneOrder calls sessions
   pub no_earlier : calls.earlier ≡ []
-  pub whole : calls.untold ≡ []
+  pub unrecorded : calls.recorded ≡ false
+  pub whole : calls.standing ≡ calls.made
   pub status : run.status ≡ status_at (list_any (λ s. is_some s.fault) sessions)
   pub prints : run.prints (flat_map told_text sessions)
   pub kept : keeps calls
@@ -883,8 +884,8 @@ pub record HasServed (run : Run) (rack : SharedRack) (scripts : List Text)
 abbrev pub IsEmpty : Option Closed → Type 0
 IsEmpty file = IfSome file (λ file. (file.bytes ≡ Some []) × (file.stands ≡ false))
 
--- The file that was opened for the record of live sessions holds what it held; or what a record may
--- hold with which they began, and of which nobody was told more.
+-- The file that was opened for the record of live sessions holds what it held; or what the record
+-- tells of the calls with which they began, or of a new one a front of its head.
 abbrev pub IsAsItWas : Run → Option RecordFile → List Text → Option Closed → Type 0
 IsAsItWas run record_out names file =
     IfSome file (λ file. MatchOption record_out ⊥ (λ out. (held text : List ℕ)
@@ -944,9 +945,10 @@ FollowsFrom resumes limit head held calls =
     ⊎ ((resumes ≡ true) × ((text rest : List ℕ) × (end : Machine) × (held ≡ head ++ text)
     × IsRemade limit text calls.opening None calls.earlier end rest))
 
--- the same of the file for a record; without one they begin with none, and all are told
+-- the same of the file for a record; without one they begin with none, and no call is missing
 abbrev pub GoesOnFrom : Run → Option RecordFile → List Text → Calls → Type 0
-GoesOnFrom run None names calls = (calls.earlier ≡ []) × (calls.untold ≡ [])
+GoesOnFrom run None names calls =
+    (calls.earlier ≡ []) × (calls.recorded ≡ false) × (calls.standing ≡ calls.made)
 GoesOnFrom run (Some out) names calls =
     (held : List ℕ) × run.holds out.name held
     × FollowsFrom out.resumes (session_limit (length names)) (head_for calls.opening names) held
@@ -959,10 +961,10 @@ pub record Hosted : Type 0 where
 
 -- It had a session with what comes from `NAME.in`. What it was told stands in `NAME.out`, behind what
 -- that held. Or these couldn't be opened, and it asked nothing.
-abbrev pub IsHosted : Extent → List Entry → Clients → Text → Session → Ending (List ℕ) → Type 0
-IsHosted extent history clients name s Unopened = own s.number history ≡ []
-IsHosted extent history clients name s (Served fault holds) =
-    IsSessionOf extent history (clients.comes (name ++ codes ".in")) s × (s.fault ≡ fault)
+abbrev pub IsHosted : Extent → Calls → Clients → Text → Session → Ending (List ℕ) → Type 0
+IsHosted extent calls clients name s Unopened = own s.number calls.made ≡ []
+IsHosted extent calls clients name s (Served fault holds) =
+    IsSessionOf extent calls (clients.comes (name ++ codes ".in")) s × (s.fault ≡ fault)
     × (holds ≡ clients.had (name ++ codes ".out") ++ s.told)
 
 -- the name of a client by its number
@@ -987,7 +989,7 @@ pub record HasHosted (run : Run) (rack : SharedRack) (names : List Text) (client
   pub numbers : map (λ h. h.its.number) sessions ≡ range_with_len 0 (length names)
   pub ends : map (λ h. h.end) sessions ≡ clients.ends
   pub each : AllByRecursion
-      (λ h. IsHosted extent calls.told clients (name_at names h.its.number) h.its h.end) sessions
+      (λ h. IsHosted extent calls clients (name_at names h.its.number) h.its h.end) sessions
   pub order : HaveOneOrder calls (map (λ h. h.its) sessions)
   pub status : run.status ≡ status_at (list_any has_failed clients.ends)
   pub prints : run.prints (flat_map (hosted_text names) sessions)
@@ -1013,7 +1015,7 @@ pub record HasTalked (run : Run) (rack : SharedRack) (keeps : Calls → Type 0) 
   pub goes_on : GoesOnFrom run rack.record_out [] calls
   pub held : run.holds input_name came
   pub number : its.number ≡ 0
-  pub is : IsSessionOf extent calls.told (Some came) its
+  pub is : IsSessionOf extent calls (Some came) its
   pub order : HaveOneOrder calls (its ∷ [])
   pub status : run.status ≡ status_at (is_some its.fault)
   pub prints : run.prints (its.told ++ line_of_end its.fault)

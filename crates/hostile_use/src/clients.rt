@@ -88,7 +88,8 @@ fn serve_script<L: ExchangeName, R: AllocGlobal + Eprint + Threads + Wait + Sync
     scripts: &[Vec<u8>],
     all: &Mutex<Vec<Told>>,
 ) -> Seat<L>
-    requires { seat.exchange ≡ Some exchange.now.word }
+    requires exchange { seat.exchange ≡ Some exchange.now.word }
+    requires told { seat.log ≡ seat.asked }
     ensures { result.exchange ≡ seat.exchange }
 {
     let session = seat.session();
@@ -186,7 +187,8 @@ fn serve_all<L: ExchangeName + Send + Sync, R: AllocGlobal + Eprint + Threads + 
     let all = Mutex::new(Vec::new(rt.alloc()));
     let (lent, kept) = (&exchange, &all);
     let one = |seat: Seat<L>| -> Seat<L>
-        requires { seat.exchange ≡ Some lent.now.word }
+        requires exchange { seat.exchange ≡ Some lent.now.word }
+        requires told { seat.log ≡ seat.asked }
         ensures { result.exchange ≡ seat.exchange }
     { serve_script(rt, lent, seat, scripts, kept) };
     let Ok(seats) = thread::map_vec(rt, seats, &one) else {

@@ -1,11 +1,11 @@
 -- How live sessions begin.
-use Rattle.std.proofs.Common.{◌≡◌, ◌≢◌, ◌⊎◌, ◌∙◌, ◌++◌, ◌∷◌, rules, arith, ℕ, Bool, List, [], Option, Some, None, IfSome, IfOk, IfErr, Result, Ok, Err, true, false, is_some, append-nil, ap, inl, inr, length, sym, subst, refl, take}
+use Rattle.std.proofs.Common.{◌≡◌, ◌≢◌, ◌⊎◌, ◌∙◌, ◌++◌, rules, ℕ, Bool, List, [], Option, Some, None, IfSome, IfOk, IfErr, Result, Ok, Err, true, false, is_some, append-nil, ap, inl, inr, length, sym, subst, refl, take}
 use Rattle.std.specs.Prelude.{option_map}
 use Rattle.clap.specs.Words.{Text}
 use Rattle.module_memory.specs.Store.{Store}
-use Rattle.batch_book.specs.History.{Account, AreUnstopped, IsLegal, new_account}
-use Rattle.batch_book.specs.Machine.{opened}
+use Rattle.batch_book.specs.History.{Account, new_account}
 use Rattle.plan_answers.specs.Refusals.{Refuses}
+use Rattle.book_record.proofs.Fronts.{nil_left}
 use Rattle.book_record.specs.Heads.{session_limit}
 use Rattle.rack_answers.specs.Openings.{IsRackOf, IsWrongRack}
 use Rattle.refusals.specs.declared.refusal.Refusal.{Refusal}
@@ -13,11 +13,11 @@ use Rattle.refusals.specs.declared.refusal.Refusal.TheVariants.{NoMemory}
 use Rattle.record_replay.specs.ReplayAnswers.{of_record}
 use Rattle.command_words.specs.declared.jobs.RecordFile.{RecordFile}
 use Rattle.command_words.specs.declared.jobs.SharedRack.{SharedRack}
-use Rattle.kept_sessions.specs.Live.{HasFront, IsStarted, IsUnstarted}
+use Rattle.kept_sessions.specs.Live.{HasFront, IsReady, IsStarted, IsUnstarted}
 use Rattle.named_files.specs.Notes.{IsRefused}
 use Rattle.kept_sessions.specs.Outcomes.{IsToldOf, IsUnbegun, IsUnbegunFor}
 use Rattle.named_files.specs.Outputs.{IsOpened}
-use Rattle.kept_sessions.specs.Records.{BeginsAs, BeginsFor, IsAsBegun, IsBegun, IsCutFrom, head_for, record_front}
+use Rattle.kept_sessions.specs.Records.{BeginsAs, IsAsBegun, IsBegun, IsCutFrom, head_for, record_front}
 use Rattle.named_files.specs.Streams.{Closed, closed}
 use Rattle.kept_sessions.specs.Answers.{IsWrongStart}
 use Rattle.kept_sessions.specs.declared.found.Found.{Found}
@@ -27,23 +27,6 @@ use Rattle.named_files.specs.declared.notes.NoAnswer.{NoAnswer}
 use Rattle.named_files.specs.declared.outputs.OutFile.{OutFile}
 use Rattle.kept_sessions.specs.declared.recording.Unbegun.{Unbegun}
 use Rattle.kept_sessions.specs.declared.recording.Unbegun.TheVariants.{Missed, Wrong}
-
--- nothing stands before nothing
-none_before : (front rest : List ℕ) → front ++ rest ≡ [] → front ≡ []
-none_before [] rest is = refl
-none_before (x ∷ front) rest is = absurd cc
-
--- sessions begin with a legal book
-new_legal : (opening : Store) (was : Account) → was ≡ new_account opening → IsLegal was.opening was.history
-new_legal opening was is = subst (λ (a : Account). IsLegal a.opening a.history) (sym is) (opened opening, refl)
-
-legal_as : (resumes : Bool) (held : List ℕ) (opening : Store) (names : List Text) (was : Account) → BeginsAs resumes held opening names was → IsLegal was.opening was.history
-legal_as resumes held opening names was (inl new) = new_legal opening was new.2
-legal_as resumes held opening names was (inr again) = subst (λ (s : Store). IsLegal s was.history) (sym again.1.is_opening) (was.machine, again.1.remade.replayed.replay)
-
-pub legal_begun : (holds : List ℕ → List ℕ → Type 0) (record_out : Option RecordFile) (opening : Store) (names : List Text) (was : Account) → BeginsFor holds record_out opening names was → IsLegal was.opening was.history
-legal_begun holds None opening names was is = new_legal opening was is
-legal_begun holds (Some out) opening names was is = legal_as out.resumes is.0 opening names was is.2
 
 -- what stands where the head couldn't be written whole
 front_begun : (resumes : Bool) (rack : Store) (names : List Text) (was : Account) (held head text front rest : List ℕ) (kept : ℕ)
@@ -55,9 +38,9 @@ front_begun resumes rack names was held head text front rest kept begins is (inl
     let text_is : text ≡ front = said ∙ ap (λ (x : List ℕ). x ++ front) none in
     (rack, was, begins, inl (rest, new.1, sym whole ∙ parts ∙ ap (λ (x : List ℕ). x ++ rest) (sym text_is)))
 front_begun resumes rack names was held head text front rest kept begins is (inr none) parts said =
-    let nothing : front ≡ [] = none_before front rest (sym parts ∙ none) in
+    let nothing : front ≡ [] = nil_left front rest (sym none ∙ parts) in
     let kept_is : take kept held ≡ record_front names was = sym (append-nil (take kept held)) ∙ ap (λ (x : List ℕ). take kept held ++ x) (sym none) ∙ is in
-    (rack, was, begins, inr ([], omega arith, subst (IsLegal was.opening) (sym (append-nil was.history)) (legal_as resumes held rack names was begins), [], [], refl, said ∙ ap (λ (x : List ℕ). take kept held ++ x) nothing ∙ ap (λ (x : List ℕ). x ++ []) kept_is))
+    (rack, was, begins, inr (said ∙ ap (λ (x : List ℕ). take kept held ++ x) nothing ∙ append-nil (take kept held) ∙ kept_is))
 
 -- how a file is left that couldn't begin
 pub unstarted_file : {C : Type 0} (received : C → Closed) (resumes : Bool) (rack : Store) (names : List Text) (was : Account) (held lent head said : List ℕ) (kept : ℕ) (after : Option (List ℕ)) (receipt : Option C)
@@ -79,7 +62,7 @@ unstarted_file received resumes rack names was held lent head said kept after (S
 -- what sessions begin with whose record has a file
 pub started_in : {F U : Type 0} (r : Result (Start F) U) (holds : List ℕ → List ℕ → Type 0) (contents : F → Option (List ℕ)) (record_out : Option RecordFile) (rack : Store) (names : List Text) (resumes : Bool) (out : OutFile F)
     → IsOpened contents holds (option_map (λ (o : RecordFile). o.name) record_out) (Some out) → IfSome record_out (λ o. resumes ≡ o.resumes)
-    → IfOk r (λ start. BeginsAs resumes out.held.items rack names start.book × (start.book.whole ≡ true) × AreUnstopped start.book.history × (is_some start.stream ≡ true) × HasFront contents names start.book start.stream)
+    → IfOk r (λ start. BeginsAs resumes out.held.items rack names start.book × IsReady start.book × (is_some start.stream ≡ true) × HasFront contents names start.book start.stream)
     → IfOk r (λ start. IsCutFrom out.held.items (record_front names start.book) start.cut) → IfOk r (IsStarted holds contents record_out rack names)
 started_in (Err e) holds contents record_out rack names resumes out opened resume is cut = tt
 started_in (Ok start) holds contents None rack names resumes out opened resume is cut = absurd (let bad : None ≡ Some out.name.now = opened.0 in cc)
@@ -87,10 +70,9 @@ started_in (Ok start) holds contents (Some file) rack names resumes out opened r
     let name : out.name.now ≡ file.name = (let e : Some file.name ≡ Some out.name.now = opened.0 in cc) in
     record {
       begins = (out.held.items, subst (λ (n : Text). holds n out.held.items) name opened.1, subst (λ (b : Bool). BeginsAs b out.held.items rack names start.book) resume is.0);
-      whole = is.1;
-      unstopped = is.2;
-      stream = is.3;
-      front = is.4;
+      ready = is.1;
+      stream = is.2;
+      front = is.3;
       cut = (out.held.items, subst (λ (n : Text). holds n out.held.items) name opened.1, cut);
     }
 
@@ -117,10 +99,13 @@ unstarted_in (Err end) holds contents received (Some file) rack names resumes ou
     record { why = unbegun_for holds file rack names resumes out.held.items end.why resume has is.0; left = left_in holds received file names resumes out.held.items end.receipt resume has is.1 }
 
 -- what they begin with without a record
+pub new_ready : (rack : Store) (book : Account) → book ≡ new_account rack → IsReady book
+new_ready rack book is = subst IsReady (sym is) (record { whole = refl; all = refl; unstopped = search rules })
+
 pub started_none : {F : Type 0} (holds : List ℕ → List ℕ → Type 0) (contents : F → Option (List ℕ)) (record_out : Option RecordFile) (rack : Store) (names : List Text) (book : Account) → None ≡ option_map (λ (o : RecordFile). o.name) record_out → book ≡ new_account rack → IsStarted holds contents record_out rack names (record { book = book; stream = None; cut = None })
 started_none holds contents (Some file) rack names book none is = absurd (let bad : None ≡ Some file.name = none in cc)
 started_none holds contents None rack names book none is =
-    record { begins = is; whole = ap (λ (a : Account). a.whole) is; unstopped = subst (λ (a : Account). AreUnstopped a.history) (sym is) (search rules); stream = refl; front = tt; cut = refl }
+    record { begins = is; ready = new_ready rack book is; stream = refl; front = tt; cut = refl }
 
 -- the refusal of a rack
 pub wrong_rack : (r : Result Found NoAnswer) (holds : List ℕ → List ℕ → Type 0) (shared : SharedRack) (names : List Text) (image : Option (List ℕ)) (why : Refusal) → IfOk r (λ found. Refuses why found.answer) → (why ≢ NoMemory → IsWrongRack shared.shape image why)

@@ -1,24 +1,22 @@
 -- What a record holds of the entries that were told.
-use Rattle.std.proofs.Common.{◌≡◌, ◌∙◌, ◌++◌, ◌∷◌, ◌+◌, ℕ, Bool, List, [], Option, Some, None, IfSome, Result, Ok, Err, OnErr, OnOk, true, false, append-nil, append_assoc, ap, arith, length, length-append, take, sym, subst, refl}
+use Rattle.std.proofs.Common.{◌≡◌, ◌∙◌, ◌++◌, ℕ, Bool, List, [], Option, Some, None, IfSome, Result, Ok, Err, OnErr, OnOk, append-nil, append_assoc, ap, sym, subst, refl}
 use Rattle.std.specs.Prelude.{MatchOption}
 use Rattle.std.specs.List.{flat_map}
 use Rattle.std.specs.Io.KnownBytes.{Appends}
-use Rattle.std.proofs.lemmas.Grind.{flat_map-append}
-use Rattle.std.proofs.lemmas.List.{take_at}
 use Rattle.byte_streams.specs.Writing.{IsCutShort}
 use Rattle.clap.specs.Words.{Text}
-use Rattle.module_memory.specs.Store.{Store}
-use Rattle.batch_book.specs.declared.entry.Entry.{Entry}
 use Rattle.batch_book.specs.History.{Account}
-use Rattle.batch_book.specs.Recording.{AreAllBut, lost}
 use Rattle.book_record.specs.RecordText.{entry_text}
 use Rattle.book_record.specs.Streams.{IsWritten as IsStreamed}
+use Rattle.record_replay.specs.SessionRecords.{record_of}
 use Rattle.kept_sessions.specs.Keeping.{HasAllTold, HasGrown}
 use Rattle.kept_sessions.specs.Live.{IsOver}
-use Rattle.kept_sessions.specs.Records.{head_for, record_front}
+use Rattle.kept_sessions.specs.Records.{record_front, whole_record}
 use Rattle.kept_sessions.specs.declared.live.Over.{Over}
-use Rattle.kept_sessions.proofs.Lived.{so_far_at}
-use Rattle.named_files.specs.Streams.{Closed, closed}
+use Rattle.kept_sessions.proofs.Lived.{come_is, front_on}
+use Rattle.named_files.specs.Outputs.{IsFileWritten}
+use Rattle.named_files.specs.Streams.{Closed, IsFrontOf, closed}
+use Rattle.named_files.specs.declared.lost.Reason.{Reason}
 use Rattle.named_files.proofs.Written.{grown}
 
 -- what was written, or a front of it, was put behind what stood there
@@ -30,42 +28,39 @@ grown_by (Err e) old new bytes went cut = (cut.front, cut.appended)
 pub grown_closed : {C : Type 0} (received : C → Closed) (receipt : C) (old new : Option (List ℕ)) (stands : Bool) → received receipt ≡ closed new stands → HasGrown old new → HasGrown old (received receipt).bytes
 grown_closed received receipt old new stands is g = (g.0, subst (λ (b : Option (List ℕ)). Appends old b g.0) (sym (ap (λ (c : Closed). c.bytes) is)) g.1)
 
--- all but these last ones
-all_but : (whole : Bool) (told last all : List Entry) → all ≡ told ++ last → length last ≡ lost whole → AreAllBut whole told all
-all_but whole told last all are few = (sym (take_at told last (length told) refl) ∙ ap (take (length told)) (sym are), omega (arith, ap length are, length-append told last, few))
+-- a file that was written has a front of what was to be written
+front_written : {C : Type 0} (received : C → Closed) (name : Option Text) (bytes : List ℕ) (receipt : C) (lost : Option Reason) → IsFileWritten received name bytes (Some receipt) lost → IsFrontOf bytes (received receipt).bytes
+front_written received None bytes receipt lost is = absurd (let bad : Some receipt ≡ None = is.0 in cc)
+front_written received (Some name) bytes receipt None is = (bytes, [], sym (append-nil bytes), is.0)
+front_written received (Some name) bytes receipt (Some why) is = is.0
 
-told_at : (whole : Bool) (names : List Text) (was left : Account) (bytes after : Option (List ℕ)) → left.whole ≡ whole → left.opening ≡ was.opening → IsStreamed (Some (record_front names was)) bytes was.history left.history whole → HasGrown bytes after → HasAllTold names left after
-told_at true names was left bytes after is same w g = record {
-  told = left.history;
-  all = subst (λ (b : Bool). AreAllBut b left.history left.history) (sym is) (all_but true left.history [] left.history (sym (append-nil left.history)) refl);
-  rest = g.0;
-  stands = grown bytes after (record_front names left) g.0 (so_far_at true names was left bytes same w) g.1;
-}
-told_at false names was left bytes after is same w g =
-    let l = w.lacks_last refl in
+-- a record that was begun has each entry that stands where it belongs
+has_at : (names : List Text) (was left : Account) (bytes after : Option (List ℕ)) → left.opening ≡ was.opening → IsStreamed (Some (record_front names was)) bytes was.history left.stands left.history left.whole → HasGrown bytes after → (rest : List ℕ) × (after ≡ Some (record_of names left.opening left.stands ++ rest))
+has_at names was left bytes after same w g =
     let before = record_front names was in
-    let said = flat_map entry_text l.told in
-    let told = was.history ++ l.told in
-    let are : left.history ≡ told ++ l.last ∷ [] = w.are ∙ ap (λ (es : List Entry). was.history ++ es) l.are ∙ sym (append_assoc was.history l.told (l.last ∷ [])) in
-    let text : head_for left.opening names ++ flat_map entry_text told ≡ before ++ said =
-    ap (λ (s : List ℕ). s ++ flat_map entry_text told) (ap (λ (o : Store). head_for o names) same) ∙ ap (λ (x : List ℕ). head_for was.opening names ++ x) (flat_map-append entry_text was.history l.told) ∙ sym (append_assoc (head_for was.opening names) (flat_map entry_text was.history) said) in
-    record {
-      told = told;
-      all = subst (λ (b : Bool). AreAllBut b told left.history) (sym is) (all_but false told (l.last ∷ []) left.history are refl);
-      rest = l.front ++ g.0;
-      stands = grown bytes after (before ++ (said ++ l.front)) g.0 (grown (Some before) bytes before (said ++ l.front) refl l.appended) g.1
-          ∙ ap Some (ap (λ (x : List ℕ). x ++ g.0) (sym (append_assoc before said l.front)) ∙ append_assoc (before ++ said) l.front g.0 ∙ ap (λ (x : List ℕ). x ++ (l.front ++ g.0)) (sym text));
-    }
+    let added = flat_map entry_text w.added in (
+      w.front ++ g.0,
+      grown bytes after (before ++ (added ++ w.front)) g.0 (come_is names was left bytes w) g.1
+          ∙ ap Some (ap (λ (x : List ℕ). x ++ g.0) (sym (append_assoc before added w.front)) ∙ append_assoc (before ++ added) w.front g.0
+          ∙ ap (λ (x : List ℕ). x ++ (w.front ++ g.0)) (sym (front_on names was left.opening left.stands w.added same w.stand))),
+    )
 
-all_told_in : {F C : Type 0} (contents : F → Option (List ℕ)) (received : C → Closed) (names : List Text) (was left : Account) (stream : Option F) (recorded : Option C) → left.opening ≡ was.opening
-    → IfSome stream (λ file. IsStreamed (Some (record_front names was)) (contents file) was.history left.history left.whole) → MatchOption stream (recorded ≡ None) (λ file. IfSome recorded (λ r. HasGrown (contents file) (received r).bytes))
-    → IfSome recorded (λ r. HasAllTold names left (received r).bytes)
-all_told_in contents received names was left None None same text g = tt
-all_told_in contents received names was left None (Some r) same text g = absurd cc
-all_told_in contents received names was left (Some file) None same text g = tt
-all_told_in contents received names was left (Some file) (Some r) same text g = told_at left.whole names was left (contents file) (received r).bytes refl same text g
+told_at : (names : List Text) (left : Account) (after : Option (List ℕ)) → IsFrontOf (whole_record names left) after → (rest : List ℕ) × (after ≡ Some (record_of names left.opening left.stands ++ rest)) → HasAllTold names left after
+told_at names left after f has =
+    let file = record_of names left.opening left.stands ++ has.0 in
+    let same : f.0 ≡ file = (let e : Some f.0 ≡ Some file = sym f.3 ∙ has.1 in cc) in
+    (file, has.1, record { rest = has.0; has = refl; missing = f.1; cut = f.2 ∙ ap (λ (x : List ℕ). x ++ f.1) same })
 
--- the record holds each entry that was told
-pub all_told : {F C : Type 0} (contents : F → Option (List ℕ)) (received : C → Closed) (names : List Text) (was left : Account) (over : Over F) (recorded : Option C) → IsOver contents names was left over
-    → MatchOption over.stream (recorded ≡ None) (λ file. IfSome recorded (λ r. HasGrown (contents file) (received r).bytes)) → IfSome recorded (λ r. HasAllTold names left (received r).bytes)
-all_told contents received names was left over recorded is g = all_told_in contents received names was left over.stream recorded is.opening is.text g
+all_told_in : {F C : Type 0} (contents : F → Option (List ℕ)) (received : C → Closed) (name : Option Text) (names : List Text) (was left : Account) (stream : Option F) (recorded : Option C) (lost : Option Reason) → left.opening ≡ was.opening
+    → IfSome stream (λ file. IsStreamed (Some (record_front names was)) (contents file) was.history left.stands left.history left.whole) → MatchOption stream (recorded ≡ None) (λ file. IfSome recorded (λ r. HasGrown (contents file) (received r).bytes))
+    → IsFileWritten received name (whole_record names left) recorded lost → IfSome recorded (λ r. HasAllTold names left (received r).bytes)
+all_told_in contents received name names was left None None lost same text g written = tt
+all_told_in contents received name names was left None (Some r) lost same text g written = absurd cc
+all_told_in contents received name names was left (Some file) None lost same text g written = tt
+all_told_in contents received name names was left (Some file) (Some r) lost same text g written =
+    told_at names left (received r).bytes (front_written received name (whole_record names left) r lost written) (has_at names was left (contents file) (received r).bytes same text g)
+
+-- so it is of the record of sessions
+pub all_told : {F C : Type 0} (contents : F → Option (List ℕ)) (received : C → Closed) (name : Option Text) (names : List Text) (was left : Account) (over : Over F) (recorded : Option C) (lost : Option Reason) → IsOver contents names was left over
+    → MatchOption over.stream (recorded ≡ None) (λ file. IfSome recorded (λ r. HasGrown (contents file) (received r).bytes)) → IsFileWritten received name (whole_record names left) recorded lost → IfSome recorded (λ r. HasAllTold names left (received r).bytes)
+all_told contents received name names was left over recorded lost is = all_told_in contents received name names was left over.stream recorded lost is.opening is.text

@@ -1,17 +1,15 @@
 -- What the files hold to which go the record of sessions and the image that they leave.
-use Rattle.std.specs.Prelude.{◌≡◌, ◌++◌, ℕ, false, true, List, [], Option, Some, None, IfSome, flat_map, is_some}
+use Rattle.std.specs.Prelude.{◌≡◌, ℕ, false, true, List, [], Option, Some, None, IfSome, is_some}
 use Rattle.std.specs.Io.KnownBytes.{Appends}
 use Rattle.clap.specs.Words.{Text}
 use Rattle.module_memory.specs.Images.{image_of}
 use Rattle.batch_book.specs.History.{Account}
-use Rattle.batch_book.specs.Recording.{AreAllBut}
-use Rattle.batch_book.specs.declared.entry.Entry.{Entry}
-use Rattle.book_record.specs.RecordText.{entry_text}
 use Rattle.command_words.specs.Jobs.{recorded_in}
 use Rattle.command_words.specs.declared.jobs.SharedRack.{SharedRack}
+use Rattle.record_replay.specs.SessionRecords.{IsRecorded}
 use Rattle.named_files.specs.Contents.{Holding}
 use Rattle.named_files.specs.Streams.{Closed}
-use Rattle.kept_sessions.specs.Records.{IsAsBegun, head_for, whole_record}
+use Rattle.kept_sessions.specs.Records.{IsAsBegun, whole_record}
 use Rattle.named_files.specs.declared.lost.Lost.{Lost}
 use Rattle.named_files.specs.declared.outputs.Receipts.{Receipts}
 use Rattle.named_files.specs.Outputs.{HasNothingGone, IsFileWritten, IsUnput, lost_none}
@@ -20,13 +18,11 @@ use Rattle.named_files.specs.Outputs.{HasNothingGone, IsFileWritten, IsUnput, lo
 abbrev pub HasGrown : Option (List ℕ) → Option (List ℕ) → Type 0
 HasGrown before after = (more : List ℕ) × Appends before after more
 
--- The record's head stands there, and behind it each entry of the book; where it isn't whole, each
--- but the last one, which nobody was told. Something may stand behind.
-pub record HasAllTold (names : List Text) (book : Account) (text : Option (List ℕ)) : Type 0 where
-  pub told : List Entry
-  pub all : AreAllBut book.whole told book.history
-  pub rest : List ℕ
-  pub stands : text ≡ Some ((head_for book.opening names ++ flat_map entry_text told) ++ rest)
+-- A front of the book's whole record is there: its head, each entry of the book that stands where it
+-- belongs, and maybe more. What a session was told are the first ones of its own among these, and of
+-- a whole book these are all (`HaveOneHistory`).
+abbrev pub HasAllTold : List Text → Account → Option (List ℕ) → Type 0
+HasAllTold names book text = (file : List ℕ) × (text ≡ Some file) × IsRecorded names book file
 
 -- The files of the record and of the image that this book leaves were written and closed, so far as
 -- nothing of them is lost. All of the image stands in its file, or that is as it was.

@@ -33,13 +33,18 @@ abbrev pub HasFront : {F : Type 0} → (F → Option (List ℕ)) → List Text �
 HasFront contents names was stream =
     IfSome stream (λ file. contents file ≡ Some (record_front names was))
 
+-- a book with which sessions may begin: each entry stands where it belongs, and no run stopped
+pub record IsReady (book : Account) : Type 0 where
+  pub whole : book.whole ≡ true
+  pub all : book.stands ≡ book.history
+  pub unstopped : AreUnstopped book.history
+
 -- Sessions may begin with this book, behind which their record goes on, where they have one.
 pub record IsStarted {F : Type 0} (holds : Holding) (contents : F → Option (List ℕ))
     (record_out : Option RecordFile) (opening : Store) (names : List Text)
     (start : Start F) : Type 0 where
   pub begins : BeginsFor holds record_out opening names start.book
-  pub whole : start.book.whole ≡ true
-  pub unstopped : AreUnstopped start.book.history
+  pub ready : IsReady start.book
   pub stream : is_some start.stream ≡ is_some record_out
   pub front : HasFront contents names start.book start.stream
   pub cut : IsCutFromRecord holds record_out names start.book start.cut
@@ -59,15 +64,17 @@ pub record IsUnserved {C : Type 0} (holds : Holding) (received : C → Closed) (
   pub missed : IfErr kept.end IsRefused
   pub left : AreLiveKept holds received rack names None kept.receipts kept.lost
 
--- Sessions over one book left another. What a stream held stands before the entries that they made;
--- where not each of these stands there, before a front of the last one.
+-- Sessions over one book left another, which is whole just where no flush failed: then none of its
+-- entries waits. What a stream held is there, and behind it their entries that stand where they
+-- belong; where that aren't all, maybe a front of the text of the others.
 pub record IsOverAt {F : Type 0} (contents : F → Option (List ℕ)) (before : Option (List ℕ))
     (was left : Account) (over : Over F) : Type 0 where
   pub opening : left.opening ≡ was.opening
   pub machine : over.bare.machine ≡ left.machine
   pub whole : over.is_whole ≡ left.whole
-  pub text : IfSome over.stream (λ file.
-      IsStreamed before (contents file) was.history left.history left.whole)
+  pub all : left.whole ≡ true → left.stands ≡ left.history
+  pub text : IfSome over.stream (λ file. IsStreamed before (contents file) was.history left.stands
+      left.history left.whole)
 
 -- the same from their beginning: they have a stream where that has one
 abbrev pub IsOverFrom : {F : Type 0} → (F → Option (List ℕ)) → Start F → Account → Over F → Type 0

@@ -1,15 +1,14 @@
 -- How the record of live sessions begins, and what its file holds.
-use Rattle.std.specs.Prelude.{◌≡◌, ◌≢◌, ◌⊎◌, ◌++◌, ◌+◌, ◌≤◌, ◌==◌, ℕ, Bool, true, false, List, Option, Some, None, IfSome, MatchOption, [], count_by, flat_map, length}
+use Rattle.std.specs.Prelude.{◌≡◌, ◌≢◌, ◌⊎◌, ◌++◌, ◌+◌, ◌==◌, ℕ, Bool, true, false, List, Option, Some, None, IfSome, MatchOption, [], count_by, length}
 use Rattle.clap.specs.Words.{Text}
 use Rattle.batch.specs.Text.{line_feed}
 use Rattle.module_memory.specs.Images.{image_of}
 use Rattle.module_memory.specs.Store.{Store}
-use Rattle.batch_book.specs.declared.entry.Entry.{Entry}
-use Rattle.batch_book.specs.History.{Account, IsLegal, new_account}
-use Rattle.book_record.specs.RecordText.{entry_text}
+use Rattle.batch_book.specs.History.{Account, new_account}
 use Rattle.book_record.specs.Fronts.{end_line}
 use Rattle.book_record.specs.Heads.{adler, head_of, session_limit}
 use Rattle.record_replay.specs.Replays.{IsRecordError, IsRemade}
+use Rattle.record_replay.specs.SessionRecords.{record_of}
 use Rattle.record_replay.specs.declared.fault.RecordError.{RecordError}
 use Rattle.record_replay.specs.declared.fault.RecordFault.{RecordFault}
 use Rattle.record_replay.specs.declared.fault.RecordFault.TheVariants.{Head}
@@ -24,7 +23,7 @@ head_for opening names = head_of opening.shape (adler (image_of opening)) names
 
 -- what a record tells of a book so far
 abbrev pub record_front : List Text → Account → List ℕ
-record_front names book = head_for book.opening names ++ flat_map entry_text book.history
+record_front names book = record_of names book.opening book.history
 
 -- the whole record of a book whose sessions have ended
 abbrev pub whole_record : List Text → Account → List ℕ
@@ -91,23 +90,14 @@ IsWrongFor holds (Some out) opening names fault =
     (out.resumes ≡ true) × (held : List ℕ) × holds out.name held
     × IsWrongRecord (session_limit (length names)) held (head_for opening names) opening fault
 
--- What a record's file that held this has where nobody was told more: of a new book a front of the
--- head; or all that the record tells of the book with which sessions began, and behind that maybe a
--- front of the last entries, which nobody was told. These are legal behind the others, and at most
--- one.
+-- What a record's file that held this has where nothing was asked: of a new book a front of the
+-- head; or what the record tells of the book with which sessions began, and nothing else.
 abbrev pub IsBegun : Bool → List ℕ → List Text → List ℕ → Type 0
 IsBegun resumes held names text =
     (opening : Store) × (was : Account) × BeginsAs resumes held opening names was
     × (((missing : List ℕ) × (was ≡ new_account opening)
     × (head_for opening names ≡ text ++ missing))
-    ⊎ ((untold : List Entry) × (length untold ≤ 1)
-    × IsLegal was.opening (was.history ++ untold) × (front rest : List ℕ)
-    × (flat_map entry_text untold ≡ front ++ rest) × (text ≡ record_front names was ++ front)))
-
--- a book has at most one entry more than another, and is legal
-abbrev pub IsUnasked : Account → Account → Type 0
-IsUnasked was left =
-    (length left.history ≤ length was.history + 1) × IsLegal was.opening left.history
+    ⊎ (text ≡ record_front names was))
 
 -- The file of the record, if it was opened, holds what it held, or has begun so; and no other file
 -- was opened.

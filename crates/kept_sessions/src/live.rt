@@ -2,7 +2,7 @@
 
 ghost use Rattle.std.specs.Prelude.{◌≡◌, ◌⊎◌, ◌++◌, ◌≤◌, ℕ, List, None, Some, IfOk, IfErr, IfSome, MatchOption, OnErr, OnOk, false, is_some, length, option_map, take, true};
 ghost use Rattle.batch.specs.Text.{IsNumber};
-ghost use Rattle.batch_book.specs.History.{Account, AreUnstopped};
+ghost use Rattle.batch_book.specs.History.{Account};
 ghost use Rattle.clap.specs.Words.{Text};
 ghost use Rattle.command_words.specs.Jobs.{recorded_in};
 ghost use Rattle.module_memory.specs.Images.{image_of};
@@ -13,12 +13,12 @@ ghost use Rattle.book_record.specs.Fronts.{end_line};
 ghost use Rattle.book_record.specs.Heads.{session_limit};
 ghost use Rattle.book_record.specs.Streams.{IsWritten as IsStreamed};
 ghost use Rattle.named_files.specs.Contents.{contents_in};
-ghost use Rattle.kept_sessions.specs.Live.{HasFront, IsOver, IsStarted, IsUnserved, IsUnstarted, left_by};
+ghost use Rattle.kept_sessions.specs.Live.{HasFront, IsOver, IsReady, IsStarted, IsUnserved, IsUnstarted, left_by};
 ghost use Rattle.named_files.specs.Notes.{IsRefused};
 ghost use Rattle.kept_sessions.specs.Outcomes.{IsToldBy, IsToldOf, IsUnbegun};
 ghost use Rattle.kept_sessions.specs.Keeping.{AreLiveKept, AreWritten, HasGrown};
 ghost use Rattle.named_files.specs.Outputs.{AreNamed, AreOpened, IsFileWritten, IsOpened, IsUnput, is_new, name_of};
-ghost use Rattle.kept_sessions.specs.Records.{BeginsAs, BeginsFor, IsBegun, IsCutFrom, IsSoFar, IsUnasked, head_for, record_front};
+ghost use Rattle.kept_sessions.specs.Records.{BeginsAs, BeginsFor, IsBegun, IsCutFrom, IsSoFar, head_for, record_front};
 ghost use Rattle.named_files.specs.Streams.{IsWrittenBy, closed};
 
 use crate::found::{Cut, Found};
@@ -130,8 +130,7 @@ fn start_in<R: Threads + Sync, S: System>(
     requires contents { S.Stream.contents out.file ≡ Some out.held.items }
     ensures started { IfOk result (λ start.
         BeginsAs resumes out.entry.held.items rack names.now start.book
-        × (start.book.whole ≡ true) × AreUnstopped start.book.history
-        × (is_some start.stream ≡ true)
+        × IsReady start.book × (is_some start.stream ≡ true)
         × HasFront S.Stream.contents names.now start.book start.stream) }
     ensures cut { IfOk result (λ start. IsCutFrom out.entry.held.items
         (record_front names.now start.book) start.cut) }
@@ -341,7 +340,7 @@ pub(crate) fn over_recorded<F: Write, N: StreamName>(
     ensures whole { result.is_whole ≡ book.whole }
     ensures stream { is_some result.stream ≡ true }
     ensures text { IfSome result.stream (λ file.
-        IsStreamed N.held (F.contents file) N.earlier book.history book.whole) }
+        IsStreamed N.held (F.contents file) N.earlier book.stands book.history book.whole) }
 {
     let is_whole = book.log().is_whole();
     let (bare, stream) = stream_off(book);
@@ -468,7 +467,8 @@ pub(crate) fn end_live<S: System>(
     ensures cut { result.cut ≡ cut }
     ensures kept { (opening : Store) → (names : List Text) → (was : Account) → (left : Account)
         → BeginsFor (S.holds system.now) shared.now.record_out opening names was
-        → IsOver S.Stream.contents names was left over → OnErr over.end (IsUnasked was left)
+        → IsOver S.Stream.contents names was left over
+        → OnErr over.end (left.history ≡ was.history)
         → AreLiveKept (S.holds system.now) S.received shared.now names (left_by over.end left)
         result.receipts result.lost }
 {

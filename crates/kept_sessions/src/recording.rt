@@ -2,10 +2,11 @@
 
 ghost use Rattle.std.specs.Prelude.{◌≡◌, ◌==◌, ◌⊎◌, [], ◌≤◌, ◌+◌, ◌++◌, ◌-◌, IfErr, IfOk, true, count_by, drop, length, map, take};
 ghost use Rattle.batch.specs.Text.{IsNumber, line_feed};
-ghost use Rattle.batch_book.specs.History.{AreUnstopped, new_account};
+ghost use Rattle.batch_book.specs.History.{new_account};
 ghost use Rattle.book_record.specs.Heads.{session_limit};
 ghost use Rattle.record_replay.specs.ReplayAnswers.{of_record};
 ghost use Rattle.named_files.specs.Notes.{IsRefused};
+ghost use Rattle.kept_sessions.specs.Live.{IsReady};
 ghost use Rattle.kept_sessions.specs.Outcomes.{IsUnbegun, IsUnremade};
 ghost use Rattle.kept_sessions.specs.Records.{BeginsAs, IsCutFrom, IsCutOf, IsResumed, head_for, record_front};
 
@@ -141,6 +142,7 @@ fn resume<R: Threads + Sync>(
     ensures resumed { IfOk result (λ r. (resumed : IsResumed limit held.now head.now rack r.0)
         × (r.1 ≡ length held.now - length resumed.rest)) }
     ensures whole { IfOk result (λ r. r.0.whole ≡ true) }
+    ensures all { IfOk result (λ r. r.0.stands ≡ r.0.history) }
     ensures unbegun { IfErr result (IsUnbegun true limit held.now head.now rack) }
 {
     let Some(text) = behind(held, head) else {
@@ -152,7 +154,8 @@ fn resume<R: Threads + Sync>(
     };
     match replay(rt, alloc, rack, text, limit, None, workers) {
         Ok(Remade { book, rest, .. }) => {
-            // Asked for only for its contract, which says that the book is whole.
+            // Asked for only for its contract, which says that the book is whole, and that no entry
+            // of it waits.
             book.log();
             Ok((book, held.len().saturating_sub(rest.len())))
         }
@@ -207,8 +210,7 @@ pub(crate) fn begin<R: Threads + Sync>(
         ⊎ (begun.head.items ≡ [])) }
     ensures cut { IfOk result (λ begun.
         IsCutFrom held.now (record_front names.now begun.book) begun.cut) }
-    ensures ready { IfOk result (λ begun.
-        (begun.book.whole ≡ true) × AreUnstopped begun.book.history) }
+    ensures ready { IfOk result (λ begun. IsReady begun.book) }
     ensures unbegun { IfErr result
         (IsUnbegun resumes (session_limit (length names.now)) held.now
         (head_for rack names.now) rack) }

@@ -2,13 +2,13 @@
 
 ghost use Rattle.std.specs.Prelude.{◌≡◌, [], List, ℕ, Option, None, IfErr, IfOk, is_some, true};
 ghost use Rattle.std.specs.Io.KnownBytes.{Appends};
-ghost use Rattle.batch_book.specs.History.{Account, AreUnstopped};
+ghost use Rattle.batch_book.specs.History.{Account};
 ghost use Rattle.client_session.specs.Listening.{TellsOfRefusals};
 ghost use Rattle.command_words.specs.Jobs.{CanBeServed, recorded_in};
 ghost use Rattle.session_answers.specs.Serving.{IsServeAnswer};
 ghost use Rattle.named_files.specs.Clients.{clients_by, ends_of};
 ghost use Rattle.named_files.specs.Contents.{contents_in};
-ghost use Rattle.kept_sessions.specs.Live.{IsHostOver, IsLived, IsOverAt, IsOverFrom, IsTalkOver};
+ghost use Rattle.kept_sessions.specs.Live.{IsHostOver, IsLived, IsOverAt, IsOverFrom, IsReady, IsTalkOver};
 ghost use Rattle.named_files.specs.Notes.{IsRefused};
 ghost use Rattle.named_files.specs.Outputs.{AreNamed, AreOpened, IsFileWritten, IsOpened, is_new, lost_none, name_of};
 ghost use Rattle.kept_sessions.specs.Keeping.{AreScriptsKept};
@@ -149,8 +149,7 @@ fn host_over<K: History + Send, R: Threads + Wait + Sync, S: ClientFiles>(
     endings: &mut Vec<Ending<PassedBytes>>,
 ) -> (Result<Answer, Refusal>, Book<K>)
     requires clients { CanBeServed streams.now.clients.now }
-    requires whole { book.whole ≡ true }
-    requires unstopped { AreUnstopped book.history }
+    requires ready { IsReady book }
     ensures { IsHostOver K.loses book
         (clients_by (S.says streams.now.system.now) (S.had streams.now.system.now)
         streams.now.clients.now) endings.old.items endings.new.items result.0 result.1 }
@@ -178,8 +177,7 @@ fn host_recorded<N: StreamName + Send, R: Threads + Wait + Sync, S: System>(
     requires held { S.Stream.contents stream ≡ N.held }
     requires earlier { book.history ≡ N.earlier }
     requires clients { CanBeServed streams.now.clients.now }
-    requires whole { book.whole ≡ true }
-    requires unstopped { AreUnstopped book.history }
+    requires ready { IsReady book }
     ensures stream { is_some result.stream ≡ true }
     ensures over { (left : Account) × IsOverAt S.Stream.contents N.held book left result
         × IsHostOver true book
@@ -201,8 +199,7 @@ fn host_from<R: Threads + Wait + Sync, S: System>(
     endings: &mut Vec<Ending<PassedBytes>>,
 ) -> Over<S::Stream>
     requires clients { CanBeServed streams.now.clients.now }
-    requires whole { start.book.whole ≡ true }
-    requires unstopped { AreUnstopped start.book.history }
+    requires ready { IsReady start.book }
     ensures over { (left : Account) × IsOverFrom S.Stream.contents start left result
         × IsHostOver (is_some start.stream) start.book
         (clients_by (S.says streams.now.system.now) (S.had streams.now.system.now)
@@ -273,8 +270,7 @@ fn talk_over<K: History, R: Threads + Wait + Sync, I: Read, O: Write, H: Listene
     out: &mut O,
     listener: &mut H,
 ) -> (Result<Answer, Refusal>, Book<K>)
-    requires whole { book.whole ≡ true }
-    requires unstopped { AreUnstopped book.history }
+    requires ready { IsReady book }
     ensures session { (told : List ℕ)
         × Appends (O.contents out.old) (O.contents out.new) told
         × IsTalkOver K.loses book (I.remaining input.old) (I.remaining input.new) told result.0
@@ -299,8 +295,7 @@ fn talk_recorded<N: StreamName, R: Threads + Wait + Sync, F: Write, I: Read, O: 
 ) -> Over<F>
     requires held { F.contents stream ≡ N.held }
     requires earlier { book.history ≡ N.earlier }
-    requires whole { book.whole ≡ true }
-    requires unstopped { AreUnstopped book.history }
+    requires ready { IsReady book }
     ensures stream { is_some result.stream ≡ true }
     ensures session { (told : List ℕ) × (left : Account)
         × Appends (O.contents out.old) (O.contents out.new) told
@@ -323,8 +318,7 @@ fn talk_from<R: Threads + Wait + Sync, F: Write, I: Read, O: Write, H: Listener>
     out: &mut O,
     listener: &mut H,
 ) -> Over<F>
-    requires whole { start.book.whole ≡ true }
-    requires unstopped { AreUnstopped start.book.history }
+    requires ready { IsReady start.book }
     ensures session { (told : List ℕ) × (left : Account)
         × Appends (O.contents out.old) (O.contents out.new) told
         × IsOverFrom F.contents start left result

@@ -1,13 +1,14 @@
 -- What is read of a text that was cut leads where a front of its history leads.
-use Rattle.std.proofs.Common.{◌≡◌, ℕ, ◌<◌, ◌≤◌, true, false, List, [], ◌∷◌, ◌++◌, length, map, All, refl, sym, ap, ◌∙◌, append_assoc, append-nil, subst, arith}
+use Rattle.std.proofs.Common.{◌≡◌, ℕ, ◌<◌, List, [], ◌∷◌, ◌++◌, length, map, All, refl, sym, ap, ◌∙◌, append_assoc, append-nil, subst, arith}
 use Rattle.std.specs.List.{flat_map}
 use Rattle.std.proofs.lemmas.Grind.{flat_map-append}
 use Rattle.std.proofs.lemmas.List.{append_cancel_left, length-append, length-map, nil_from_length}
 use Rattle.std.proofs.lemmas.List.Elements.{All-append, All-nil, All-cons, All-head, All-tail}
 use Rattle.module_memory.specs.Store.{Store, HasAllBlocks}
 use Rattle.batch_book.specs.declared.entry.Entry.{Entry}
-use Rattle.batch_book.specs.History.{IsReplay}
+use Rattle.batch_book.specs.History.{IsReplay, Starts}
 use Rattle.batch_book.specs.Machine.{Machine, opened}
+use Rattle.batch_book.proofs.Fronts.{starts}
 use Rattle.book_record.specs.RecordText.{entry_text, CanTell}
 use Rattle.book_record.specs.Untold.{told_entry}
 use Rattle.book_record.proofs.Records.{fit_at_first, goes_on}
@@ -54,20 +55,19 @@ cut_is_resumed opening es fs end n text missing rest all each led cut read too =
     let c = each_front es text missing each cut in
     (at_front opening es fs c.whole c.more end n text c.rest rest all c.are led c.read read too).0
 
--- the same where the text has at least that of the entries that were told: then what was read has
--- them
-told_is_resumed : (opening : Store) (told later fs : List Entry) (end n : Machine) (text behind missing rest : List ℕ) → HasAllBlocks opening → All CanTell told → All CanTell later → IsReplay (opened opening) (told ++ later) end
-    → text ≡ flat_map entry_text told ++ behind → flat_map entry_text later ≡ behind ++ missing → IsReadAs text fs rest → IsReplay (opened opening) fs n → (l : LeadsToFront opening (told ++ later) fs n) × (length told ≤ length l.front)
-told_is_resumed opening told later fs end n text behind missing rest all told_can later_can led is cut read too =
+-- the same where the text has at least that of these entries: then what was read has them
+at_least : (opening : Store) (stands later fs : List Entry) (end n : Machine) (text behind missing rest : List ℕ) → HasAllBlocks opening → All CanTell stands → All CanTell later → IsReplay (opened opening) (stands ++ later) end
+    → text ≡ flat_map entry_text stands ++ behind → flat_map entry_text later ≡ behind ++ missing → IsReadAs text fs rest → IsReplay (opened opening) fs n → (l : LeadsToFront opening (stands ++ later) fs n) × Starts stands l.front
+at_least opening stands later fs end n text behind missing rest all stands_can later_can led is cut read too =
     let c = each_front later behind missing later_can cut in
-    let known : IsReadAs text (told ++ c.whole) c.rest = record {
-      front = is ∙ ap (λ (l : List ℕ). flat_map entry_text told ++ l) c.read.front ∙ sym (append_assoc (flat_map entry_text told) (flat_map entry_text c.whole) c.rest)
-          ∙ ap (λ (l : List ℕ). l ++ c.rest) (sym (flat_map-append entry_text told c.whole));
-      each = All-append CanTell told c.whole told_can c.read.each;
+    let known : IsReadAs text (stands ++ c.whole) c.rest = record {
+      front = is ∙ ap (λ (l : List ℕ). flat_map entry_text stands ++ l) c.read.front ∙ sym (append_assoc (flat_map entry_text stands) (flat_map entry_text c.whole) c.rest)
+          ∙ ap (λ (l : List ℕ). l ++ c.rest) (sym (flat_map-append entry_text stands c.whole));
+      each = All-append CanTell stands c.whole stands_can c.read.each;
       unfinished = c.read.unfinished;
     } in
-    let l = at_front opening (told ++ later) fs (told ++ c.whole) c.more end n text c.rest rest all (ap (λ (x : List Entry). told ++ x) c.are ∙ sym (append_assoc told c.whole c.more)) led known read too in
-    (l.0, omega (arith, ap length l.1, length-append told c.whole))
+    let l = at_front opening (stands ++ later) fs (stands ++ c.whole) c.more end n text c.rest rest all (ap (λ (x : List Entry). stands ++ x) c.are ∙ sym (append_assoc stands c.whole c.more)) led known read too in
+    (l.0, starts stands l.0.front c.whole l.1)
 
 -- the number of an entry's session is below this
 abbrev pub IsBelow : ℕ → Entry → Type 0
@@ -79,13 +79,13 @@ both_parts P (x ∷ xs) ys all =
     let rest = both_parts P xs ys (All-tail P x (xs ++ ys) all) in
     (All-cons P x xs (All-head P x (xs ++ ys) all) rest.0, rest.1)
 
--- the same of all entries, of which these were told
-parts_resumed : (opening : Store) (told later all fs : List Entry) (end n : Machine) (text behind missing rest : List ℕ) → HasAllBlocks opening → all ≡ told ++ later → All CanTell all → IsReplay (opened opening) all end
-    → text ≡ flat_map entry_text told ++ behind → flat_map entry_text later ≡ behind ++ missing → IsReadAs text fs rest → IsReplay (opened opening) fs n → (l : LeadsToFront opening all fs n) × (length told ≤ length l.front)
-parts_resumed opening told later all fs end n text behind missing rest blocks are can led is cut read too =
-    let parts = both_parts CanTell told later (subst (All CanTell) are can) in
-    subst (λ (es : List Entry). (l : LeadsToFront opening es fs n) × (length told ≤ length l.front)) (sym are)
-    (told_is_resumed opening told later fs end n text behind missing rest blocks parts.0 parts.1 (subst (λ (es : List Entry). IsReplay (opened opening) es end) are led) is cut read too)
+-- the same of all entries, of which these are the first
+parts_resumed : (opening : Store) (stands later all fs : List Entry) (end n : Machine) (text behind missing rest : List ℕ) → HasAllBlocks opening → all ≡ stands ++ later → All CanTell all → IsReplay (opened opening) all end
+    → text ≡ flat_map entry_text stands ++ behind → flat_map entry_text later ≡ behind ++ missing → IsReadAs text fs rest → IsReplay (opened opening) fs n → (l : LeadsToFront opening all fs n) × Starts stands l.front
+parts_resumed opening stands later all fs end n text behind missing rest blocks are can led is cut read too =
+    let parts = both_parts CanTell stands later (subst (All CanTell) are can) in
+    subst (λ (es : List Entry). (l : LeadsToFront opening es fs n) × Starts stands l.front) (sym are)
+    (at_least opening stands later fs end n text behind missing rest blocks parts.0 parts.1 (subst (λ (es : List Entry). IsReplay (opened opening) es end) are led) is cut read too)
 
 -- what stands behind the head
 behind_head : (head held text body more : List ℕ) (earlier : List Entry) → held ≡ head ++ flat_map entry_text earlier → text ≡ held ++ more → text ≡ head ++ body → body ≡ flat_map entry_text earlier ++ more
@@ -93,17 +93,8 @@ behind_head head held text body more earlier was grown is =
     append_cancel_left head body (flat_map entry_text earlier ++ more) (sym is ∙ grown ∙ ap (λ (l : List ℕ). l ++ more) was ∙ append_assoc head (flat_map entry_text earlier) more)
 
 pub stream_is_resumed : StreamIsResumed
-stream_is_resumed opening head held text body earlier all fs true end n rest blocks can led was w is read too =
-    let body_is : body ≡ flat_map entry_text all ++ [] =
-    behind_head head held text body (flat_map entry_text w.added) earlier was (w.has_all refl) is ∙ sym (flat_map-append entry_text earlier w.added) ∙ ap (flat_map entry_text) (sym w.are) ∙ sym (append-nil (flat_map entry_text all)) in
-    let l = parts_resumed opening all [] all fs end n body [] [] rest blocks (sym (append-nil all)) can led body_is refl read too in
-    (l.0, omega (arith, l.1))
-stream_is_resumed opening head held text body earlier all fs false end n rest blocks can led was w is read too =
-    let cut = w.lacks_last refl in
-    let told = earlier ++ cut.told in
-    let all_is : all ≡ told ++ cut.last ∷ [] = w.are ∙ ap (λ (es : List Entry). earlier ++ es) cut.are ∙ sym (append_assoc earlier cut.told (cut.last ∷ [])) in
-    let body_is : body ≡ flat_map entry_text told ++ cut.front =
-    behind_head head held text body (flat_map entry_text cut.told ++ cut.front) earlier was cut.appended is ∙ sym (append_assoc (flat_map entry_text earlier) (flat_map entry_text cut.told) cut.front)
-    ∙ ap (λ (t : List ℕ). t ++ cut.front) (sym (flat_map-append entry_text earlier cut.told)) in
-    let l = parts_resumed opening told (cut.last ∷ []) all fs end n body cut.front cut.missing rest blocks all_is can led body_is (append-nil (entry_text cut.last) ∙ cut.cut) read too in
-    (l.0, omega (arith, l.1, ap length all_is, length-append told (cut.last ∷ [])))
+stream_is_resumed opening head held text body earlier stands all fs whole end n rest blocks can led was w is read too =
+    let body_is : body ≡ flat_map entry_text stands ++ w.front =
+    behind_head head held text body (flat_map entry_text w.added ++ w.front) earlier was w.appended is ∙ sym (append_assoc (flat_map entry_text earlier) (flat_map entry_text w.added) w.front)
+    ∙ ap (λ (t : List ℕ). t ++ w.front) (sym (flat_map-append entry_text earlier w.added) ∙ ap (flat_map entry_text) (sym w.stand)) in
+    parts_resumed opening stands w.waiting all fs end n body w.front w.missing rest blocks w.are can led body_is w.cut read too

@@ -7,6 +7,7 @@ mod Telling
 mod Turns
 pub mod Cuts
 pub mod Recorded
+pub mod Written
 mod OneReplay
 mod Heads
 mod Books

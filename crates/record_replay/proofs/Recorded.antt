@@ -44,12 +44,17 @@ pub any_session : (es : List Entry) → All CanTell es → All (λ e. e.session 
 any_session [] each = All-nil (IsBelow (session_limit 0))
 any_session (e ∷ es) each = All-cons (IsBelow (session_limit 0)) e es (All-head CanTell e es each).session (any_session es (All-tail CanTell e es each))
 
--- its entries lead to the book's machine, and the record ends behind them
-its_record : (limit : ℕ) (book : Account) (body : List ℕ) → limit ≡ session_limit 0 → All CanTell book.history → IsReplay (opened book.opening) book.history book.machine → body ≡ flat_map entry_text book.history ++ end_line → IsRemade limit body book.opening None book.history book.machine end_line
-its_record limit book body any each led is = record {
-  replayed = record { front = is; each = each; sessions = subst (λ (n : ℕ). All (IsBelow n) book.history) (sym any) (any_session book.history each); replay = led };
-  ends = inr (tt, (end_is_no_entry.0 end_line [] (sym (append-nil end_line)), inl ([], sym (append-nil end_line))));
+-- the text of all entries, and a front of the last line: they are made again
+pub ended_so : (limit : ℕ) (opening : Store) (es : List Entry) (end : Machine) (body line missing : List ℕ) → All CanTell es → All (IsBelow limit) es → IsReplay (opened opening) es end → body ≡ flat_map entry_text es ++ line → end_line ≡ line ++ missing → IsRemade limit body opening None es end line
+ended_so limit opening es end body line missing can below led is cut = record {
+  replayed = record { front = is; each = can; sessions = below; replay = led };
+  ends = inr (tt, (end_is_no_entry.0 line missing cut, inl (missing, cut)));
 }
+
+-- its entries lead to the book's machine, and the record ends behind them
+pub its_record : (limit : ℕ) (book : Account) (body : List ℕ) → limit ≡ session_limit 0 → All CanTell book.history → IsReplay (opened book.opening) book.history book.machine → body ≡ flat_map entry_text book.history ++ end_line → IsRemade limit body book.opening None book.history book.machine end_line
+its_record limit book body any each led is =
+    ended_so limit book.opening book.history book.machine body end_line [] each (subst (λ (n : ℕ). All (IsBelow n) book.history) (sym any) (any_session book.history each)) led is (sym (append-nil end_line))
 
 pub again_same : (limit : ℕ) (book : Account) (rack : Store) (body rest : List ℕ) (es : List Entry) (end : Machine) → limit ≡ session_limit 0 → HasAllBlocks book.opening → rack ≡ book.opening → All CanTell book.history → IsReplay (opened book.opening) book.history book.machine
     → body ≡ flat_map entry_text book.history ++ end_line → IsRemade limit body rack None es end rest → (map told_entry es ≡ map told_entry book.history) × (end.store ≡ book.machine.store)

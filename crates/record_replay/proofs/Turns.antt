@@ -17,8 +17,8 @@ use Rattle.batch_book.specs.Told.{told}
 use Rattle.book_record.specs.RecordText.{CanSay}
 use Rattle.client_session.specs.Commands.{Means}
 use Rattle.client_session.specs.Seats.{SeatView, logged}
-use Rattle.client_session.specs.Sessions.{IsSession, added_entries}
-use Rattle.client_session.specs.Turns.{Answer, Turn, IsBegun, IsTurn, DoesCommand, Submits, Settles, Plans, TellsReply}
+use Rattle.client_session.specs.Sessions.{IsSession, added_entries, lost_entries}
+use Rattle.client_session.specs.Turns.{Answer, LostTurn, Turn, IsBegun, IsLostTurn, IsTurn, DoesCommand, Submits, Settles, Plans, TellsReply}
 use Rattle.client_session.specs.declared.command.SessionCommand.{SessionCommand}
 use Rattle.client_session.specs.declared.command.SessionCommand.TheVariants.{Batch, Plan as PlanOf, Run, Show, Drop, Peek, Poke, Progress, Bye}
 use Rattle.client_session.specs.declared.fault.ServeFault.TheVariants.{Record, Write}
@@ -142,6 +142,10 @@ begun_said by head (Some (Poke mo ad w)) es means is = subst Said (sym is) nothi
 begun_said by head (Some Progress) es means is = subst Said (sym is) nothing
 begun_said by head (Some Bye) es means is = subst Said (sym is) nothing
 
+lost_said : (by : ℕ) (lost : List LostTurn) → AllByRecursion (IsLostTurn by) lost → Said (lost_entries lost)
+lost_said by [] each = nothing
+lost_said by (t ∷ lost) each = said_append t.entries (lost_entries lost) (begun_said by t.head t.command t.entries each.0.means each.0.begun) (lost_said by lost each.1)
+
 -- ---- sessions
 
 are_of_lines : (es : List Entry) → Said es → AreOfLines es
@@ -158,5 +162,5 @@ sessions_say None known old new bytes entries written is ended = session_said ol
 sessions_say (Some Write) known old new bytes entries written is ended = session_said old new _ bytes ended.rest entries _ is ended.session
 sessions_say (Some Record) known old new bytes entries written is ended =
     are_of_lines entries (subst Said (sym ended.entries_are)
-    (said_append ended.told ended.last.entries (told_said_so old new ended.turns bytes _ ended.told written is ended.session) (begun_said old.session ended.last.head ended.last.command ended.last.entries ended.lost.means ended.lost.begun)))
+    (said_append ended.made (lost_entries ended.lost) (told_said_so old new _ bytes _ ended.made _ is ended.session) (lost_said old.session ended.lost ended.are_lost)))
 sessions_say (Some fault) known old new bytes entries written is ended = session_said old new ended.0 bytes ended.1 entries written is ended.2

@@ -1,12 +1,13 @@
--- What the laws state. Proofs use them; no contract of a call cites them.
-use Rattle.std.specs.Prelude.{◌≡◌, ◌⊎◌, ℕ, ◌^◌, ◌<◌, ◌≤◌, Bool, true, false, List, [], ◌∷◌, ◌++◌, length, All, Option, None, Some}
+-- What the laws state. Contracts of `kept_sessions` cite `IsRecorded`; of the rest no contract of a
+-- call cites any.
+use Rattle.std.specs.Prelude.{◌≡◌, ℕ, ◌^◌, ◌<◌, ◌≤◌, Bool, List, ◌++◌, length, All, Option, None, Some}
 use Rattle.std.specs.List.{flat_map}
 use Rattle.batch.specs.declared.limits.TheConstants.{MAX_DIGITS}
 use Rattle.module_memory.specs.Images.{image_of}
+use Rattle.module_memory.specs.Store.{Store}
 use Rattle.batch_book.specs.declared.entry.Entry.{Entry}
-use Rattle.batch_book.specs.History.{Account, IsReplay}
+use Rattle.batch_book.specs.History.{Account, IsReplay, Starts}
 use Rattle.batch_book.specs.Machine.{Machine, opened}
-use Rattle.batch_book.specs.Recording.{AreAllBut}
 use Rattle.book_record.specs.RecordText.{CanTell, entry_text}
 use Rattle.book_record.specs.Fronts.{end_line}
 use Rattle.book_record.specs.Heads.{AreNames, adler, head_of, session_limit, whole_text}
@@ -27,30 +28,34 @@ IsGivenShape None shape = Unit {0}
 IsGivenShape (Some given) shape = given ≡ shape
 
 -- Given the same image, and the same shape or none, `replay` answers what stands in the file by the
--- image of the words to which the first entries of the book's history lead. These are all that were
--- told, in their order, and maybe the one that nobody was told.
-pub record IsReplayedTo (shape : List ℕ) (image : Option (List ℕ)) (book : Account)
-    (file : List ℕ) : Type 0 where
-  pub front : List Entry
-  pub more : List Entry
-  pub are : book.history ≡ front ++ more
-  pub all_told : (told : List Entry) → AreAllBut book.whole told book.history
-      → (last : List Entry) × (front ≡ told ++ last)
-  pub each : All CanTell front
+-- image of the words to which these entries lead.
+pub record IsReplayedTo (shape : List ℕ) (image : Option (List ℕ)) (opening : Store)
+    (es : List Entry) (file : List ℕ) : Type 0 where
+  pub each : All CanTell es
   pub end : Machine
-  pub led : IsReplay (opened book.opening) front end
+  pub led : IsReplay (opened opening) es end
   pub answered : (given : Option (List ℕ)) → IsGivenShape given shape
       → IsReplayPrinted given file image None
       (record { text = image_of end.store; status = DONE })
+
+-- So it is with the first entries of the book's history. They have all that stand where they belong,
+-- in their order, so all that any session was told; and maybe some that nobody was told.
+pub record IsReplayedInPart (shape : List ℕ) (image : Option (List ℕ)) (book : Account)
+    (file : List ℕ) : Type 0 where
+  pub front : List Entry
+  pub has_told : Starts book.stands front
+  pub first : Starts front book.history
+  pub replayed : IsReplayedTo shape image book.opening front file
 
 -- that which scripts leave, all at once
 abbrev pub ServeIsReplayed : Type 0
 ServeIsReplayed =
     (shape : List ℕ) (image : Option (List ℕ)) (scripts : List (List ℕ)) (printed : Printed)
     (book : Account) → IsServeAnswer shape image scripts printed (Some book)
-    → length scripts ≤ 10 ^ MAX_DIGITS → IsReplayedTo shape image book (whole_text book)
+    → length scripts ≤ 10 ^ MAX_DIGITS
+    → IsReplayedTo shape image book.opening book.history (whole_text book)
 
--- ---- a record that is written call by call
+-- ---- a record that is written as calls are made
 
 -- an exchange begins over this book: its history is legal, and a record can tell it whose head names
 -- so many clients
@@ -59,43 +64,46 @@ pub record CanGoOn (clients : ℕ) (was : Account) : Type 0 where
   pub told : All CanTell was.history
   pub sessions : All (λ e. e.session < session_limit clients) was.history
 
--- The entry that nobody was told, where there is such, is one that such a record can tell.
-abbrev pub CanTellLost : ℕ → Account → Type 0
-CanTellLost clients left =
-    left.whole ≡ false → (others : List Entry) (last : Entry) → left.history ≡ others ++ last ∷ []
-    → CanTell last × (last.session < session_limit clients)
+-- the head of a record, by clients of these names, and these entries
+abbrev pub record_of : List (List ℕ) → Store → List Entry → List ℕ
+record_of names opening es =
+    head_of opening.shape (adler (image_of opening)) names ++ flat_map entry_text es
 
--- the head and the entries of a record of a book, by clients of these names
-abbrev pub record_so_far : List (List ℕ) → Account → List ℕ
-record_so_far names book =
-    head_of book.opening.shape (adler (image_of book.opening)) names
-    ++ flat_map entry_text book.history
+-- A file has at least the entries of this book that stand where they belong. Wherever it was cut, it
+-- is a front of the whole record.
+pub record IsRecorded (names : List (List ℕ)) (book : Account) (file : List ℕ) : Type 0 where
+  pub rest : List ℕ
+  pub has : file ≡ record_of names book.opening book.stands ++ rest
+  pub missing : List ℕ
+  pub cut : record_of names book.opening book.history ++ end_line ≡ file ++ missing
 
--- What a file holds behind an exchange over this book, which left that one: at first it held the
--- record so far, and its writer has got the rest. Behind a whole history the last line may follow.
-pub record IsRecorded (names : List (List ℕ)) (was left : Account) (file : List ℕ) : Type 0 where
-  pub are : AreNames names (length names)
-  pub text : List ℕ
-  pub written : IsWritten (Some (record_so_far names was)) (Some text) was.history left.history
-      left.whole
-  pub ends : (file ≡ text) ⊎ ((left.whole ≡ true) × (file ≡ text ++ end_line))
+-- An exchange over one book left the other. A stream's writer held the record so far, and has got
+-- the rest. So it is with what it holds; and where all entries stand, a front of the last line may
+-- follow.
+abbrev pub StreamIsRecorded : Type 0
+StreamIsRecorded =
+    (names : List (List ℕ)) (was left : Account) (text : List ℕ) → left.opening ≡ was.opening
+    → IsWritten (Some (record_of names was.opening was.history)) (Some text) was.history left.stands
+    left.history left.whole
+    → IsRecorded names left text
+    × (left.stands ≡ left.history → (end missing : List ℕ) → end_line ≡ end ++ missing
+    → IsRecorded names left (text ++ end))
 
 -- that of the clients of a host
 abbrev pub HostIsReplayed : Type 0
 HostIsReplayed =
     (shape : List ℕ) (image : Option (List ℕ)) (loses : Bool) (was left : Account)
     (g : KnownClients) (ends : List SessionEnd) (printed : Printed) (names : List (List ℕ))
-    (file : List ℕ) → IsRackOf shape image was.opening
+    (file : List ℕ) → IsRackOf shape image was.opening → AreNames names (length names)
     → CanGoOn (length names) was → AreHosted loses was g ends printed left
-    → g.clients ≤ session_limit (length names) → CanTellLost (length names) left
-    → IsRecorded names was left file → IsReplayedTo shape image left file
+    → g.clients ≤ session_limit (length names) → IsRecorded names left file
+    → IsReplayedInPart shape image left file
 
 -- that of one session
 abbrev pub TalkIsReplayed : Type 0
 TalkIsReplayed =
     (shape : List ℕ) (image : Option (List ℕ)) (loses : Bool) (was left : Account)
     (before after : Option (List ℕ)) (told : List ℕ) (printed : Printed) (names : List (List ℕ))
-    (file : List ℕ) → IsRackOf shape image was.opening
+    (file : List ℕ) → IsRackOf shape image was.opening → AreNames names (length names)
     → CanGoOn (length names) was → HasTalked loses was before after told printed left
-    → CanTellLost (length names) left → IsRecorded names was left file
-    → IsReplayedTo shape image left file
+    → IsRecorded names left file → IsReplayedInPart shape image left file

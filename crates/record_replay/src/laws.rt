@@ -5,7 +5,7 @@ ghost use Rattle.book_record.specs.RecordText.{CanTell};
 ghost use Rattle.book_record.specs.Untold.{told_entry};
 ghost use Rattle.record_replay.specs.Laws.{NeverBoth, OneFault, OneRemade};
 ghost use Rattle.record_replay.specs.ResumeLaws.{CutIsResumed, StreamIsResumed};
-ghost use Rattle.record_replay.specs.SessionRecords.{HostIsReplayed, ServeIsReplayed, TalkIsReplayed};
+ghost use Rattle.record_replay.specs.SessionRecords.{HostIsReplayed, ServeIsReplayed, StreamIsRecorded, TalkIsReplayed};
 ghost use Rattle.record_replay.specs.SessionLaws.{NoStrangers, SessionsAreTold, SessionsSay};
 
 use crate::fault::{RecordError, RecordFault};
@@ -35,7 +35,7 @@ pub fn sessions_are_told()
 
 /// Wherever the text of a legal history is cut, what is read of it leads to the words that a front
 /// of the history leads to. So does what a stream's writer holds, and that front has each entry that
-/// was told.
+/// stands there, so each that was told.
 pub fn resumed()
     ensures cut { CutIsResumed }
     ensures stream { StreamIsResumed }
@@ -76,13 +76,14 @@ pub fn recorded_then_replayed<R: Threads + Sync>(
 
 /// The record of the book that `serve` leaves is replayed to that book's words: given the same
 /// image, and the same shape or none, `replay` has just this answer. What stands in the file that
-/// `host` or `talk` writes call by call, of which a front of an entry may be the last, is replayed
-/// to the words to which all that was told leads, behind what the record had before, and maybe the
-/// one entry that nobody was told.
+/// `host` or `talk` writes while it goes on, of which a front of an entry may be the last, is
+/// replayed to the words to which all that was told leads, behind what the record had before, and
+/// maybe some last entries that nobody was told. What a stream's writer holds is such a file.
 pub fn record_is_answered()
     ensures serve { ServeIsReplayed }
     ensures host { HostIsReplayed }
     ensures talk { TalkIsReplayed }
+    ensures stream { StreamIsRecorded }
 {
     sessions_are_told();
 }

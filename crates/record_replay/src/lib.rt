@@ -14,8 +14,8 @@
 //! (`laws::sessions_are_told`).
 //!
 //! Wherever the text of a legal history was cut, that leads to the words that a front of the history
-//! leads to; what a stream's writer holds leads to one that has each entry that was told
-//! (`laws::resumed`).
+//! leads to; what a stream's writer holds leads to one that has each entry that stands there
+//! (`laws::resumed`). It asks of all entries that a record can tell them (`CanTell`).
 //!
 //! [`answer_replay`] is the answer of the command `replay`, from the bytes of a record, of a shape
 //! text and of an image, where these are given, to the bytes that are printed, and the status that
@@ -28,13 +28,12 @@
 //! beside it.
 //!
 //! So the record of a book that `serve` leaves is answered by the image of that book's words, where
-//! the same shape and image are given. `host` and `talk` write their record call by call, maybe
+//! the same shape and image are given. `host` and `talk` write their record while they go on, maybe
 //! behind that of an earlier exchange. Whatever stands in its file when they have ended is answered
 //! by the image of the words to which the first entries of the history lead. They are all that any
-//! session was told, and maybe the one that couldn't be written whole (`laws::record_is_answered`,
-//! `IsReplayedTo` of `specs/SessionRecords.antt`). A premise of that comes of no contract: the entry
-//! that nobody was told, where there is such, is one that this record can tell (`CanTellLost`). So it
-//! is with `laws::resumed`, which asks for that of all entries (`CanTell`).
+//! session was told, and maybe some last ones that nobody was told (`laws::record_is_answered`,
+//! `IsReplayedInPart` of `specs/SessionRecords.antt`). Every entry that sessions make is one that a
+//! record can tell, whether its reply was told or not.
 #![tactic(auto)]
 
 mod answering;

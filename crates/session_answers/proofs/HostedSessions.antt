@@ -75,6 +75,7 @@ all_fresh x start n seats new k d lt =
     let begun : get_or seats k d ≡ new_seat x.word start k (parts_at n k) = new.each k d (omega (arith, new.count, lt)) in
     record {
       exchange = ap (λ (s : SeatState). s.exchange) begun;
+      asked = ap (λ (s : SeatState). s.asked) begun;
       log = ap (λ (s : SeatState). s.log) begun;
       broken = ap (λ (s : SeatState). s.broken) begun;
     }

@@ -1,25 +1,27 @@
 -- The sessions of scripts, the seats of their exchange, and its history.
-use Rattle.std.proofs.Common.{◌≡◌, ℕ, ◌+◌, ◌<◌, ◌≤◌, suc, Bool, true, false, ◌||◌, List, [], ◌∷◌, ◌++◌, length, get_or, map, option_map, All, Option, Some, Result, Ok, Err, IfOk, OnOk, is_ok, if◌then◌else◌, refl, sym, ap, ap₂, ◌∙◌, subst, slice_get, take, append-nil, arith}
+use Rattle.std.proofs.Common.{◌≡◌, ℕ, ◌+◌, ◌<◌, ◌≤◌, suc, Bool, true, false, ◌||◌, List, [], ◌∷◌, ◌++◌, length, get_or, map, option_map, All, Option, Some, Result, Ok, Err, IfOk, OnOk, OnErr, is_ok, if◌then◌else◌, refl, sym, ap, ap₂, ◌∙◌, subst, slice_get, take, append-nil, append_assoc, arith}
 use Rattle.std.specs.List.{range_with_len, sum, sum_by, list_any}
-use Rattle.std.proofs.lemmas.List.{take_more, take-map, flat_map_more, get_or-map, length-map, map-id}
+use Rattle.std.proofs.lemmas.List.{append_cancel_left, take_more, take-map, flat_map_more, get_or-map, length-map, map-id}
 use Rattle.std.proofs.lemmas.List.Elements.{All-map}
 use Rattle.std.proofs.lemmas.List.FromFn.{get_or-range_with_len, length-range_with_len}
 use Rattle.std.proofs.lemmas.Option.{slice_get-map, slice_get_read}
 use Rattle.std.proofs.lemmas.List.Sums.{sum-map, sum_by-cons}
-use Rattle.std.proofs.Math.Seq.{take-length}
 use Rattle.std.proofs.lemmas.Simd.{map-map}
 use Rattle.std.specs.Io.KnownBytes.{Appends}
 use Rattle.module_memory.specs.Store.{Store}
 use Rattle.crossbar.specs.declared.port.ConfigPort.{Ghosts}
 use Rattle.batch_book.specs.declared.entry.Entry.{Entry}
+use Rattle.batch_book.specs.declared.unrecorded.Unrecorded.{Unrecorded}
 use Rattle.batch_book.specs.Closing.{AreClosed}
 use Rattle.batch_book.specs.Exchanges.{Exchange, AreNew, new_seat, parts_at}
-use Rattle.batch_book.specs.History.{Account, AreUnstopped, IsKeptBook, IsReplay}
-use Rattle.batch_book.specs.Recording.{AreAllBut}
+use Rattle.batch_book.specs.History.{Account, AreUnstopped, IsKeptBook, IsReplay, Starts}
+use Rattle.batch_book.specs.Recording.{Flushes}
 use Rattle.batch_book.specs.Machine.{opened}
 use Rattle.batch_book.specs.Replies.{NeverFail}
-use Rattle.batch_book.specs.Seats.{SeatState, IsSameSeat, own}
+use Rattle.batch_book.specs.Seats.{SeatState, IsSameSeat, IsRecorded, own}
 use Rattle.batch_book.specs.Values.{greatest}
+use Rattle.batch_book.proofs.Fronts.{front, starts_same}
+use Rattle.batch_book.proofs.Noting.{all_recorded}
 use Rattle.client_session.specs.declared.fault.ServeFault.{ServeFault}
 use Rattle.client_session.specs.declared.fault.ServeFault.TheVariants.{Record}
 use Rattle.client_session.specs.Seats.{SeatView, seat_view}
@@ -84,21 +86,21 @@ script_at v xs k i x script at lt is text =
 -- what a session from a new seat leaves
 pub its_session : (loses : Bool) (x : Exchange) (old new : SeatState) (before after held holds : Option (List ℕ)) (fault : Option ServeFault)
     → IsFresh x old → IsSameSeat old new
-    → GoesThrough before after held holds (seat_view x.shape old) (seat_view x.shape new) (HasEnded fault after (seat_view x.shape old) (seat_view x.shape new))
+    → GoesThrough before after held holds (seat_view loses x.shape old) (seat_view loses x.shape new) (HasEnded fault after (seat_view loses x.shape old) (seat_view loses x.shape new))
     → (fault ≡ Some Record → loses ≡ true)
     → (told : List ℕ) × Appends held holds told × IsServedSession (begun_at loses x old.seen) before after (record { part = part_of new; told = told; fault = fault })
 its_session loses x old new before after held holds fault fresh same p lost =
-    let seat : SeatView = seat_view x.shape old in
-    let left : SeatView = record seat { log = new.log; seen = new.seen; broken = new.broken } in
-    let kept : seat_view x.shape new ≡ left = rw (same.exchange, same.session, same.parts) refl in
-    let entries : p.entries ≡ new.log = sym (p.logged ∙ ap (λ (es : List Entry). es ++ p.entries) fresh.log) in
+    let seat : SeatView = seat_view loses x.shape old in
+    let left : SeatView = record seat { asked = new.asked; log = new.log; seen = new.seen; broken = new.broken } in
+    let kept : seat_view loses x.shape new ≡ left = rw (same.exchange, same.session, same.parts) refl in
+    let entries : p.entries ≡ new.asked = sym (p.asked ∙ ap (λ (es : List Entry). es ++ p.entries) fresh.asked) in
     let End : SeatView → List Entry → Type 0 = λ v es. HasEnded fault after seat v p.bytes es p.written in
     let one : End left p.entries = subst (λ v. End v p.entries) kept p.is_so in (
       p.written,
       p.appended,
       record {
         seat = seat;
-        is_new = record { shape_is = refl; session_is = sym same.session; log = fresh.log; seen = refl; broken = fresh.broken };
+        is_new = record { shape_is = refl; loses_is = refl; session_is = sym same.session; asked = fresh.asked; log = fresh.log; seen = refl; broken = fresh.broken };
         read = p.bytes;
         consumed = p.consumed;
         broke = new.broken;
@@ -158,62 +160,93 @@ all_served {L} x start scripts n seats ss count new len each =
 
 -- ---- the exchange is closed
 
--- the history that the exchange leaves is that of its sessions
-pub one_history : {P W : Type 0} (seen : Ghosts P) (sure : W → ℕ → Type 0) (limited loses : Bool) (opening : Store) (earlier : List Entry) (seats : List SeatState) (book : Account)
-    → AreClosed seen sure opening earlier seats book → NeverFail seen sure → IsKeptBook limited loses book → HaveOneHistory loses opening earlier (map part_of seats) book
-one_history seen sure limited loses opening earlier seats book closed never kept =
+-- the history that an exchange leaves is that of its sessions, of which these entries stand where they belong
+theirs : {P W : Type 0} (seen : Ghosts P) (sure : W → ℕ → Type 0) (limited loses : Bool) (opening : Store) (earlier : List Entry) (seats : List SeatState) (book : Account) (standing stands : List Entry) (whole : Bool)
+    → AreClosed seen sure opening earlier seats book → NeverFail seen sure → IsKeptBook limited loses book
+    → All (IsRecorded standing) seats → stands ≡ earlier ++ standing → Starts stands book.history → (whole ≡ true → stands ≡ book.history) → (whole ≡ false → loses ≡ true)
+    → HaveOneHistory loses opening earlier (map part_of seats) (record book { stands = stands; whole = whole })
+theirs seen sure limited loses opening earlier seats book standing stands whole closed never kept recorded stand first all lost =
     let h = book.history in
     record {
-      told = closed.told;
+      made = closed.made;
+      standing = standing;
       is_opening = closed.opened;
       replay = subst (λ (s : Store). IsReplay (opened s) h book.machine) closed.opened kept.replay;
-      all_told = closed.all_told;
-      counted = closed.counted ∙ sym (sum_mapped (λ (p : Part). length p.entries) part_of seats);
-      are_parts = All-map (λ (p : Part). p.entries ≡ own p.session closed.told) part_of seats closed.agree;
+      are = closed.are;
+      stand = stand;
+      front = first;
+      counted = closed.counted ∙ sym (sum_mapped (λ (p : Part). length p.asked) part_of seats);
+      are_parts = All-map (λ (p : Part). p.asked ≡ own p.session closed.made) part_of seats closed.asked;
+      recorded = All-map (λ (p : Part). Starts p.log (own p.session standing)) part_of seats recorded;
       unstopped = closed.unstopped never;
       seen = All-map (λ (p : Part). p.seen ≤ greatest h) part_of seats closed.none_ahead;
-      lost = kept.lost;
+      whole = all;
+      lost = lost;
     }
+
+-- so it is behind a flush
+pub one_history : {P W : Type 0} (seen : Ghosts P) (sure : W → ℕ → Type 0) (limited loses : Bool) (opening : Store) (earlier : List Entry) (seats : List SeatState) (book left : Account) (r : Result (Unit {0}) Unrecorded)
+    → AreClosed seen sure opening earlier seats book → NeverFail seen sure → IsKeptBook limited loses book → Flushes book r left → OnErr r (loses ≡ true)
+    → HaveOneHistory loses opening earlier (map part_of seats) left
+one_history seen sure limited loses opening earlier seats book left (Ok done) closed never kept flushed lost =
+    let rest = front book.stands book.history kept.front in
+    let made : closed.standing ++ rest.0 ≡ closed.made =
+    append_cancel_left earlier _ _ (sym (append_assoc earlier closed.standing rest.0) ∙ ap (λ (es : List Entry). es ++ rest.0) (sym closed.stand) ∙ sym rest.1 ∙ closed.are) in
+    let recorded : All (IsRecorded closed.made) seats = subst (λ (es : List Entry). All (IsRecorded es) seats) made (all_recorded closed.standing rest.0 seats closed.told) in
+    subst (HaveOneHistory loses opening earlier (map part_of seats)) (sym flushed.1)
+    (theirs seen sure limited loses opening earlier seats book closed.made book.history book.whole closed never kept recorded closed.are (starts_same book.history book.history refl) (λ whole. refl) kept.lost)
+one_history seen sure limited loses opening earlier seats book left (Err lost) closed never kept flushed loses_is =
+    subst (HaveOneHistory loses opening earlier (map part_of seats)) (sym flushed)
+    (theirs seen sure limited loses opening earlier seats book closed.standing book.stands false closed never kept closed.told closed.stand kept.front (λ whole. absurd cc) (λ broken. loses_is))
 
 none_in : (P : Part → Type 0) → All P []
 none_in P k d lt = absurd (omega (arith, lt))
 
-no_entries : (seats : List SeatState) → All (λ (s : SeatState). s.log ≡ []) seats → sum_by (λ (p : Part). length p.entries) (map part_of seats) ≡ 0
+no_entries : (seats : List SeatState) → All (λ (s : SeatState). s.asked ≡ []) seats → sum_by (λ (p : Part). length p.asked) (map part_of seats) ≡ 0
 no_entries [] all = refl
 no_entries (s ∷ seats) all =
-    sum_by-cons (λ (p : Part). length p.entries) (part_of s) (map part_of seats)
+    sum_by-cons (λ (p : Part). length p.asked) (part_of s) (map part_of seats)
     ∙ ap₂ (λ (m n : ℕ). m + n) (ap length (all 0 s (omega arith))) (no_entries seats (λ k d lt. all (suc k) d (omega (arith, lt))))
 
--- where none of them asked for anything, nothing was told
+-- where none of them asked for anything, nothing was made
 pub none_asked : (loses : Bool) (opening : Store) (earlier : List Entry) (seats : List SeatState) (book : Account)
-    → All (λ (s : SeatState). s.log ≡ []) seats → HaveOneHistory loses opening earlier (map part_of seats) book → HaveOneHistory loses opening earlier [] book
+    → All (λ (s : SeatState). s.asked ≡ []) seats → HaveOneHistory loses opening earlier (map part_of seats) book → HaveOneHistory loses opening earlier [] book
 none_asked loses opening earlier seats book none one = record {
-  told = one.told;
+  made = one.made;
+  standing = one.standing;
   is_opening = one.is_opening;
   replay = one.replay;
-  all_told = one.all_told;
+  are = one.are;
+  stand = one.stand;
+  front = one.front;
   counted = one.counted ∙ no_entries seats none;
-  are_parts = none_in (λ (p : Part). p.entries ≡ own p.session one.told);
+  are_parts = none_in (λ (p : Part). p.asked ≡ own p.session one.made);
+  recorded = none_in (λ (p : Part). Starts p.log (own p.session one.standing));
   unstopped = one.unstopped;
   seen = none_in (λ (p : Part). p.seen ≤ greatest book.history);
+  whole = one.whole;
   lost = one.lost;
 }
 
 -- a book that no session has seen is as they leave it that asked nothing
-pub unasked : (loses : Bool) (was : Account) → IsReplay (opened was.opening) was.history was.machine → was.whole ≡ true → AreUnstopped was.history
+pub unasked : (loses : Bool) (was : Account) → IsReplay (opened was.opening) was.history was.machine → was.whole ≡ true → was.stands ≡ was.history → AreUnstopped was.history
     → HaveOneHistory loses was.opening was.history [] was
-unasked loses was replay whole unstopped =
+unasked loses was replay whole stand unstopped =
     let h = was.history in
-    let all : AreAllBut true h h = (sym (take-length h), omega arith) in
     record {
-      told = [];
+      made = [];
+      standing = [];
       is_opening = refl;
       replay = replay;
-      all_told = rw (whole, append-nil h) all;
+      are = sym (append-nil h);
+      stand = stand ∙ sym (append-nil h);
+      front = starts_same was.stands h stand;
       counted = refl;
-      are_parts = none_in (λ (p : Part). p.entries ≡ own p.session []);
+      are_parts = none_in (λ (p : Part). p.asked ≡ own p.session []);
+      recorded = none_in (λ (p : Part). Starts p.log (own p.session []));
       unstopped = unstopped;
       seen = none_in (λ (p : Part). p.seen ≤ greatest h);
+      whole = λ is. stand;
       lost = λ broken. absurd (cc (whole, broken));
     }
 

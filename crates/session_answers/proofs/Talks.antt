@@ -41,6 +41,7 @@ alone x start all rest seat new is =
       nothing = nothing;
       fresh = record {
         exchange = ap (λ (s : SeatState). s.exchange) begun;
+        asked = ap (λ (s : SeatState). s.asked) begun;
         log = ap (λ (s : SeatState). s.log) begun;
         broken = ap (λ (s : SeatState). s.broken) begun;
       };

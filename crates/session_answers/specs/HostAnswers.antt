@@ -40,7 +40,8 @@ pub record HostedSession : Type 0 where
 -- its files couldn't be opened: nothing was asked, and nothing seen since
 pub record WasUnopened (b : Beginning) (g : KnownClients) (part : Part) : Type 0 where
   pub may_fail : g.may_fail part.session ≡ true
-  pub entries : part.entries ≡ []
+  pub asked : part.asked ≡ []
+  pub log : part.log ≡ []
   pub seen : part.seen ≡ b.seen
 
 -- The session read of what its client said. What it told stands in its closed writer, behind what

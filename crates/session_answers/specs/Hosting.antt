@@ -24,6 +24,7 @@ begun_at loses x seen = record { shape = x.shape; seen = seen; loses = loses }
 -- a seat of this exchange that has asked nothing
 pub record IsFresh (x : Exchange) (seat : SeatState) : Type 0 where
   pub exchange : seat.exchange ≡ Some x.word
+  pub asked : seat.asked ≡ []
   pub log : seat.log ≡ []
   pub broken : seat.broken ≡ false
 

@@ -28,14 +28,16 @@ beginning loses was =
 -- a seat of this session, which has asked nothing, and seen nothing since
 pub record IsNewSeat (b : Beginning) (session : ℕ) (seat : SeatView) : Type 0 where
   pub shape_is : seat.shape ≡ b.shape
+  pub loses_is : seat.loses ≡ b.loses
   pub session_is : seat.session ≡ session
+  pub asked : seat.asked ≡ []
   pub log : seat.log ≡ []
   pub seen : seat.seen ≡ b.seen
   pub broken : seat.broken ≡ false
 
 -- A session that began on a new seat, read some bytes of a reader, of which others are left where
--- they are known, and has ended as a session may. It was told its reply lines. That a call couldn't
--- be recorded has ended it only where an entry may be lost.
+-- they are known, and has ended as a session may. It was told its reply lines. That its record is
+-- broken has ended it only where an entry may be lost.
 pub record IsServedSession (b : Beginning) (before after : Option (List ℕ))
     (t : Transcript) : Type 0 where
   pub seat : SeatView
@@ -44,6 +46,6 @@ pub record IsServedSession (b : Beginning) (before after : Option (List ℕ))
   pub consumed : Consumes before after read
   pub broke : Bool
   pub ended : HasEnded t.fault after seat
-      (record seat { log = t.part.entries; seen = t.part.seen; broken = broke }) read
-      t.part.entries t.told
+      (record seat { asked = t.part.asked; log = t.part.log; seen = t.part.seen; broken = broke })
+      read t.part.asked t.told
   pub lost : t.fault ≡ Some Record → b.loses ≡ true

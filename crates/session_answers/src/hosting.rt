@@ -200,10 +200,10 @@ fn host<
 ///
 /// Each client is served in a thread of its own, from the files that are opened for it there. It
 /// waits for its own files, and while the exchange answers a call of another. Planning and runs are
-/// given so many workers each. Each reply line is written, and the writer flushed, before the
-/// client's next command is read. For each client, in order, comes the line `session I NAME`, and
-/// where a fault ended the session, or its files couldn't be opened, a line `ended ..` that says
-/// so, under the status [`REFUSED`](plan_answers::REFUSED).
+/// given so many workers each. Reply lines are written, and the writer flushed, before more of the
+/// client is read, as [`serve`](client_session::serve) tells. For each client, in order, comes the
+/// line `session I NAME`, and where a fault ended the session, or its files couldn't be opened, a
+/// line `ended ..` that says so, under the status [`REFUSED`](plan_answers::REFUSED).
 ///
 /// Where a thread can't be had, or there is no memory, no file is opened, and the book comes back
 /// as sessions leave it that asked nothing. Nothing fails for want of memory behind the sessions.
@@ -215,6 +215,7 @@ pub fn host_on<K: History + Send, R: Threads + Wait + Sync, D: ClientStreams>(
     streams: &D,
 ) -> Result<Hosted<D::Receipt, K>, (Refusal, Book<K>)>
     requires whole { book.whole ≡ true }
+    requires stand { book.stands ≡ book.history }
     requires unstopped { AreUnstopped book.history }
     requires some_clients { 1 ≤ (D.known streams.now).clients }
     requires few_clients { (D.known streams.now).clients ≤ MAX_SESSIONS }

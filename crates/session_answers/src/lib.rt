@@ -10,10 +10,11 @@
 //!
 //! `IsServeAnswer`, `HasTalked` and `AreHosted` (`specs/Serving.antt`, `specs/Talking.antt`,
 //! `specs/HostAnswers.antt`) say this: each session is one that its client's bytes may have, as far
-//! as these are known (`IsServedSession`), unless its files couldn't be opened, and what all were
-//! told is one legal history, that of the book behind what it had before (`HaveOneHistory` of
+//! as these are known (`IsServedSession`), unless its files couldn't be opened, and what all asked
+//! is one legal history, that of the book behind what it had before (`HaveOneHistory` of
 //! `specs/Histories.antt`). No run of it stopped, and no session saw the runs come further than it
-//! tells. Where the book isn't whole its last entry was told to nobody. The files of a client are
+//! tells. What a session was told stands where it belongs. Where the book is whole all entries do;
+//! where it isn't, some last ones may be missing, which nobody was told. The files of a client are
 //! opened only for who shows that each client has a thread ([`AllThere`]).
 #![tactic(auto)]
 

@@ -99,7 +99,7 @@ pub fn serve_client<
     }
 }
 
-/// Closes the exchange behind its sessions, which leave this book.
+/// Closes the exchange behind its sessions, which leave this book. No entry of it waits.
 pub fn close_exchange<L: ExchangeName, K: History>(
     exchange: PlainExchange<L, K>,
     seats: Vec<Seat<L>>,
@@ -114,7 +114,10 @@ pub fn close_exchange<L: ExchangeName, K: History>(
             // Parted only for the contract, which says that the history is legal, and what may be
             // lost.
             let (bare, history) = book.part();
-            Book::go_on(bare, history)
+            let mut book = Book::go_on(bare, history);
+            // Each session has settled what it was told. Where this fails the book tells so.
+            let _ = book.flush();
+            book
         }
         Err(
             SeatMissing {

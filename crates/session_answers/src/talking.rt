@@ -63,11 +63,12 @@ fn talk<L: ExchangeName, K: History, R: Threads + Wait + Sync, I: Read, O: Write
 /// over this book, which may have entries. Each of these stands where it belongs, and tells of no
 /// run that stopped.
 ///
-/// Each reply line is written, and the writer flushed, before the next command is read. The
-/// listener hears each command, and each refusal of the session. Behind a session that ended by
-/// itself there is nothing more to print; where a fault ended it a line `ended ..` says so, under
-/// the status [`REFUSED`](plan_answers::REFUSED). Want of memory comes before the session alone:
-/// then nothing is read or told, and the book comes back as it was.
+/// Reply lines are written, and the writer flushed, before more is read, as
+/// [`serve`](client_session::serve) tells. The listener hears each command, and each refusal of the
+/// session. Behind a session that ended by itself there is nothing more to print; where a fault
+/// ended it a line `ended ..` says so, under the status [`REFUSED`](plan_answers::REFUSED). Want of
+/// memory comes before the session alone: then nothing is read or told, and the book comes back as
+/// it was.
 pub fn talk_on<K: History, R: Threads + Wait + Sync, I: Read, O: Write, H: Listener>(
     rt: &R,
     alloc: Global,
@@ -77,6 +78,7 @@ pub fn talk_on<K: History, R: Threads + Wait + Sync, I: Read, O: Write, H: Liste
     listener: &mut H,
 ) -> Result<Closing<K>, (AllocError, Book<K>)>
     requires whole { book.whole ≡ true }
+    requires stand { book.stands ≡ book.history }
     requires unstopped { AreUnstopped book.history }
     ensures session { (told : List ℕ)
         × Appends (O.contents writer.old) (O.contents writer.new) told

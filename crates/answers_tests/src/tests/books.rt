@@ -3,16 +3,19 @@
 ghost use Rattle.std.specs.Prelude.{◌≡◌, [], true, IfSome};
 
 use batch::Shape;
-use batch_book::{Book, Call, Entry, History, PastEntries, Unwritten};
+use batch_book::{Book, Call, Entry, History, PastEntries, Unrecorded};
 use module_memory::Rack;
 use std::alloc::{AllocError, Global};
+use std::snapshot::Snapshot;
 
 /// A book of a rack of one module with two words, with this history, which is empty.
 pub fn small_book<K: History + Drop>(alloc: Global, history: K) -> Option<Book<K>>
     requires empty { K.pushed history ≡ [] }
+    requires stands { K.stands history ≡ [] }
     requires whole { K.whole history ≡ true }
     ensures whole { IfSome result (λ book. book.whole ≡ true) }
     ensures empty { IfSome result (λ book. book.history ≡ []) }
+    ensures stands { IfSome result (λ book. book.stands ≡ []) }
 {
     let Ok(shape) = Shape::new(1, 1, 2) else {
         return None;
@@ -34,22 +37,29 @@ pub fn is_left<K: History>(book: &Book<K>, image: &[u8]) -> bool {
     }
 }
 
-/// Entries that go nowhere. One of them can't be pushed.
+/// Entries that go nowhere. They wait until they are flushed, and one flush fails.
 #[derive(Drop)]
 pub struct FailsOnce {
     past: PastEntries,
+    flushed: Snapshot<PastEntries>,
+    waits: bool,
     whole: bool,
     good: usize,
 }
 
 impl FailsOnce {
-    /// No entry. So many can be pushed, and then one can't.
+    /// No entry. So many flushes of entries go well, and then one fails.
     pub fn behind(good: usize) -> FailsOnce
         ensures empty { result.past ≡ [] }
+        ensures stands { result.flushed.value ≡ [] }
         ensures whole { result.whole ≡ true }
     {
+        let past = PastEntries::none();
+        let flushed = Snapshot::of(&past);
         FailsOnce {
-            past: PastEntries::none(),
+            past,
+            flushed,
+            waits: false,
             whole: true,
             good,
         }
@@ -60,6 +70,8 @@ impl History for FailsOnce {
     ghost use Rattle.std.specs.Prelude.{true, false};
 
     ghost pushed = { λ s. s.past };
+
+    ghost stands = { λ s. s.flushed.value };
 
     ghost whole = { λ s. s.whole };
 
@@ -73,6 +85,14 @@ impl History for FailsOnce {
         self.whole
     }
 
+    fn groups() -> bool {
+        true
+    }
+
+    fn may_wait(&self) -> bool {
+        true
+    }
+
     fn has_room(&self) -> bool {
         true
     }
@@ -81,13 +101,24 @@ impl History for FailsOnce {
         Ok(())
     }
 
-    fn push(&mut self, entry: Entry) -> Result<(), Unwritten> {
+    fn push(&mut self, entry: Entry) {
         self.past.add(&entry);
-        if self.good == 0 {
-            self.whole = false;
-            return Err(Unwritten);
+        self.waits = true;
+    }
+
+    fn flush(&mut self) -> Result<(), Unrecorded> {
+        if !self.whole {
+            return Err(Unrecorded);
         }
-        self.good -= 1;
+        if self.waits && self.good == 0 {
+            self.whole = false;
+            return Err(Unrecorded);
+        }
+        if self.waits {
+            self.good -= 1;
+        }
+        self.waits = false;
+        self.flushed = Snapshot::of(&self.past);
         Ok(())
     }
 }

@@ -67,6 +67,7 @@ fn host_known<K: History + Send, R: Threads + Wait + Sync>(
     said: &[&[u8]],
 ) -> Result<Hosted<Vec<u8>, K>, (Refusal, Book<K>)>
     requires whole { book.whole ≡ true }
+    requires stand { book.stands ≡ book.history }
     requires unstopped { AreUnstopped book.history }
     requires some { 1 ≤ length said.now }
     requires few { length said.now ≤ MAX_SESSIONS }
@@ -125,31 +126,32 @@ fn was_lost(ending: &Ending<Vec<u8>>) -> bool {
     }
 }
 
-/// How many bytes a client was told.
-fn told_bytes(ending: &Ending<Vec<u8>>) -> usize {
+/// Whether a session was told nothing.
+fn was_told_nothing(ending: &Ending<Vec<u8>>) -> bool {
     match ending {
-        Ending::Served { receipt, .. } => receipt.len(),
-        Ending::Unopened => 0,
+        Ending::Served { receipt, .. } => receipt.is_empty(),
+        Ending::Unopened => false,
     }
 }
 
-/// Whether one of three clients is told one reply, and each session ends since a call couldn't be
-/// recorded, where the second entry of all can't be.
+/// What three clients say, each in one read, and are to hear.
+const SAID: [&[u8]; 3] = [b"peek 0 80000800\npeek 0 80000800\nbye\n"; 3];
+
+const HEARD: &str = "word 00000000\nword 00000000\nbye\n";
+
+/// Whether each of three clients is told nothing, and each session ends since its calls couldn't be
+/// recorded, where the first flush of all fails.
 fn ends_all<R: Threads + Wait + Sync>(rt: &R, alloc: Global) -> bool {
-    let said: [&[u8]; 3] = [b"peek 0 80000800\npeek 0 80000800\nbye\n"; 3];
-    let Some(book) = small_book(alloc, FailsOnce::behind(1)) else {
+    let Some(book) = small_book(alloc, FailsOnce::behind(0)) else {
         return false;
     };
-    match host_known(rt, alloc, book, &said) {
+    match host_known(rt, alloc, book, &SAID) {
         Ok(Hosted { closing, endings }) => {
             let text = "session 0 client\nended record\nsession 1 client\nended record\n\
                 session 2 client\nended record\n";
             endings.len() == 3
                 && endings.iter().all(was_lost)
-                && told_bytes(&endings[0])
-                    .wrapping_add(told_bytes(&endings[1]))
-                    .wrapping_add(told_bytes(&endings[2]))
-                    == "word 00000000\n".len()
+                && endings.iter().all(was_told_nothing)
                 && closing.answer.text() == text.as_bytes()
                 && closing.answer.status() == 1
                 && !closing.book.log().is_whole()
@@ -161,4 +163,31 @@ fn ends_all<R: Threads + Wait + Sync>(rt: &R, alloc: Global) -> bool {
 #[test]
 fn a_broken_record_ends_all_sessions(rt: HostRuntime) {
     assert!(rt; ends_all(&rt, rt.alloc()));
+}
+
+/// Whether a client was told all, and its session ended by itself; or nothing, and its record broke.
+fn was_told_all_or_nothing(ending: &Ending<Vec<u8>>) -> bool {
+    was_told(ending, HEARD) || (was_lost(ending) && was_told_nothing(ending))
+}
+
+/// Whether each of three clients is told all or nothing, and one is told all, where the second
+/// flush of all fails. One flush may have had the entries of all.
+fn tells_some<R: Threads + Wait + Sync>(rt: &R, alloc: Global) -> bool {
+    let Some(book) = small_book(alloc, FailsOnce::behind(1)) else {
+        return false;
+    };
+    match host_known(rt, alloc, book, &SAID) {
+        Ok(Hosted { closing, endings }) => {
+            endings.len() == 3
+                && endings.iter().all(was_told_all_or_nothing)
+                && endings.iter().any(|ending| was_told(ending, HEARD))
+                && closing.book.log().is_whole() != endings.iter().any(was_lost)
+        }
+        Err(_) => false,
+    }
+}
+
+#[test]
+fn what_a_flush_had_is_told_whole(rt: HostRuntime) {
+    assert!(rt; tells_some(&rt, rt.alloc()));
 }

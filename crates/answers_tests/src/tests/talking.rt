@@ -5,19 +5,26 @@ use batch_book::History;
 use client_session::NoListener;
 use session_answers::{Closing, talk_on};
 use std::alloc::Global;
+use std::io::Read;
 use std::sync::Wait;
 use std::thread::Threads;
 
-/// Whether the session is told two replies, and nothing of the third call, nor of those behind it.
-fn ends_behind_two<R: Threads + Wait + Sync>(rt: &R, alloc: Global) -> bool {
-    let mut said = b"poke 0 80000800 000000aa\npeek 0 80000800\npeek 0 80000804\nbye\n".as_slice();
+/// Whether a session that says all this, over a record one flush of which fails behind so many, is
+/// told just that, and ends since its record broke.
+fn breaks_off<R: Threads + Wait + Sync, I: Read>(
+    rt: &R,
+    alloc: Global,
+    said: &mut I,
+    good: usize,
+    hears: &str,
+) -> bool {
     let mut told = Vec::new(alloc);
-    let Some(book) = small_book(alloc, FailsOnce::behind(2)) else {
+    let Some(book) = small_book(alloc, FailsOnce::behind(good)) else {
         return false;
     };
-    match talk_on(rt, alloc, book, &mut said, &mut told, &mut NoListener) {
+    match talk_on(rt, alloc, book, said, &mut told, &mut NoListener) {
         Ok(Closing { answer, book }) => {
-            told.as_slice() == b"poked\nword 000000aa\n".as_slice()
+            told.as_slice() == hears.as_bytes()
                 && answer.text() == b"ended record\n".as_slice()
                 && answer.status() == 1
                 && !book.log().is_whole()
@@ -26,7 +33,23 @@ fn ends_behind_two<R: Threads + Wait + Sync>(rt: &R, alloc: Global) -> bool {
     }
 }
 
+/// Three lines, one at a read. The third flush fails: nothing is told of the third call.
 #[test]
 fn a_broken_record_ends_the_session(rt: HostRuntime) {
-    assert!(rt; ends_behind_two(&rt, rt.alloc()));
+    let mut said = b"poke 0 80000800 000000aa\n"
+        .as_slice()
+        .chain(b"peek 0 80000800\n".as_slice())
+        .chain(b"peek 0 80000804\n".as_slice());
+    assert!(rt; breaks_off(&rt, rt.alloc(), &mut said, 2, "poked\nword 000000aa\n"));
+}
+
+/// The lines of a read are answered together, so nothing is told where their flush fails, though
+/// the next would go well. What an earlier read had was told.
+#[test]
+fn a_broken_record_tells_nothing_of_a_group(rt: HostRuntime) {
+    let lines = b"poke 0 80000800 000000aa\npeek 0 80000800\npeek 0 80000804\nbye\n";
+    let mut said = lines.as_slice();
+    assert!(rt; breaks_off(&rt, rt.alloc(), &mut said, 0, ""));
+    let mut said = b"peek 0 80000804\n".as_slice().chain(lines.as_slice());
+    assert!(rt; breaks_off(&rt, rt.alloc(), &mut said, 1, "word 00000000\n"));
 }

@@ -2,7 +2,7 @@
 
 ghost use Rattle.batch_book.specs.History.{new_account};
 ghost use Rattle.batch_book.specs.Naming.{IsNamed};
-ghost use Rattle.std.specs.Prelude.{◌≡◌, Some};
+ghost use Rattle.std.specs.Prelude.{◌≡◌, IfSome, Some};
 ghost use Rattle.progress_word.specs.declared.limits.TheConstants.{ALL_PARTS};
 
 use crate::tests::common::{batch, plan};
@@ -131,6 +131,8 @@ pub fn open_pair<L: ExchangeName, W: WireMaker + Drop, G: Drop>(
     plant: Plant<MemoryPort, W, G>,
 ) -> Option<Pair<L, W, G>>
     requires named { IsNamed L.name L.parts L.table L.opening L.earlier blank (new_account rack) }
+    ensures first { IfSome result (λ pair. pair.first.log ≡ pair.first.asked) }
+    ensures second { IfSome result (λ pair. pair.second.log ≡ pair.second.asked) }
 {
     let made = Shared::<L, MemoryPort, W, G>::new(alloc, blank, rack, plant, 2);
     let Ok((shared, mut seats)) = made else {

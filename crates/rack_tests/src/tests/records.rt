@@ -83,7 +83,8 @@ fn call_of(entry: usize) -> (usize, Call) {
 }
 
 /// The calls behind so many entries, made on a book that has these, and that writes to a sheet with
-/// this room: how many were told, each behind its entry, and what is written.
+/// this room when it is flushed, behind each call: how many can be told then, each behind its entry,
+/// and what is written.
 fn ask<R: Threads + Sync, N: StreamName>(
     rt: &R,
     alloc: Global,
@@ -109,8 +110,9 @@ fn ask<R: Threads + Sync, N: StreamName>(
     for entry in entries..3 {
         let (session, call) = call_of(entry);
         let made = book.try_apply(rt, session, call, &mut plant, &mut Told::new(&times));
+        let flushed = book.flush();
         let end = end_of(entries).saturating_add(count.load(Ordering::SeqCst));
-        if made.is_ok() && end == end_of(entry + 1) {
+        if made.is_ok() && flushed.is_ok() && end == end_of(entry + 1) {
             told = told.saturating_add(1);
         }
     }

@@ -3,6 +3,7 @@
 
 mod beside;
 mod ends;
+mod groups;
 mod order;
 mod outside;
 mod replies;

@@ -1,19 +1,23 @@
 use Rattle.std.proofs.Common.{◌∙◌, ap, sym, arith}
-use Rattle.batch_book.specs.Recording.{made_in, told_in}
+use Rattle.batch_book.specs.Recording.{made_in}
 use Rattle.batch_book.specs.Values.{greatest}
-use Rattle.batch_book.proofs.Noting.{own_made_below, own_notes, own_told}
+use Rattle.batch_book.proofs.Noting.{greatest_own, own_asked, own_notes, recorded}
 use Rattle.batch_book.proofs.close.compared.Goals as goal
 
-pub returns-clause-agrees : goal.returns-clause-agrees
-returns-clause-agrees g c =
-    let place = c.into_place-access.result in
+pub returns-clause-asked : goal.returns-clause-asked
+returns-clause-asked g c =
     let notes = c.args.keeper.now.history in
-    sym c.into_place-access.ensures.list ∙ (ap told_in (c.compare.ensures.list ∙ ap (λ s. own_notes s notes) c.into_place-access.ensures.session) ∙ own_told c.args.seat.session notes)
+    sym c.into_place-access.ensures.made ∙ (ap made_in (c.compare.ensures.list ∙ ap (λ s. own_notes s notes) c.into_place-access.ensures.session) ∙ own_asked c.args.seat.session notes)
+
+pub returns-clause-told : goal.returns-clause-told
+returns-clause-told g c =
+    let notes = c.args.keeper.now.history in
+    recorded c.args.seat c.into_place-access.result.own.list notes (sym c.into_place-access.ensures.told) (c.compare.ensures.list ∙ ap (λ s. own_notes s notes) c.into_place-access.ensures.session)
 
 pub returns-clause-raised : goal.returns-clause-raised
 returns-clause-raised g c =
     let place = c.into_place-access.result in
     let notes = c.args.keeper.now.history in
-    let own = ap (λ ns. greatest (made_in ns)) c.compare.ensures.list in
-    let below = own_made_below place.own.session notes in
+    let own = ap greatest (ap made_in c.compare.ensures.list ∙ own_asked place.own.session notes) in
+    let below = greatest_own place.own.session (made_in notes) in
     omega (arith, place.highest, own, below)

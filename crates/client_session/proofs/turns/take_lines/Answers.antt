@@ -3,7 +3,7 @@ use Rattle.std.proofs.Common.{◌≡◌, ◌+◌, ◌++◌, take, arith, ap, ◌
 use Rattle.std.proofs.lemmas.Result.{err_from_is_err_and}
 use Rattle.client_session.specs.declared.fault.ServeFault.TheVariants.{NoMemory}
 use Rattle.client_session.proofs.Asking.{gives_none, gives_more, stops_after, stops_here, stops_cut}
-use Rattle.client_session.proofs.Served.{none_of}
+use Rattle.client_session.proofs.Taking.{none_of}
 use Rattle.client_session.proofs.Taken.{LinesTaken-none, LinesTaken-read, LinesTaken-line, LinesTaken-same, pending_at}
 use Rattle.client_session.proofs.Turning.{fuel_skip}
 use Rattle.client_session.proofs.turns.take_lines.Goals as goal

@@ -1,5 +1,6 @@
 use Rattle.std.proofs.Common.{◌∙◌, Option, subst}
 use Rattle.clap.specs.Words.{Text}
+use Rattle.command_words.specs.Jobs.{recorded_in}
 use Rattle.named_files.specs.Outputs.{IsOpened, is_new}
 use Rattle.named_files.proofs.Written.{nothing_gone}
 use Rattle.kept_sessions.proofs.Lived.{as_begun, so_far}
@@ -7,15 +8,15 @@ use Rattle.kept_sessions.proofs.Told.{all_told}
 use Rattle.kept_sessions.proofs.live.end_live.Goals as goal
 
 pub returns-in-Ok-clause-kept : goal.returns-in-Ok-clause-kept
-returns-in-Ok-clause-kept g c = λ opening names was left begins over few.
+returns-in-Ok-clause-kept g c = λ opening names was left begins over none.
     let written = c.keep_live-receipts.ensures.written names left over.machine (so_far g.S.Stream.Write.contents names was left c.args.over over) in
-    rw c.in-Ok.is (written, (λ broken. c.keep_live-receipts.ensures.broken (over.whole ∙ broken)), c.keep_live-receipts.ensures.lost, all_told g.S.Stream.Write.contents g.S.System.received names was left c.args.over c.keep_live-receipts.result.0.recorded over c.keep_live-receipts.ensures.grown)
+    rw c.in-Ok.is (written, (λ broken. c.keep_live-receipts.ensures.broken (over.whole ∙ broken)), c.keep_live-receipts.ensures.lost, all_told g.S.Stream.Write.contents g.S.System.received (recorded_in c.args.shared.now) names was left c.args.over c.keep_live-receipts.result.0.recorded c.keep_live-receipts.result.1.recorded over c.keep_live-receipts.ensures.grown written.0)
 
 pub returns-clause-kept : goal.returns-clause-kept
-returns-clause-kept g c = λ opening names was left begins over few.
+returns-clause-kept g c = λ opening names was left begins over none.
     let contents = g.S.Stream.Write.contents in
     let received = g.S.System.received in
     let shared = c.args.shared.now in
     let opened = subst (λ (n : Option Text). IsOpened contents is_new n c.args.image) c.requires.named c.requires.opened in
-    let record_left = as_begun (g.S.System.holds c.args.system.now) contents received shared.record_out opening names was left left.whole c.args.over.stream c.close_stream.result (rw c.in-Err.is at few) begins c.requires.stream over.text c.close_stream.ensures in
+    let record_left = as_begun (g.S.System.holds c.args.system.now) contents received shared.record_out opening names was left c.args.over.stream c.close_stream.result (rw c.in-Err.is at none) begins c.requires.stream over.text c.close_stream.ensures in
     rw c.in-Err.is (record_left, nothing_gone contents received shared.image_out c.args.image c.close_file.result opened c.close_file.ensures, c.none.ensures)

@@ -1,7 +1,7 @@
 use Rattle.std.proofs.Common.{ap}
 use Rattle.std.specs.Prelude.{is_some}
 use Rattle.named_files.specs.Clients.{clients_by}
-use Rattle.kept_sessions.proofs.Lived.{host_opening, over_recorded_from, over_silent_from}
+use Rattle.kept_sessions.proofs.Lived.{host_settled, over_recorded_from, over_silent_from}
 use Rattle.kept_sessions.proofs.sessions.host_from.Goals as goal
 
 pub returns-in-Some : goal.returns-in-Some
@@ -13,5 +13,5 @@ pub returns-in-None : goal.returns-in-None
 returns-in-None g c =
     let clients = clients_by (g.S.ClientFiles.says c.args.streams.now.system.now) (g.S.ClientFiles.had c.args.streams.now.system.now) c.args.streams.now.clients.now in
     let left = c.host_over-end.result.1 in
-    let opening = host_opening _ c.args.start.book clients _ _ c.host_over-end.result.0 left c.host_over-end.ensures in
-    record { over = (left, over_silent_from g.S.Stream.Write.contents c.args.start left c.over_silent.result c.in-None.is opening c.over_silent.ensures.machine c.over_silent.ensures.whole c.over_silent.ensures.stream, rw (ap is_some c.in-None.is, c.over_silent.ensures.end) c.host_over-end.ensures) }
+    let settled = host_settled _ c.args.start.book clients _ _ c.host_over-end.result.0 left c.host_over-end.ensures in
+    record { over = (left, over_silent_from g.S.Stream.Write.contents c.args.start left c.over_silent.result c.in-None.is settled c.over_silent.ensures.machine c.over_silent.ensures.whole c.over_silent.ensures.stream, rw (ap is_some c.in-None.is, c.over_silent.ensures.end) c.host_over-end.ensures) }

@@ -1,24 +1,25 @@
 use Rattle.std.proofs.Common.{◌∙◌, List, subst, sym, true}
 use Rattle.std.specs.Prelude.{IfSome}
 use Rattle.batch_book.specs.declared.entry.Entry.{Entry}
-use Rattle.batch_book.specs.History.{Account, AreUnstopped}
+use Rattle.batch_book.specs.History.{Account}
 use Rattle.book_record.specs.Streams.{IsWritten as IsStreamed}
 use Rattle.named_files.specs.Clients.{clients_by}
-use Rattle.kept_sessions.specs.Live.{IsHostOver}
-use Rattle.kept_sessions.proofs.Lived.{host_opening, same_account}
+use Rattle.kept_sessions.specs.Live.{IsHostOver, IsReady}
+use Rattle.kept_sessions.proofs.Lived.{host_settled, same_account}
 use Rattle.kept_sessions.proofs.sessions.host_recorded.Goals as goal
 
-pub host_over-end-requires-clause-unstopped : goal.host_over-end-requires-clause-unstopped
-host_over-end-requires-clause-unstopped g c = λ lifetimes bounds.
-    subst (λ (a : Account). AreUnstopped a.history) (sym c.stream_on-book.ensures) c.requires.unstopped
+pub host_over-end-requires-clause-ready : goal.host_over-end-requires-clause-ready
+host_over-end-requires-clause-ready g c = λ lifetimes bounds.
+    subst IsReady (sym (c.stream_on-book.ensures ∙ same_account c.args.book c.requires.ready)) c.requires.ready
 
 pub returns-clause-over : goal.returns-clause-over
 returns-clause-over g c =
     let book = c.args.book in
-    let same = c.stream_on-book.ensures ∙ same_account book c.requires.whole in
+    let same = c.stream_on-book.ensures ∙ same_account book c.requires.ready in
     let clients = clients_by (g.S.ClientFiles.says c.args.streams.now.system.now) (g.S.ClientFiles.had c.args.streams.now.system.now) c.args.streams.now.clients.now in
     let left = c.host_over-end.result.1 in
     let over = subst (λ (a : Account). IsHostOver true a clients c.args.endings.now.items c.host_over-end.new.endings.items c.host_over-end.result.0 left) same c.host_over-end.ensures in
     let whole = c.over_recorded.result.is_whole in
-    let text = subst (λ (es : List Entry). IfSome c.over_recorded.result.stream (λ file. IsStreamed g.N.StreamName.held (g.S.Stream.Write.contents file) es left.history left.whole)) (sym c.requires.earlier) c.over_recorded.ensures.text in
-    (left, record { opening = host_opening true book clients _ _ c.host_over-end.result.0 left over; machine = c.over_recorded.ensures.machine; whole = c.over_recorded.ensures.whole; text = text }, rw c.over_recorded.ensures.end over)
+    let text = subst (λ (es : List Entry). IfSome c.over_recorded.result.stream (λ file. IsStreamed g.N.StreamName.held (g.S.Stream.Write.contents file) es left.stands left.history left.whole)) (sym c.requires.earlier) c.over_recorded.ensures.text in
+    let settled = host_settled true book clients _ _ c.host_over-end.result.0 left over in
+    (left, record { opening = settled.0; machine = c.over_recorded.ensures.machine; whole = c.over_recorded.ensures.whole; all = settled.1; text = text }, rw c.over_recorded.ensures.end over)

@@ -5,8 +5,7 @@ use Rattle.named_files.specs.Contents.{contents_in}
 use Rattle.kept_sessions.specs.Live.{IsTalkOver}
 use Rattle.kept_sessions.specs.Records.{IsCutFromRecord, record_front}
 use Rattle.kept_sessions.specs.Answers.{loses, talking}
-use Rattle.kept_sessions.proofs.Lived.{talk_few}
-use Rattle.kept_sessions.proofs.Started.{legal_begun}
+use Rattle.kept_sessions.proofs.Lived.{talk_unasked}
 use Rattle.kept_sessions.proofs.Served.{lived, talk_ending, unserved_lived}
 use Rattle.kept_sessions.proofs.sessions.talk.Goals as goal
 
@@ -27,7 +26,7 @@ returns-clause-session g c =
     let ended = subst (λ (b : Bool). IsTalkOver b begun.book old rest o.0 c.talk_from-over.result.end o.1) s.2.stream o.4 in (
       o.0,
       o.2,
-      lived (g.S.System.holds c.args.system.now) g.S.System.received shared [] (contents_in c.args.contents.now).image (talking shared old rest o.0) (o.0 ≡ []) c.talk_from-over.result.end begun.book o.1 s.0 c.end_live.result s.1 s.2.begins c.end_live.ensures.told (c.end_live.ensures.kept s.0 [] begun.book o.1 s.2.begins over (talk_few (loses shared) begun.book (legal_begun (g.S.System.holds c.args.system.now) shared.record_out s.0 [] begun.book s.2.begins) old rest o.0 c.talk_from-over.result.end o.1 ended))
+      lived (g.S.System.holds c.args.system.now) g.S.System.received shared [] (contents_in c.args.contents.now).image (talking shared old rest o.0) (o.0 ≡ []) c.talk_from-over.result.end begun.book o.1 s.0 c.end_live.result s.1 s.2.begins c.end_live.ensures.told (c.end_live.ensures.kept s.0 [] begun.book o.1 s.2.begins over (talk_unasked (loses shared) begun.book old rest o.0 c.talk_from-over.result.end o.1 ended))
           (talk_ending shared old rest o.0 begun.book o.1 c.talk_from-over.result.end ended)
           (subst (IsCutFromRecord (g.S.System.holds c.args.system.now) shared.record_out [] begun.book) (sym c.end_live.ensures.cut) s.2.cut),
     )

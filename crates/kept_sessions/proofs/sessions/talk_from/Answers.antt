@@ -1,6 +1,6 @@
 use Rattle.std.proofs.Common.{ap}
 use Rattle.std.specs.Prelude.{is_some}
-use Rattle.kept_sessions.proofs.Lived.{over_recorded_from, over_silent_from, talk_opening}
+use Rattle.kept_sessions.proofs.Lived.{over_recorded_from, over_silent_from, talk_settled}
 use Rattle.kept_sessions.proofs.sessions.talk_from.Goals as goal
 
 pub returns-in-Some-clause-session : goal.returns-in-Some-clause-session
@@ -12,5 +12,5 @@ pub returns-in-None-clause-session : goal.returns-in-None-clause-session
 returns-in-None-clause-session g c =
     let t = c.talk_over-end.ensures.session in
     let left = c.talk_over-end.result.1 in
-    let opening = talk_opening _ c.args.start.book _ _ t.0 c.talk_over-end.result.0 left t.2 in
-    (t.0, left, t.1, over_silent_from g.F.Write.contents c.args.start left c.over_silent.result c.in-None.is opening c.over_silent.ensures.machine c.over_silent.ensures.whole c.over_silent.ensures.stream, rw (ap is_some c.in-None.is, c.over_silent.ensures.end) t.2)
+    let settled = talk_settled _ c.args.start.book c.requires.ready _ _ t.0 c.talk_over-end.result.0 left t.2 in
+    (t.0, left, t.1, over_silent_from g.F.Write.contents c.args.start left c.over_silent.result c.in-None.is settled c.over_silent.ensures.machine c.over_silent.ensures.whole c.over_silent.ensures.stream, rw (ap is_some c.in-None.is, c.over_silent.ensures.end) t.2)

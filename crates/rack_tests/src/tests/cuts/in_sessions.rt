@@ -123,7 +123,8 @@ fn session<L: ExchangeName, R: AllocGlobal + Threads + Wait + Sync>(
     seat: Seat<L>,
     fault: Fault,
 ) -> (Seat<L>, bool)
-    requires { seat.exchange ≡ Some exchange.now.word }
+    requires exchange { seat.exchange ≡ Some exchange.now.word }
+    requires told { seat.log ≡ seat.asked }
     ensures { result.0.exchange ≡ seat.exchange }
 {
     let mut reader = SCRIPT.as_bytes();
@@ -162,6 +163,7 @@ fn is_right<L: ExchangeName, R: AllocGlobal + Threads + Wait + Sync>(
     fault: Fault,
 ) -> bool
     requires seat { seat.exchange ≡ Some exchange.word }
+    requires told { seat.log ≡ seat.asked }
     requires parts { L.parts ≡ ALL_PARTS }
 {
     let (seat, is_told) = session(rt, &exchange, seat, fault);

@@ -56,8 +56,10 @@ fn play<L: ExchangeName, R: AllocGlobal + Threads + Wait + Sync>(
     seat: Seat<L>,
     script: &Script,
 ) -> (Seat<L>, bool)
-    requires { seat.exchange ≡ Some shared.now.word }
-    ensures { result.0.exchange ≡ seat.exchange }
+    requires exchange { seat.exchange ≡ Some shared.now.word }
+    requires told { seat.log ≡ seat.asked }
+    ensures exchange { result.0.exchange ≡ seat.exchange }
+    ensures told { result.0.log ≡ result.0.asked }
 {
     let flushed = AtomicUsize::new(0);
     let mut speaker = Speaker::of(script, &flushed);
@@ -91,7 +93,10 @@ fn play_both<L: ExchangeName, R: AllocGlobal + Threads + Wait + Sync>(
     rt: &R,
     office: Office<L>,
     day: &Day,
-) -> (Office<L>, bool) {
+) -> (Office<L>, bool)
+    requires first { office.first.log ≡ office.first.asked }
+    requires second { office.second.log ≡ office.second.asked }
+{
     let Pair {
         shared,
         first,
@@ -119,7 +124,10 @@ pub fn serve_at_once<
     R: AllocGlobal + Threads + Wait + Sync,
     I: Read + Send + Drop,
     J: Read + Send + Drop,
->(rt: &R, office: Office<L>, one: Saying<I>, other: Saying<J>) -> (Office<L>, bool) {
+>(rt: &R, office: Office<L>, one: Saying<I>, other: Saying<J>) -> (Office<L>, bool)
+    requires first { office.first.log ≡ office.first.asked }
+    requires second { office.second.log ≡ office.second.asked }
+{
     let Pair {
         shared,
         first,
@@ -129,11 +137,13 @@ pub fn serve_at_once<
     let (one, other) = join(
         rt,
         move || -> (Seat<L>, bool)
-            requires { first.exchange ≡ Some lent.now.word }
+            requires exchange { first.exchange ≡ Some lent.now.word }
+            requires told { first.log ≡ first.asked }
             ensures { result.0.exchange ≡ first.exchange }
         { hear(rt, lent, first, one) },
         move || -> (Seat<L>, bool)
-            requires { second.exchange ≡ Some lent.now.word }
+            requires exchange { second.exchange ≡ Some lent.now.word }
+            requires told { second.log ≡ second.asked }
             ensures { result.0.exchange ≡ second.exchange }
         { hear(rt, lent, second, other) },
     );
@@ -162,7 +172,8 @@ fn hear<L: ExchangeName, R: AllocGlobal + Threads + Wait + Sync, I: Read + Drop>
     seat: Seat<L>,
     client: Saying<I>,
 ) -> (Seat<L>, bool)
-    requires { seat.exchange ≡ Some shared.now.word }
+    requires exchange { seat.exchange ≡ Some shared.now.word }
+    requires told { seat.log ≡ seat.asked }
     ensures { result.0.exchange ≡ seat.exchange }
 {
     let Saying { reader, hears } = client;
@@ -202,7 +213,9 @@ fn is_played<L: ExchangeName, R: AllocGlobal + Threads + Wait + Sync>(
     office: Office<L>,
     day: &Day,
 ) -> bool
-    requires { L.parts ≡ ALL_PARTS }
+    requires parts { L.parts ≡ ALL_PARTS }
+    requires first { office.first.log ≡ office.first.asked }
+    requires second { office.second.log ≡ office.second.asked }
 {
     let [one, other] = &day.scripts;
     let entries = one.entries.saturating_add(other.entries);

@@ -1,21 +1,15 @@
 use Rattle.std.proofs.Common.{◌≡◌, ◌∙◌, [], ◌∷◌, ◌++◌, true, refl, sym, subst}
-use Rattle.std.specs.Prelude.{Result, IfOk}
-use Rattle.std.specs.declared.alloc.AllocError.{AllocError}
 use Rattle.batch.specs.Extent.{IsShape}
 use Rattle.module_memory.specs.Store.{Store}
 use Rattle.batch_book.specs.declared.call.Call.{Call}
-use Rattle.batch_book.specs.declared.reply.Reply.{Reply}
-use Rattle.batch_book.specs.declared.unrecorded.Unrecorded.{Unrecorded}
 use Rattle.batch_book.specs.Answering.{IsReplyTo}
 use Rattle.batch_book.specs.History.{account, entry, has_book_room, IsGrown}
-use Rattle.batch_book.specs.Recording.{Applies}
 use Rattle.batch_book.proofs.Answering.{answered, sound, value_below}
 use Rattle.batch_book.proofs.Seats.{further}
-use Rattle.batch_book.proofs.Histories.{grown, is_answered}
-use Rattle.batch_book.proofs.Room.{lost_by, room_of}
+use Rattle.batch_book.proofs.Histories.{either_stands, grown, is_answered, stays_front}
+use Rattle.batch_book.proofs.Room.{room_of}
 use Rattle.batch_book.proofs.Steps.{small_step}
 use Rattle.batch_book.proofs.book.Book.enter.Goals as goal
-use Rattle.batch_book.proofs.book.Book.enter.Goals.{in-Ok, in-Err}
 
 pub push-requires-clause-answers : goal.push-requires-clause-answers
 push-requires-clause-answers g c =
@@ -38,9 +32,10 @@ invariant_of-self-2 g c =
     let same : c.new.result ≡ c.args.call = c.new.ensures ∙ c.of-asked.ensures in
     let longer : h.pushed c.push.new.self ≡ h.pushed inside.history ++ entry c.args.session c.args.call c.in_ok-told.reply ∷ [] =
     c.push.ensures.pushed ∙ (λ i. c.draft.ensures.pushed i ++ entry c.args.session (same i) (c.of.ensures i) ∷ []) in
-    let room : has_book_room h.limited (account inside.opening (h.pushed inside.history) inside.holdings (h.whole inside.history)) ≡ true = rw (← c.self.view_is) at c.requires.room in (
-      grown h.limited h.loses (account inside.opening (h.pushed inside.history) inside.holdings (h.whole inside.history)) c.args.session c.args.call c.in_ok-told.reply _ _ (h.whole c.push.new.self)
-          c.self.invariant.0 (room_of _ _ room) longer c.in_ok-told.ensures.step (lost_by c.push.result (h.whole c.push.new.self) h.loses c.push.ensures.ok c.push.ensures.loses),
+    let stands = either_stands c.draft.ensures.stands c.push.ensures.stands in
+    let room : has_book_room h.limited (account inside.opening (h.pushed inside.history) (h.stands inside.history) inside.holdings (h.whole inside.history)) ≡ true = rw (← c.self.view_is) at c.requires.room in (
+      grown h.limited h.loses (account inside.opening (h.pushed inside.history) (h.stands inside.history) inside.holdings (h.whole inside.history)) c.args.session c.args.call c.in_ok-told.reply _ _ _ (h.whole c.push.new.self)
+          c.self.invariant.0 (room_of _ _ room) longer stands c.in_ok-told.ensures.step (c.push.ensures.whole ∙ c.draft.ensures.whole),
       further (h.pushed inside.history) (h.pushed c.push.new.self) (entry c.args.session c.args.call c.in_ok-told.reply) inside.furthest c.value.result c.max-self-inside.result c.self.invariant.1 c.value.ensures c.max-self-inside.ensures longer,
     )
 
@@ -51,15 +46,11 @@ returns-clause-step g c =
     let same : c.new.result ≡ c.args.call = c.new.ensures ∙ c.of-asked.ensures in
     let longer : h.pushed c.push.new.self ≡ h.pushed inside.history ++ entry c.args.session c.args.call c.in_ok-told.reply ∷ [] =
     c.push.ensures.pushed ∙ (λ i. c.draft.ensures.pushed i ++ entry c.args.session (same i) (c.of.ensures i) ∷ []) in
-    let old = account inside.opening (h.pushed inside.history) inside.holdings (h.whole inside.history) in
-    let new = account inside.opening (h.pushed c.push.new.self) c.answer.new.self (h.whole c.push.new.self) in
+    let stands = either_stands c.draft.ensures.stands c.push.ensures.stands in
+    let old = account inside.opening (h.pushed inside.history) (h.stands inside.history) inside.holdings (h.whole inside.history) in
+    let new = account inside.opening (h.pushed c.push.new.self) (h.stands c.push.new.self) c.answer.new.self (h.whole c.push.new.self) in
     let step = c.in_ok-told.ensures.step in
     let logged = (small_step inside.holdings c.args.session c.args.call c.in_ok-told.reply _ step).logged in
     let was : h.whole inside.history ≡ true = rw (← c.self.view_is) at c.requires.whole in
-    let more : IsGrown old c.args.session c.args.call c.in_ok-told.reply new = record { step = step; history = longer; opening = refl } in
-    elim c.match-push.branch [
-      | in-Ok w ↦ subst (λ (x : Result (Result Reply Unrecorded) AllocError). IfOk x (λ made. Applies c.args.self.now c.args.session c.args.call made new)) (sym w.result-is)
-          (rw (← c.self.view_is) (is_answered old new c.args.session c.args.call c.in_ok-told.reply was w.in-Ok.ensures.ok logged more))
-      | in-Err w ↦ subst (λ (x : Result (Result Reply Unrecorded) AllocError). IfOk x (λ made. Applies c.args.self.now c.args.session c.args.call made new)) (sym w.result-is)
-          (rw (← c.self.view_is) (logged, was, w.in-Err.ensures.err, more))
-    ]
+    let more : IsGrown old c.args.session c.args.call c.in_ok-told.reply new = record { step = step; history = longer; stands = stays_front _ _ _ _ _ c.self.invariant.0.front longer stands; opening = refl } in
+    rw (← c.self.view_is) (is_answered old new c.args.session c.args.call c.in_ok-told.reply was (c.push.ensures.whole ∙ c.draft.ensures.whole ∙ was) logged more)

@@ -1,8 +1,9 @@
-use Rattle.std.proofs.Common.{◌∙◌, ◌++◌, ap, refl, sym, subst, length, length-append, arith}
+use Rattle.std.proofs.Common.{◌∙◌, ◌++◌, ap, refl, sym, subst, length, length-append, true≢false, arith}
 use Rattle.batch_book.specs.declared.raise.Raise.{Raise}
-use Rattle.batch_book.specs.Recording.{AreAllBut, made_in, noted, told_in}
+use Rattle.batch_book.specs.History.{Starts}
+use Rattle.batch_book.specs.Recording.{made_in, noted, told_in}
 use Rattle.batch_book.specs.Values.{greatest}
-use Rattle.batch_book.proofs.Noting.{all_told_more, asked, greatest_more, heard_made, kept_more, replied_made, told_append, unheard_made, unstopped_made}
+use Rattle.batch_book.proofs.Noting.{asked, greatest_more, heard_made, kept_more, made_append, replied_made, told_more, unheard_made, unstopped_made}
 use Rattle.batch_book.proofs.locked.Locked.ask.Goals as goal
 
 pub returns-clause-reply : goal.returns-clause-reply
@@ -33,11 +34,11 @@ invariant_of-self g c =
     let step = c.try_apply-made.ensures.step in
     let notes = old.keeper.history in
     let history = e.history ∙ ap (λ k. notes ++ noted c.args.session k c.try_apply-made.result) c.of-asked.ensures in
-    let counted = ap length (ap told_in e.history ∙ told_append notes _) ∙ length-append (told_in notes) _ in
+    let counted = ap length (ap made_in e.history ∙ made_append notes _) ∙ length-append (made_in notes) _ in
     record {
       counted = omega (arith, counted, e.total, old.counted);
       kept = kept_more g.L.ExchangeName.earlier notes old.book _ c.args.session c.args.call c.try_apply-made.result step old.kept ∙ ap (λ ns. g.L.ExchangeName.earlier ++ made_in ns) (sym history);
-      all_told = subst (λ ns. AreAllBut c.try_apply-made.new.self.whole (told_in ns) (made_in ns)) (sym history) (all_told_more notes old.book _ c.args.session c.args.call c.try_apply-made.result step old.all_told);
+      told = subst (λ ns. Starts (g.L.ExchangeName.earlier ++ told_in ns) c.try_apply-made.new.self.stands) (sym history) (told_more g.L.ExchangeName.earlier notes old.book _ c.args.session c.args.call c.try_apply-made.result step old.told);
       opened = c.try_apply-made.ensures.opening ∙ old.opened;
       unstopped = unstopped_made _ _ _ _ _ _ old.book _ c.args.session c.args.call c.try_apply-made.result c.try_apply-made.ensures.plant step old.unstopped;
     }
@@ -49,9 +50,10 @@ invariant_of-result g c =
     let t = c.args.place in
     let e = c.note_call-own.ensures in
     let notes = t.own.list in
-    let counted = ap length (ap told_in e.list ∙ told_append notes _) ∙ length-append (told_in notes) _ in
+    let counted = ap length (ap made_in e.list ∙ made_append notes _) ∙ length-append (made_in notes) _ in
     let highest = ap (λ ns. greatest (made_in ns)) e.list ∙ greatest_more notes c.args.session c.of-asked.result.value c.try_apply-made.result in
     record {
       counted = omega (arith, counted, e.amount, t.counted);
       highest = omega (arith, highest, reaches.raised, t.highest);
+      settled = λ never. absurd (true≢false never);
     }

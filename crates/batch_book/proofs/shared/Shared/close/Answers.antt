@@ -1,7 +1,8 @@
-use Rattle.std.proofs.Common.{◌≡◌, ◌∙◌, ap, arith}
+use Rattle.std.proofs.Common.{◌≡◌, ◌∙◌, ◌++◌, ap, append_assoc, arith}
 use Rattle.batch_book.specs.Recording.{made_in, told_in}
 use Rattle.batch_book.specs.Values.{greatest}
-use Rattle.batch_book.proofs.Noting.{all_behind, greatest_append}
+use Rattle.batch_book.proofs.Fronts.{front}
+use Rattle.batch_book.proofs.Noting.{all_recorded, greatest_append}
 use Rattle.batch_book.proofs.shared.Shared.close.Goals as goal
 
 pub returns : goal.returns
@@ -17,12 +18,16 @@ returns g c =
     let later = c.load.ensures.later in
     let behind = greatest_append earlier (made_in notes) in
     let kept = ap greatest locked.kept in
+    let rest = front (earlier ++ told_in notes) locked.book.stands locked.told in
     record {
-      told = told_in notes;
+      made = made_in notes;
+      standing = told_in notes ++ rest.0;
       all_parts = e.total;
       opened = locked.opened;
-      all_told = all_behind locked.book.whole earlier (told_in notes) (made_in notes) locked.book.history locked.all_told locked.kept;
-      agree = e.agree;
+      are = locked.kept;
+      stand = rest.1 ∙ append_assoc earlier (told_in notes) rest.0;
+      asked = e.asked;
+      told = all_recorded (told_in notes) rest.0 c.args.seats.items e.told;
       counted = omega (arith, locked.counted, amount, e.amount);
       none_ahead = λ k d less. let seen = e.seen k d less in omega (arith, seen, later, read, e.raised, behind, kept);
       unstopped = locked.unstopped;

@@ -1,9 +1,9 @@
 use Rattle.std.proofs.Common.{◌+◌, ◌-◌, ◌++◌, ◌∙◌, [], ap, sym, take, append-nil, arith}
 use Rattle.std.proofs.lemmas.List.{length-take}
-use Rattle.client_session.specs.declared.limits.TheConstants.{LINE_BYTES}
+use Rattle.client_session.specs.declared.limits.TheConstants.{INPUT_BYTES}
 use Rattle.client_session.proofs.Asking.{RisesBy-none}
 use Rattle.client_session.proofs.Known.{Consumes-kept}
-use Rattle.client_session.proofs.Parts.{grown, unread}
+use Rattle.client_session.proofs.Parts.{refilled, unfilled}
 use Rattle.client_session.proofs.input.Input.fill.Goals as goal
 
 pub returns-in-Ok-clause-takes : goal.returns-in-Ok-clause-takes
@@ -13,14 +13,14 @@ returns-in-Ok-clause-takes g c =
     record {
       bytes = got;
       consumed = c.in-Ok.ensures.bytes.0;
-      kept = ap (λ h. h.pending ++ got) (sym c.self.view_is) ∙ sym (grown s.len (LINE_BYTES + 1 - s.len) c.in-Ok.n s.buffer c.ask.new.buf (omega arith) c.in-Ok.ensures.bound.0);
+      kept = ap (λ h. h.pending ++ got) (sym c.self.view_is) ∙ sym (refilled s.start s.end (INPUT_BYTES - (s.end - s.start)) c.in-Ok.n s.buffer c.copy_within.new.self c.ask.new.buf c.copy_within.ensures.after (omega arith) (omega arith) c.in-Ok.ensures.bound.0);
       reads = omega (arith, length-take c.in-Ok.n c.ask.new.buf, c.in-Ok.ensures.bound.0, ap (λ h. h.reads) c.self.view_is);
     }
 
 pub returns-in-Err-clause-err : goal.returns-in-Err-clause-err
 returns-in-Err-clause-err g c =
     let s = c.self.inside in
-    (unread s.len (LINE_BYTES + 1 - s.len) s.buffer c.ask.new.buf (omega arith) ∙ ap (λ h. h.pending) c.self.view_is, tt)
+    (unfilled s.start s.end (INPUT_BYTES - (s.end - s.start)) s.buffer c.copy_within.new.self c.ask.new.buf c.copy_within.ensures.after (omega arith) (omega arith) ∙ ap (λ h. h.pending) c.self.view_is, tt)
 
 pub returns-in-Err-clause-takes : goal.returns-in-Err-clause-takes
 returns-in-Err-clause-takes g c = record {

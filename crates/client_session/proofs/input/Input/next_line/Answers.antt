@@ -1,9 +1,9 @@
-use Rattle.std.proofs.lemmas.Grind.{common_steps}
-use Rattle.std.proofs.Common.{Some, refl, arith}
+use Rattle.std.proofs.Common.{Some, ap, length, refl, arith}
 use Rattle.std.proofs.lemmas.Result.{err_from_is_err_and}
 use Rattle.client_session.specs.declared.fault.ServeFault.TheVariants.{LineTooLong}
 use Rattle.client_session.proofs.Asking.{gives_none, gives_more, stops_after, stops_here, asked_at_end}
-use Rattle.client_session.proofs.Taking.{TakesIn-more, TakesIn-none, fuel_read, found_at_end}
+use Rattle.client_session.proofs.Parts.{no_line}
+use Rattle.client_session.proofs.Taking.{TakesIn-more, TakesIn-none, cut_at_end, fault_before, found_at_end, fuel_read, none_of}
 use Rattle.client_session.proofs.input.Input.next_line.Goals as goal
 
 pub loop-n-init : goal.loop-n-init
@@ -21,9 +21,6 @@ loop-n-preserved g c =
 pub returns-in_err-fill-clause-takes : goal.returns-in_err-fill-clause-takes
 returns-in_err-fill-clause-takes g c = TakesIn-more _ _ _ _ _ _ c.loop-n.invariant.0 c.in_err-fill.ensures.takes
 
-pub returns-then-self-clause-line : goal.returns-then-self-clause-line
-returns-then-self-clause-line g c = tt
-
 pub returns-then-branch-eq0-clause-line : goal.returns-then-branch-eq0-clause-line
 returns-then-branch-eq0-clause-line g c = found_at_end c.at_end.result (g.R.AskedReader.remaining c.fill.new.reader) c.fill.new.self (c.in_ok-fill.ensures.end c.if-branch-eq0.true) c.at_end.ensures.ok
 
@@ -31,10 +28,16 @@ pub returns-then-branch-eq0-clause-takes : goal.returns-then-branch-eq0-clause-t
 returns-then-branch-eq0-clause-takes g c = TakesIn-more _ _ _ _ _ _ c.loop-n.invariant.0 c.in_ok-fill.ensures.takes
 
 pub returns-then-branch-eq0-clause-err : goal.returns-then-branch-eq0-clause-err
-returns-then-branch-eq0-clause-err g c = grind (arith, common_steps)
+returns-then-branch-eq0-clause-err g c =
+    let more = c.in_ok-fill.ensures in
+    let line = no_line _ (rw (none_of _ c.in_default.not-Some) at c.line_length.ensures.none) (omega (arith, ap length c.pending.ensures)) in
+    cut_at_end c.at_end.result _ c.fill.new.self more.takes (omega arith) (more.end c.if-branch-eq0.true) line c.at_end.ensures.err
 
-pub returns-in-Some-clause-line : goal.returns-in-Some-clause-line
-returns-in-Some-clause-line g c = grind (arith, common_steps)
+pub returns-in_err-fill-clause-err : goal.returns-in_err-fill-clause-err
+returns-in_err-fill-clause-err g c =
+    let p = err_from_is_err_and c.from_residual.result c.from_residual.ensures.1 in
+    let line = no_line _ (rw (none_of _ c.in_default.not-Some) at c.line_length.ensures.none) (omega (arith, ap length c.pending.ensures)) in
+    rw (p.1, p.2) (fault_before _ _ c.loop-n.self c.fill.new.self line c.in_err-fill.ensures.err)
 
 pub returns-in_err-fill-clause-asks : goal.returns-in_err-fill-clause-asks
 returns-in_err-fill-clause-asks g c =
@@ -46,8 +49,8 @@ returns-then-branch-eq0-clause-asks g c =
     let last = c.in_ok-fill.ensures.last c.if-branch-eq0.true in
     asked_at_end c.at_end.result _ _ _ _ c.fill.new.self (stops_after c.loop-n.invariant.2 last) c.at_end.ensures.ok c.at_end.ensures.err
 
-pub returns-then-self-clause-asks : goal.returns-then-self-clause-asks
-returns-then-self-clause-asks g c = stops_here (Some LineTooLong) c.loop-n.invariant.2 (λ few. few)
+pub returns-then-pending-gt-LINE_BYTES-clause-asks : goal.returns-then-pending-gt-LINE_BYTES-clause-asks
+returns-then-pending-gt-LINE_BYTES-clause-asks g c = stops_here (Some LineTooLong) c.loop-n.invariant.2 (λ few. few)
 
 pub returns-in-Some-clause-asks : goal.returns-in-Some-clause-asks
 returns-in-Some-clause-asks g c = c.loop-n.invariant.2

@@ -1,0 +1,17 @@
+use Rattle.std.proofs.Common.{◌++◌, ◌∷◌, [], ◌∙◌, ap, length, sym, arith}
+use Rattle.batch_book.specs.Recording.{made_in, told_in}
+use Rattle.batch_book.specs.Values.{greatest}
+use Rattle.batch_book.proofs.Noting.{made_mark, told_mark}
+use Rattle.batch_book.proofs.locked.mark.Goals as goal
+
+pub invariant_of-result : goal.invariant_of-result
+invariant_of-result g c =
+    let t = c.args.place in
+    let list = c.add-own.ensures.list ∙ ap (λ n. t.own.list ++ n ∷ []) c.mark.ensures in
+    let same = ap made_in list ∙ made_mark t.own.list c.args.session in
+    let most = ap greatest same in
+    record {
+      counted = t.counted ∙ ap length (sym same);
+      highest = omega (arith, t.highest, most);
+      settled = λ _. (ap told_in list ∙ told_mark t.own.list c.args.session) ∙ sym same;
+    }

@@ -1,0 +1,284 @@
+#!/usr/bin/env python3
+"""Bursts of lines at a host that records: bursts.py CALLS.SO
+
+Clients say many lines together. CALLS.SO, which calls.c is built to, notes each write and each sync of the host. Plain Python (kept.py) reads the
+record a second time, and each case is judged by both. Before a byte of a reply is written, the entries of its command stand in the record, and with
+`--sync` a sync has ended behind them. What comes before a plan, a run, or a batch that isn't all there is told before that is done. Where a write or a
+sync of the record fails once, and would work then, nothing of that group is told, and nothing more is written there; a host that resumes goes on. In
+bursts of 64 lines an entry takes at most MOST writes, and as many syncs.
+"""
+
+import os
+import random
+import select
+import subprocess
+import sys
+import tempfile
+from collections import namedtuple
+
+from kept import Record, Wrong, calls_of, judge_client
+from moments import EXCHANGE, LIMIT, read, resume, shown, try_all
+
+MOST = 0.05
+SHAPE = (2, 2, 1)
+
+# A call of the system: whether it begins or ends, what it does, with which file, and how many bytes it has; less than 0 where it failed.
+Call = namedtuple("Call", "when what name count")
+
+
+class Client:
+    """A client, which says texts, each with so many commands, once it has heard the replies to the one before."""
+
+    def __init__(self, name, texts):
+        self.name, self.texts, self.told, self.due = name, list(texts), b"", 0
+        os.mkfifo(f"{name}.in")
+        os.mkfifo(f"{name}.out")
+
+    def come(self):
+        """Opens the pipe by which it speaks before the one by which it hears, as the host does."""
+        self.said = os.open(f"{self.name}.in", os.O_WRONLY)
+        self.heard = os.open(f"{self.name}.out", os.O_RDONLY)
+        self.say()
+
+    def say(self):
+        if not self.texts:
+            os.close(self.said)
+            return
+        text, count = self.texts.pop(0)
+        self.due += count
+        try:
+            os.write(self.said, text.encode())
+        except BrokenPipeError:
+            pass
+
+    def hear(self):
+        """Hears what there is: whether more may come."""
+        more = os.read(self.heard, 1 << 16)
+        self.told += more
+        if more and self.told.count(b"\n") == self.due:
+            self.say()
+        return bool(more)
+
+
+class Day:
+    """A host of clients who said these texts, which has ended: its folder, what it printed, and the calls that were noted."""
+
+    def __init__(self, room, texts, *options, **calls):
+        self.room, self.texts, self.syncs = room, texts, "--sync" in options
+        self.clients = [Client(f"{room}/c{k}", its) for k, its in enumerate(texts)]
+        words = [EXCHANGE, "host", shown(SHAPE), *(client.name for client in self.clients), "--record", f"{room}/record", *options]
+        env = {"LD_PRELOAD": os.path.abspath(sys.argv[1]), "CALLS_LOG": f"{room}/calls", **calls}
+        process = subprocess.Popen(words, stdin=subprocess.DEVNULL, stdout=subprocess.PIPE, stderr=subprocess.PIPE, env=env)
+        try:
+            self.talk()
+            out, err = process.communicate(timeout=LIMIT)
+        finally:
+            process.kill()
+        self.out, self.err, self.status = out.decode(), err.decode(), process.returncode
+        with open(f"{room}/calls", encoding="utf-8") as file:
+            parts = [line.split() for line in file]
+        self.calls = [Call(when, what, name, int(count)) for when, what, name, count in parts]
+        self.record = Record(read(f"{room}/record"))
+
+    def talk(self):
+        for client in self.clients:
+            client.come()
+        hearing = {client.heard: client for client in self.clients}
+        while hearing:
+            ready = select.select(list(hearing), [], [], LIMIT)[0]
+            if not ready:
+                raise Wrong("it hangs")
+            for end in ready:
+                if not hearing[end].hear():
+                    os.close(end)
+                    del hearing[end]
+
+    def said_and_told(self, number):
+        """The commands of a client, each with its reply, or None."""
+        commands = "".join(text for text, _ in self.texts[number]).splitlines()
+        sayings, replies = [], self.clients[number].told.decode().splitlines()
+        while commands:
+            command = commands.pop(0)
+            if command.startswith("batch "):
+                command = "\n".join([command, *(commands.pop(0) for _ in range(int(command.split()[1])))])
+            sayings.append((command, replies.pop(0) if replies else None))
+        return sayings
+
+    def on_record(self, name):
+        """How many calls on the record did this, and did it well."""
+        return sum(1 for call in self.calls if (call.when, call.what, call.name) == ("end", name, "record") and call.count >= 0)
+
+    def judge(self):
+        """Judges what clients were told beside the record, and in which order all was written: how many replies there are."""
+        parts = [Part(self, number) for number in range(len(self.clients))]
+        there = safe = asked = 0
+        for call in self.calls:
+            if call.name == "record":
+                if (call.when, call.what) == ("begin", "write"):
+                    for part in parts:
+                        part.begins_to_record(there + call.count)
+                elif (call.when, call.what) == ("begin", "sync"):
+                    asked = there
+                elif call.what == "write":
+                    there += max(call.count, 0)
+                    safe = safe if self.syncs else there
+                elif call.count == 0:
+                    safe = asked
+            elif call.what == "write":
+                for part in parts:
+                    if part.file == call.name:
+                        part.begins_to_tell(call.count, safe) if call.when == "begin" else part.has_told(call.count)
+        return sum(part.client.told.count(b"\n") for part in parts)
+
+
+class Part:
+    """What a client was told so far, beside the entries of its commands."""
+
+    def __init__(self, day, number):
+        self.client, self.file, self.told = day.clients[number], f"c{number}.out", 0
+        entries, ends = day.record.entries, day.record.ends
+        own = [(ends[at], ends[at + 1]) for at in range(len(entries)) if entries[at][0] == number]
+        judge_client(day.record.of(number), day.said_and_told(number))
+        # Of each command: where its first entry begins, where its last one ends, and whether the replies before it are told first.
+        self.commands, at = [], 0
+        for command, reply in day.said_and_told(number):
+            count = len(calls_of(command, reply))
+            its = own[at : at + count]
+            at += count
+            waits = command.split()[0] in ("plan", "run")
+            self.commands.append((its[0][0] if its else None, max((end for _, end in own[:at]), default=0), waits))
+
+    def replies(self, count, *, begun):
+        """How many replies so many bytes are: those that are begun, or those that are whole."""
+        text = self.client.told[:count]
+        return text.count(b"\n") + (begun and text[-1:] not in (b"", b"\n"))
+
+    def begins_to_tell(self, count, safe):
+        begun = self.replies(self.told + count, begun=True)
+        if begun and self.commands[begun - 1][1] > safe:
+            raise Wrong(f"{self.file}: reply {begun} is told before its entry is there: {self.commands[begun - 1][1]} is behind {safe}")
+
+    def has_told(self, count):
+        self.told += max(count, 0)
+
+    def begins_to_record(self, until):
+        """The record gets these bytes: where a plan or a run stands there, what came before it was told."""
+        told = self.replies(self.told, begun=False)
+        for at, (begin, _, waits) in enumerate(self.commands):
+            if waits and begin is not None and begin < until and told < at:
+                raise Wrong(f"{self.file}: reply {told + 1} isn't told before command {at} is done")
+
+
+def commands(draw, count, module):
+    """Commands of a client: batches of one transfer, and what needs one, among others."""
+    for _ in range(count):
+        place, what = f"{draw.randrange(2)} 8000080{draw.choice('04')}", draw.randrange(10)
+        if what == 0:
+            yield f"batch 1\npush {module % 2} 0 {1 - module % 2} 1"
+        elif what == 1:
+            yield f"{draw.choice(['plan', 'run', 'drop'])} {draw.randint(1, 20)}"
+        elif what < 6:
+            yield f"poke {place} {draw.randrange(1 << 32):08x}"
+        else:
+            yield draw.choice([f"peek {place}", f"peek {place}", f"show {draw.randint(1, 20)}", "progress"])
+
+
+def burst(lines):
+    return "".join(f"{line}\n" for line in lines), len(lines)
+
+
+def pokes(draw, count):
+    return burst([f"poke {draw.randrange(2)} 80000800 {draw.randrange(1 << 32):08x}" for _ in range(count)])
+
+
+def in_room(try_it):
+    """Tries something in a folder of its own."""
+    with tempfile.TemporaryDirectory(prefix="bursts-") as room:
+        return try_it(room)
+
+
+def try_order():
+    """One client and sixteen, in bursts of all lengths."""
+    looked = 0
+    for turn in range(24):
+        draw, count = random.Random(f"bursts {turn}"), 1 if turn % 3 else 16
+        most = draw.choice([1, 8, 64, 100])
+        texts = [[burst(list(commands(draw, draw.randint(1, most), k))) for _ in range(draw.randint(1, 20))] for k in range(count)]
+        day = in_room(lambda room: Day(room, texts, *(["--sync"] if turn % 2 else [])))
+        looked += day.judge()
+        if day.status != 0 or not day.record.ended:
+            raise Wrong(f"turn {turn}: status {day.status}, {day.out!r}, {day.err[:300]!r}")
+        for client in day.clients:
+            if client.told.count(b"\n") != client.due:
+                raise Wrong(f"turn {turn}: {client.name} wasn't told all")
+    return looked
+
+
+def try_parts():
+    """Texts that end within a line or within a batch: what came before is told first."""
+    texts = [("poke 0 80000800 000000aa\nbatch 1\n", 1), ("push 0 0 1 0\npeek 0 80000800\npoke 1 80", 2)]
+    texts += [("000804 000000bb\nbatch 2\npush 0 0 1 0\n", 1), ("push 1 1 0 1\nplan 1\n", 2)]
+    looked = 0
+    for options in [], ["--sync"]:
+        day = in_room(lambda room: Day(room, [texts] * 3, *options))
+        looked += day.judge()
+        if day.status != 0:
+            raise Wrong(f"status {day.status}, {day.out!r}, {day.err[:300]!r}")
+    return looked
+
+
+def try_counts():
+    """Bursts of 64 lines: how often the record is written and synced."""
+    looked = 0
+    for clients in 1, 16:
+        for options in [], ["--sync"]:
+            draw = random.Random("counts")
+            day = in_room(lambda room: Day(room, [[pokes(draw, 64) for _ in range(20)] for _ in range(clients)], *options))
+            looked += day.judge()
+            entries, writes, syncs = len(day.record.entries), day.on_record("write"), day.on_record("sync")
+            print(f"bursts: {clients} clients, {entries} entries, {writes / entries:.4f} writes and {syncs / entries:.4f} syncs an entry", flush=True)
+            if entries != 1280 * clients or max(writes, syncs) > MOST * entries or (not options and syncs > 1):
+                raise Wrong(f"{clients} clients, {options}: {writes} writes, {syncs} syncs")
+    return looked
+
+
+def try_failures():
+    """A write or a sync of the record fails once, or half of a group is written first."""
+    looked = 0
+    for turn in range(24):
+        draw, number = random.Random(f"fails {turn}"), 3 + turn % 7
+        kind, clients = turn % 3, draw.choice([1, 4])
+        calls = {"CALLS_FAIL": f"{'sync' if kind == 2 else 'write'}:record:{number}"}
+        if kind == 1:
+            calls["CALLS_HALF"] = f"record:{number - 1}"
+        texts = [[pokes(draw, draw.randint(1, 64)) for _ in range(12)] for _ in range(clients)]
+
+        def fail(room):
+            day = Day(room, texts, *(["--sync"] if kind == 2 or turn % 2 else []), **calls)
+            failed = [at for at, call in enumerate(day.calls) if call.name == "record" and call.count < 0]
+            if len(failed) != 1 or any(call.name == "record" for call in day.calls[failed[0] + 1 :]):
+                raise Wrong(f"turn {turn}: the record is written behind a failure, or nothing failed")
+            if day.status != 3 or "ended record" not in day.out:
+                raise Wrong(f"turn {turn}: status {day.status}, {day.out!r}, {day.err[:300]!r}")
+            many, whole = day.judge(), read(f"{room}/record")[: day.record.ends[-1]]
+            for client in day.clients:
+                os.unlink(f"{client.name}.in")
+                os.unlink(f"{client.name}.out")
+                open(f"{client.name}.in", "wb").close()
+            status, told = resume(room, SHAPE, [client.name for client in day.clients])
+            if status != 0 or read(f"{room}/record") != whole + b"end\n":
+                raise Wrong(f"turn {turn}: resumed: status {status}, {told!r}")
+            return many
+
+        looked += in_room(fail)
+    return looked
+
+
+def main():
+    failed = try_all([try_order, try_parts, try_counts, try_failures], "bursts")
+    print(f"bursts: {failed} wrong")
+    sys.exit(1 if failed else 0)
+
+
+if __name__ == "__main__":
+    main()
