@@ -145,7 +145,7 @@ fn least(
     if settings != fewest || changes == partners {
         return Ok(partners);
     }
-    let shown = most_shown(alloc, graph, settings, changes)?;
+    let shown = most_shown(alloc, graph, settings, changes)?.changes;
     if shown < partners {
         return Ok(partners);
     }

@@ -19,7 +19,7 @@ use Rattle.link_graph.specs.Schedules.{IsScheduleOf}
 use Rattle.link_graph.specs.Uses.{IsMatching}
 use Rattle.link_graph.proofs.Users.{made}
 use Rattle.steady_schedule.specs.Changes.{join_same, changes}
-use Rattle.steady_schedule.specs.Prices.{AreNeeded, IsLongest, IsCheapest, SCALE, price_at, price_for, AreFair, number_for, AreCosts}
+use Rattle.steady_schedule.specs.Prices.{AreNeeded, IsLongest, IsCheapest, SCALE, price_at, price_for, AreFair, number_for, AreCosts, ShowChanges}
 use Rattle.steady_schedule.specs.Waiting.{sum_below, count_at, count_between, waiting, ArePairCounts, HaveMost}
 use Rattle.steady_schedule.proofs.StepSums.{sum_equal, swap_below, each_of}
 use Rattle.steady_schedule.proofs.Runs.{Step, steps_from, steps_of, many_steps, has, step_numbers, each_now, number_low, number_idle, at_link, shared}
@@ -373,6 +373,19 @@ pub shown_needed : (batch : List Transfer) (fits : IsBatch batch) (counts : List
 shown_needed batch fits counts counted settings top link longest prices fair total few schedule is same =
     shown batch fits schedule is counts counted top link (subst (λ (n : ℕ). IsLongest counts n link top) (sym same) longest) prices fair total
     (λ most costs. few most (subst (λ (n : ℕ). AreCosts counts n prices top most) same costs))
+
+-- the changes that a total shows cost less than it, but for the last one
+pub last_change : (total sum : ℕ) → 0 < (total + 65535) / 65536 → total ≤ sum → ((total + 65535) / 65536 - 1) * SCALE < sum
+last_change total sum some few = omega (arith, some, few)
+
+-- so the changes that prices show are needed
+pub needed_by : (batch : List Transfer) (settings : ℕ) (prices : List ℕ) (top count : ℕ) → IsBatch batch → ShowChanges batch settings prices top count → AreNeeded batch settings count
+needed_by batch settings prices top count fits shows schedule is same = elim (cases_lt 0 count) [
+  | inl some ↦
+      let by = shows some in
+      omega (arith, some, shown_needed batch fits by.counts by.counted settings top by.busiest by.longest prices by.fair ((count - 1) * SCALE + 1) (λ most costs. omega (arith, by.dear most costs)) schedule is same)
+  | inr none ↦ omega (arith, none)
+]
 
 -- no link has more that wait than a schedule has settings
 pub most_wait : (batch : List Transfer) (counts : List ℕ) (most : ℕ) → IsBatch batch → ArePairCounts batch counts → ((link : Link) → uses batch link ≤ most) → HaveMost counts most

@@ -8,7 +8,8 @@ use Rattle.link_graph.specs.declared.link.End.TheVariants.{Zero, Three}
 use Rattle.link_graph.specs.declared.link.Link.{Link}
 use Rattle.link_graph.specs.Schedules.{IsScheduleOf}
 use Rattle.steady_schedule.specs.Changes.{changes}
-use Rattle.steady_schedule.specs.Waiting.{sum_below, count_at, count_between, waiting}
+use Rattle.steady_schedule.specs.Waiting.{sum_below, count_at, count_between, waiting, ArePairCounts}
+use Rattle.steady_schedule.specs.declared.priced.Priced.{Priced}
 
 -- each schedule of the batch with so many settings changes the switch at least so often
 abbrev pub AreNeeded : List Transfer → ℕ → ℕ → Type 0
@@ -63,3 +64,27 @@ AreCosts counts settings prices top most =
     (u v cost : ℕ) → u ≤ MAX_MODULES → v ≤ MAX_MODULES
     → IsCheapest (price_for prices u v) top (number_for counts settings u v) cost
     → cost ≤ most u v
+
+-- By these prices all numbers, made up as cheaply as can be, cost more than the scale for each
+-- change but one. So each schedule of the batch with so many settings has so many changes.
+pub record AreShown (batch : List Transfer) (settings : ℕ) (prices : List ℕ) (top count : ℕ)
+    : Type 0 where
+  pub counts : List ℕ
+  pub counted : ArePairCounts batch counts
+  pub busiest : Link
+  pub longest : IsLongest counts settings busiest top
+  pub fair : AreFair prices top
+  pub dear : (most : ℕ → ℕ → ℕ) → AreCosts counts settings prices top most
+      → (count - 1) * SCALE
+      < sum_below (MAX_MODULES + 1) (λ u. sum_below (MAX_MODULES + 1) (most u))
+
+-- prices show so many changes, if there are any
+abbrev pub ShowChanges : List Transfer → ℕ → List ℕ → ℕ → ℕ → Type 0
+ShowChanges batch settings prices top count =
+    0 < count → AreShown batch settings prices top count
+
+-- A table has a price of each link for each length up to the top one, and for 0, which none asks
+-- for. It shows so many changes of each schedule of the batch with so many settings.
+pub record IsPriceTable (batch : List Transfer) (settings : ℕ) (table : Priced) : Type 0 where
+  pub sized : length table.prices.items ≡ (table.top + 1) * LINKS
+  pub show : ShowChanges batch settings table.prices.items table.top table.changes

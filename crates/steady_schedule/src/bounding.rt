@@ -5,11 +5,12 @@ ghost use Rattle.batch.specs.declared.limits.TheConstants.{MAX_TRANSFERS};
 ghost use Rattle.link_graph.specs.declared.limits.TheConstants.{LINKS};
 ghost use Rattle.link_graph.specs.declared.link.Link.{Link};
 ghost use Rattle.link_graph.specs.Counts.{uses};
-ghost use Rattle.steady_schedule.specs.Prices.{AreNeeded, IsLongest};
+ghost use Rattle.steady_schedule.specs.Prices.{AreNeeded, ShowChanges, IsPriceTable, IsLongest};
 ghost use Rattle.steady_schedule.specs.Waiting.{HaveMost};
 
 use crate::choosing::most_with;
 use crate::partners::link_at;
+use crate::priced::Priced;
 use crate::pricing::{LENGTHS, Needs, PLACES, SCALE, Ways};
 use crate::remaining::Remaining;
 use batch::{MAX_MODULES, MAX_TRANSFERS};
@@ -221,11 +222,12 @@ impl Needs<'_> {
         }
     }
 
-    /// Looks for prices that show many changes, or at least so many: first of two links, then of all
-    /// of them. The most that any table shows.
+    /// Looks for prices that show many changes, or at least so many: first of two links, then of
+    /// all of them. The most that any table shows, which is then the best one.
     fn search(
         &self,
         enough: usize,
+        best: &mut [u32],
         prices: &mut [u32],
         slopes: &mut [i64],
         pieces: &mut [u32],
@@ -233,11 +235,13 @@ impl Needs<'_> {
         requires sized { length prices.old ≡ (self.now.top + 1) * LINKS }
         requires slopes { length slopes.old ≡ length prices.old }
         requires pieces { length pieces.old ≡ length prices.old }
-        ensures { AreNeeded self.now.graph.now self.now.settings result }
+        requires best { length best.old ≡ length prices.old }
+        ensures { ShowChanges self.now.graph.now self.now.settings best.new self.now.top result }
     {
         let mut ways = Ways::none(MOST_SUMS);
         self.price_two(prices);
         let mut most = self.shown_by(prices, &mut ways, pieces);
+        best.copy_from_slice(prices);
         let links = self.links_in_use();
         self.price_all(prices, links);
         for round in 0..MOST_ROUNDS {
@@ -248,6 +252,7 @@ impl Needs<'_> {
             let shown = self.shown_by(prices, &mut ways, pieces);
             if shown > most {
                 most = shown;
+                best.copy_from_slice(prices);
             }
             // To move the prices of a length takes as long as a thousand
             ways.left = ways.left.saturating_sub(1000 * self.top);
@@ -266,8 +271,48 @@ impl Needs<'_> {
     }
 }
 
-/// How often each schedule of the batch with so many settings has to change the switch, as far as
-/// prices show it. 0 where no link has a transfer in each setting.
+/// A table of prices for schedules of the batch with so many settings. It shows nothing where no
+/// link has a transfer in each setting.
+fn shown_prices(
+    alloc: Global,
+    graph: &LinkGraph,
+    settings: usize,
+    enough: usize,
+) -> Result<Priced, AllocError>
+    requires most { (link : Link) → uses graph.now link ≤ settings }
+    requires few { settings ≤ MAX_TRANSFERS }
+    ensures { IfOk result (IsPriceTable graph.now settings) }
+{
+    prove!(graph.len() <= MAX_TRANSFERS);
+    let mut remaining = Remaining::none();
+    remaining.add_all(graph);
+    let Some((busiest, top)) = longest(&remaining, settings) else {
+        return Priced::none(alloc);
+    };
+    if top == 0 {
+        return Priced::none(alloc);
+    }
+    let needs = Needs {
+        graph,
+        remaining,
+        settings,
+        busiest,
+        top,
+    };
+    let room = (top + 1) * LINKS;
+    let (mut prices, mut pieces) = (vec![in alloc; 0u32; room]?, vec![in alloc; 0u32; room]?);
+    let mut slopes = vec![in alloc; 0i64; room]?;
+    let mut best = vec![in alloc; 0u32; room]?;
+    let changes = needs.search(enough, &mut best, &mut prices, &mut slopes, &mut pieces);
+    Ok(Priced {
+        changes,
+        top,
+        prices: best,
+    })
+}
+
+/// A table of prices that show how often each schedule of the batch with so many settings has to
+/// change the switch. It shows nothing where no link has a transfer in each setting.
 ///
 /// A step is a run of settings that join the same pairs, so a schedule has as many steps as
 /// changes. Each link has a price for each length of a step, and the prices of a length add up to
@@ -284,29 +329,13 @@ pub fn most_shown(
     graph: &LinkGraph,
     settings: usize,
     enough: usize,
-) -> Result<usize, AllocError>
+) -> Result<Priced, AllocError>
     requires most { (link : Link) → uses graph.now link ≤ settings }
     requires few { settings ≤ MAX_TRANSFERS }
-    ensures { IfOk result (AreNeeded graph.now settings) }
+    ensures shown { IfOk result (IsPriceTable graph.now settings) }
+    ensures needed { IfOk result (λ priced. AreNeeded graph.now settings priced.changes) }
 {
     prove!(graph.len() <= MAX_TRANSFERS);
-    let mut remaining = Remaining::none();
-    remaining.add_all(graph);
-    let Some((busiest, top)) = longest(&remaining, settings) else {
-        return Ok(0);
-    };
-    if top == 0 {
-        return Ok(0);
-    }
-    let needs = Needs {
-        graph,
-        remaining,
-        settings,
-        busiest,
-        top,
-    };
-    let room = (top + 1) * LINKS;
-    let (mut prices, mut pieces) = (vec![in alloc; 0u32; room]?, vec![in alloc; 0u32; room]?);
-    let mut slopes = vec![in alloc; 0i64; room]?;
-    Ok(needs.search(enough, &mut prices, &mut slopes, &mut pieces))
+    let priced = shown_prices(alloc, graph, settings, enough)?;
+    Ok(priced)
 }

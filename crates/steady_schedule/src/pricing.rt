@@ -4,7 +4,7 @@ ghost use Rattle.std.specs.Prelude.{◌≡◌, ℕ, ◌+◌, ◌-◌, ◌*◌, �
 ghost use Rattle.batch.specs.Batches.{IsBatch};
 ghost use Rattle.batch.specs.declared.limits.TheConstants.{MAX_MODULES, MAX_TRANSFERS};
 ghost use Rattle.link_graph.specs.declared.limits.TheConstants.{LINKS};
-ghost use Rattle.steady_schedule.specs.Prices.{IsLongest, IsCheapest, price_at, price_for, number_for, AreFair, AreCosts, AreNeeded};
+ghost use Rattle.steady_schedule.specs.Prices.{IsLongest, IsCheapest, price_at, price_for, number_for, AreFair, AreCosts, ShowChanges};
 ghost use Rattle.steady_schedule.specs.Waiting.{sum_below, waiting, ArePairCounts, HaveMost};
 
 use crate::remaining::Remaining;
@@ -79,7 +79,7 @@ impl Needs<'_> {
     pub(crate) fn shown_by(&self, prices: &[u32], ways: &mut Ways, pieces: &mut [u32]) -> usize
         requires sized { length prices.now ≡ (self.now.top + 1) * LINKS }
         requires pieces { length pieces.old ≡ length prices.now }
-        ensures { AreNeeded self.now.graph.now self.now.settings result }
+        ensures { ShowChanges self.now.graph.now self.now.settings prices.now self.now.top result }
     {
         if !are_fair(prices, self.top) {
             return 0;

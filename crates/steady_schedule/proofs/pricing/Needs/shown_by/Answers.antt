@@ -1,7 +1,7 @@
 use Rattle.std.proofs.Common.{ℕ, ◌+◌, ap, refl, arith}
 use Rattle.batch.specs.declared.limits.TheConstants.{MAX_MODULES}
 use Rattle.steady_schedule.specs.Waiting.{sum_below}
-use Rattle.steady_schedule.proofs.Prices.{shown_needed}
+use Rattle.steady_schedule.proofs.Prices.{last_change}
 use Rattle.steady_schedule.proofs.Sums.{sum_more}
 use Rattle.steady_schedule.proofs.pricing.Needs.shown_by.Goals as goal
 
@@ -15,7 +15,14 @@ loop-zero-preserved c =
     }
 
 pub returns : goal.returns
-returns c =
+returns c some =
     let needs = c.args.self.now in
-    shown_needed needs.graph.now needs.batch needs.remaining.counts needs.counted needs.settings needs.top needs.busiest needs.longest c.args.prices.now (c.if-not-are_fair.ensures refl) c.loop-zero.total
-    (λ most costs. omega (arith, c.loop-zero.invariant.cheapest most costs, ap (λ (n : ℕ). sum_below n (λ u. sum_below (MAX_MODULES + 1) (most u))) {x = c.loop-zero.zero} {y = MAX_MODULES + 1} (omega arith)))
+    record {
+      counts = needs.remaining.counts;
+      counted = needs.counted;
+      busiest = needs.busiest;
+      longest = needs.longest;
+      fair = c.if-not-are_fair.ensures refl;
+      dear = λ most costs. last_change c.loop-zero.total (sum_below (MAX_MODULES + 1) (λ u. sum_below (MAX_MODULES + 1) (most u))) some
+          (omega (arith, c.loop-zero.invariant.cheapest most costs, ap (λ (n : ℕ). sum_below n (λ u. sum_below (MAX_MODULES + 1) (most u))) {x = c.loop-zero.zero} {y = MAX_MODULES + 1} (omega arith)));
+    }
