@@ -8,4 +8,5 @@ pub mod Made
 pub mod Answers
 pub mod Drawings
 pub mod Counting
+pub mod Pricing
 pub mod Directing

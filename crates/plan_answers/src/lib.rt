@@ -8,9 +8,10 @@
 //! are made elsewhere.
 //!
 //! What the answers are is said by `IsPlanned` and `IsChecked` of `specs/Answers.antt`, `IsDrawn`
-//! of `specs/Drawings.antt` and `IsDirected` of `specs/Directing.antt`; what a schedule's source
-//! gives, by `specs/Schedules.antt`. Of `check` and `draw` there is one answer at most.
-//! `laws::planned_then_checked` and `laws::directed_then_planned` put two of them together.
+//! of `specs/Drawings.antt`, `IsPriced` of `specs/Pricing.antt` and `IsDirected` of
+//! `specs/Directing.antt`; what a schedule's source gives, by `specs/Schedules.antt`. Of `check` and
+//! `draw` there is one answer at most. `laws::planned_then_checked` and
+//! `laws::directed_then_planned` put two of them together.
 #![tactic(auto)]
 
 mod answer;
@@ -21,6 +22,7 @@ mod drawing;
 pub mod laws;
 mod limits;
 mod planning;
+mod pricing;
 mod schedule_texts;
 mod scheduled;
 mod setting_range;
@@ -35,5 +37,6 @@ pub use directing::answer_direct;
 pub use drawing::answer_draw;
 pub use limits::{DONE, REFUSED};
 pub use planning::answer_plan;
+pub use pricing::answer_prices;
 pub use scheduled::Scheduled;
 pub use source::{Planning, Source};

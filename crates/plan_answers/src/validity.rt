@@ -11,11 +11,10 @@ ghost use Rattle.plan_answers.specs.Texts.{AreTexts};
 ghost use Rattle.plan_answers.specs.Validities.{IsUnscheduled, IsKnown};
 
 use crate::texts::ReadTexts;
-use batch::Batch;
 use link_graph::LinkGraph;
 use refusals::{Refusal, Validity};
 use schedule_picture::{Verdict, verdict_on};
-use std::alloc::{AllocError, Global};
+use std::alloc::Global;
 
 /// What is known of how many settings the schedule has, where it is one of the batch; or what is
 /// first wrong with its settings.
@@ -31,14 +30,13 @@ pub(crate) fn verdict_of(alloc: Global, texts: &ReadTexts) -> Result<Verdict, Re
 }
 
 /// How many transfers the busiest link has, so that no schedule has fewer settings.
-fn most_uses(batch: &Batch) -> Result<usize, AllocError>
-    ensures { IfOk result (λ most. (link : Option Link) × IsBusiestOf batch.now link
-        × (most ≡ uses_of batch.now link)) }
+pub(crate) fn most_uses(graph: &LinkGraph) -> usize
+    ensures { (link : Option Link) × IsBusiestOf graph.now link
+        × (result ≡ uses_of graph.now link) }
 {
-    let graph = LinkGraph::of(batch)?;
     match graph.busiest() {
-        Some(link) => Ok(graph.uses(link)),
-        None => Ok(0),
+        Some(link) => graph.uses(link),
+        None => 0,
     }
 }
 
@@ -63,8 +61,8 @@ pub(crate) fn validity_of(alloc: Global, texts: &ReadTexts, refusal: Refusal) ->
         },
         Refusal::CheckWrongLink(_)
         | Refusal::CheckCertificateRepeats(_)
-        | Refusal::CheckNotTight { .. } => match most_uses(&texts.batch) {
-            Ok(most) => Validity::Valid(most),
+        | Refusal::CheckNotTight { .. } => match LinkGraph::of(&texts.batch) {
+            Ok(graph) => Validity::Valid(most_uses(&graph)),
             Err(_) => Validity::Unknown,
         },
         _ => Validity::Unknown,

@@ -9,8 +9,8 @@ returns-in_default-wrong c batch schedule says =
     let texts = c.args.texts.now in
     (c.in-Err.wrong, unscheduled texts.batch texts.schedule texts.certificate says (c.in-Err.ensures.wrong c.in_default-wrong.not-NoMemory))
 
-pub returns-in-Ok-most_uses : goal.returns-in-Ok-most_uses
-returns-in-Ok-most_uses c batch schedule says =
+pub returns-in-Ok-of : goal.returns-in-Ok-of
+returns-in-Ok-of c batch schedule says =
     let texts = c.args.texts.now in
-    let most = c.in-Ok-most_uses.ensures in
+    let most = rw c.in-Ok-of.ensures at c.most_uses.ensures in
     subst (AreEnough widest batch schedule) (sym most.2) (enough widest batch schedule texts.batch texts.schedule texts.certificate c.args.refusal most.0 says c.requires c.in-CheckWrongLink.is most.1)
