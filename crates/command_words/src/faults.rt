@@ -7,8 +7,10 @@ ghost use Rattle.clap.specs.declared.error.kind.ErrorKind.TheVariants.{ArgumentC
 ghost use Rattle.clap.specs.Values.{kind_of};
 ghost use Rattle.command_words.specs.Jobs.{IsMistake};
 
-use crate::grammar::program;
+use crate::commands::CommandName;
+use crate::grammar::{command_of, program};
 use crate::jobs::ArgumentsFault;
+use clap::Command;
 use clap::error::ErrorKind;
 use std::alloc::{AllocError, Global};
 
@@ -62,22 +64,34 @@ impl Lack {
     }
 }
 
-/// Clap's error with this message.
-fn error_of(alloc: Global, message: &str) -> Result<clap::Error, AllocError>
-    ensures { IfOk result (λ error. kind_of error ≡ ArgumentConflict) }
-{
-    program(alloc)?.error(ErrorKind::ArgumentConflict, message)
+/// The command that the arguments name, as its usage shows it, or else the program.
+fn asked<'a>(alloc: Global, arguments: &[String]) -> Result<Command<'a>, AllocError> {
+    let Some(word) = arguments.get(1) else {
+        return program(alloc);
+    };
+    let Some(name) = CommandName::of(word.as_str()) else {
+        return program(alloc);
+    };
+    let usage_name = format!(in alloc; "exchange {word}")?;
+    command_of(alloc, name)?.bin_name(usage_name.as_str())
 }
 
-/// The fault of what a job lacks.
-pub(crate) fn fault_of(alloc: Global, lack: Lack) -> ArgumentsFault
+/// Clap's error with this message, and with the usage of the command that the arguments name.
+fn error_of(alloc: Global, arguments: &[String], message: &str) -> Result<clap::Error, AllocError>
+    ensures { IfOk result (λ error. kind_of error ≡ ArgumentConflict) }
+{
+    asked(alloc, arguments)?.error(ErrorKind::ArgumentConflict, message)
+}
+
+/// The fault of what the job lacks that these arguments ask for.
+pub(crate) fn fault_of(alloc: Global, arguments: &[String], lack: Lack) -> ArgumentsFault
     ensures memory { lack ≡ Memory → result ≡ NoMemory }
     ensures mistake { IsMistake result }
 {
     if matches!(lack, Lack::Memory) {
         return ArgumentsFault::NoMemory;
     }
-    match error_of(alloc, lack.message()) {
+    match error_of(alloc, arguments, lack.message()) {
         Ok(error) => ArgumentsFault::from(error),
         Err(_) => ArgumentsFault::NoMemory,
     }

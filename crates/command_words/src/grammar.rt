@@ -115,7 +115,7 @@ fn with_arguments<'a>(
 }
 
 /// A command as clap has it, with what it takes.
-fn command_of<'a>(alloc: Global, name: CommandName) -> Result<Command<'a>, AllocError>
+pub(crate) fn command_of<'a>(alloc: Global, name: CommandName) -> Result<Command<'a>, AllocError>
     ensures { IfOk result (IsCommand (command_app name)) }
 {
     let (word, arguments, help): (&'a str, &[Argument], &CommandHelp) = name.sheet();

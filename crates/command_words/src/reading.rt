@@ -334,9 +334,9 @@ fn request_named(alloc: Global, arguments: &[String]) -> Result<Request, Argumen
     match matches.subcommand() {
         Some((word, found)) => match request_of(alloc, word, found) {
             Ok(request) => Ok(request),
-            Err(lack) => Err(fault_of(alloc, lack)),
+            Err(lack) => Err(fault_of(alloc, arguments, lack)),
         },
-        None => Err(fault_of(alloc, Lack::Word)),
+        None => Err(fault_of(alloc, arguments, Lack::Word)),
     }
 }
 
@@ -384,7 +384,7 @@ pub fn read_arguments(alloc: Global, arguments: &[String]) -> Result<Request, Ar
         Ok(()) => Ok(request),
         Err(lack) => {
             drop(request);
-            Err(fault_of(alloc, lack))
+            Err(fault_of(alloc, arguments, lack))
         }
     }
 }
