@@ -1,5 +1,5 @@
 -- What is told of a refusal.
-use Rattle.std.specs.Prelude.{◌≡◌, ℕ, ◌+◌, ◌-◌, ◌^◌, ◌⊎◌, ◌++◌, min, List, Option, None, MatchOption, codes}
+use Rattle.std.specs.Prelude.{◌≡◌, ◌≢◌, ℕ, ◌+◌, ◌-◌, ◌^◌, ◌⊎◌, ◌++◌, min, List, [], Option, None, MatchOption, codes}
 use Rattle.batch.specs.Extent.{Extent, widest}
 use Rattle.batch.specs.ShapeText.{DenotesShape, IsBadShape}
 use Rattle.refusals.specs.declared.refusal.Refusal.{Refusal}
@@ -11,7 +11,7 @@ use Rattle.refusal_notes.specs.declared.note.LineNote.{LineNote}
 use Rattle.refusal_notes.specs.declared.quote.Quote.{Quote}
 use Rattle.refusal_notes.specs.declared.told.Texts.{Texts}
 use Rattle.refusal_notes.specs.declared.wanted.Wanted.{Wanted}
-use Rattle.refusal_notes.specs.declared.wanted.Wanted.TheVariants.{RecordHead, Call, Reply, RecordEnd}
+use Rattle.refusal_notes.specs.declared.wanted.Wanted.TheVariants.{RecordHead, HeadLine, Call, Reply, RecordEnd}
 use Rattle.refusal_notes.specs.Lines.{Announces, line_at, line_behind}
 use Rattle.refusal_notes.specs.Notes.{IsNoteAbove, IsNoteOf, IsNoteWanting, IsQuoteOf}
 
@@ -26,11 +26,24 @@ IsTransferTold limit texts t note =
     (shape : Extent) × IsShapeOf texts.shape.now shape
     × IsNoteAbove texts.listing (limit shape) texts.list.text.now (min (t + 2) (2 ^ 64 - 1)) note
 
--- in the line of the record before which its right bytes stand, this is wanted
+-- the number of the line of the record before which its right bytes stand
+abbrev pub wrong_line : Texts → ℕ
+wrong_line texts = line_behind texts.recorded.text.now texts.offset
+
+-- in that line this is wanted
 abbrev pub IsRecordTold : Texts → Wanted → LineNote → Type 0
-IsRecordTold texts wanted =
-    IsNoteWanting wanted texts.recorded.text.now
-    (line_behind texts.recorded.text.now texts.offset)
+IsRecordTold texts wanted = IsNoteWanting wanted texts.recorded.text.now (wrong_line texts)
+
+-- the beginning of this line of what is due is wanted there
+abbrev pub IsDueTold : (Quote → Wanted) → ℕ → Texts → LineNote → Type 0
+IsDueTold wanted n texts note =
+    (due : Quote) × IsQuoteOf (line_at texts.due.now n) due × IsRecordTold texts (wanted due) note
+
+-- where no head is due, the first line of any is wanted there; else the line of that
+abbrev pub IsHeadTold : Texts → LineNote → Type 0
+IsHeadTold texts note =
+    ((texts.due.now ≡ []) × IsRecordTold texts RecordHead note)
+    ⊎ ((texts.due.now ≢ []) × IsDueTold HeadLine (wrong_line texts) texts note)
 
 -- of these refusals a line is told, and of no other; a module that a board lacks is told otherwise
 abbrev pub IsLineTold : Refusal → Texts → Option LineNote → Type 0
@@ -51,11 +64,10 @@ IsLineTold (refused.NoModule t) texts told =
     MatchOption told ⊥ (IsTransferTold (λ shape. Modules shape.modules) texts t)
 IsLineTold (refused.NoBlock t) texts told =
     MatchOption told ⊥ (IsTransferTold (λ shape. Blocks shape.blocks) texts t)
-IsLineTold refused.RecordHead texts told = MatchOption told ⊥ (IsRecordTold texts RecordHead)
+IsLineTold refused.RecordHead texts told = MatchOption told ⊥ (IsHeadTold texts)
 IsLineTold (refused.RecordCall e) texts told = MatchOption told ⊥ (IsRecordTold texts (Call e))
 IsLineTold (refused.RecordReply e) texts told =
-    MatchOption told ⊥ (λ note. (due : Quote) × IsQuoteOf (line_at texts.due.now 1) due
-    × IsRecordTold texts (Reply e due) note)
+    MatchOption told ⊥ (IsDueTold (Reply e) 1 texts)
 IsLineTold refused.RecordMore texts told = MatchOption told ⊥ (IsRecordTold texts RecordEnd)
 IsLineTold _ texts told = told ≡ None
 

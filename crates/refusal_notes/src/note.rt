@@ -101,6 +101,9 @@ impl<'a> LineNote<'a> {
                 Text(" comes after the last line; nothing may follow")],
             (_, Wanted::RecordHead) => &[Piece::Place, Text(": "), Piece::Quote,
                 Text(" doesn't begin a record of this rack; expected "), Piece::Wanted],
+            (_, Wanted::HeadLine(_)) => &[Piece::Place, Text(": "), Piece::Quote,
+                Text("; this command's record has "), Piece::Wanted,
+                Text(" there: --resume takes the record's shape, words and clients, in its order")],
             _ => self.difference_sentence(),
         }
     }

@@ -2,10 +2,11 @@
 
 ghost use Rattle.std.specs.Prelude.{◌≡◌};
 ghost use Rattle.refusal_notes.specs.Lines.{line_behind as the_number};
-ghost use Rattle.refusal_notes.specs.Told.{IsRecordTold};
+ghost use Rattle.refusal_notes.specs.Told.{IsHeadTold, IsRecordTold};
 
 use crate::lines::{line_at, piece};
 use crate::note::LineNote;
+use crate::quote::Quote;
 use crate::told::{Named, Note, Texts};
 use crate::wanted::Wanted;
 use batch::{Batch, BatchFault, Shape, number_before, number_from_digits};
@@ -24,6 +25,21 @@ pub(crate) fn note_wanting<'a>(texts: Texts<'a>, wanted: Wanted<'a>) -> LineNote
 {
     let recorded = texts.recorded;
     LineNote::wanting(recorded, line_behind(recorded.text, texts.offset), wanted)
+}
+
+/// What is told of a record that begins otherwise than is due: where a head is due, by the line of
+/// that.
+pub(crate) fn note_of_head<'a>(texts: Texts<'a>) -> LineNote<'a>
+    ensures { IsHeadTold texts.entry result }
+{
+    if texts.due.is_empty() {
+        return note_wanting(texts, Wanted::RecordHead);
+    }
+    let number = line_behind(texts.recorded.text, texts.offset);
+    note_wanting(
+        texts,
+        Wanted::HeadLine(Quote::of(line_at(texts.due, number))),
+    )
 }
 
 /// How many clients the head of a record counts, where that is a head.

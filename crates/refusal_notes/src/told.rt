@@ -7,7 +7,7 @@ use crate::lines::{announced, line_at};
 use crate::listed::Listing;
 use crate::note::LineNote;
 use crate::quote::{Quote, write_shown};
-use crate::recorded::note_wanting;
+use crate::recorded::{note_of_head, note_wanting};
 use crate::wanted::Wanted;
 use batch::Shape;
 use refusals::{Refusal, Validity};
@@ -39,7 +39,8 @@ pub struct Texts<'a> {
     pub recorded: Named<'a>,
     /// How many bytes of the record stand before what is wrong with it.
     pub offset: usize,
-    /// The line of the reply that is due there, with its line feed; nothing where none is.
+    /// The line of the reply that is due there, with its line feed, or the whole head that is due;
+    /// nothing where none is.
     pub due: &'a [u8],
     /// The word of the rack's shape.
     pub shape: &'a str,
@@ -118,7 +119,7 @@ impl<'a> Note<'a> {
                 let limit = Limit::Blocks(self.texts.rack().blocks());
                 Some(LineNote::above(list, t.saturating_add(2), listing, limit))
             }
-            Refusal::RecordHead => Some(note_wanting(self.texts, Wanted::RecordHead)),
+            Refusal::RecordHead => Some(note_of_head(self.texts)),
             Refusal::RecordCall(e) => Some(note_wanting(self.texts, Wanted::Call(e))),
             Refusal::RecordReply(e) => {
                 let due = Quote::of(line_at(self.texts.due, 1));

@@ -41,6 +41,8 @@ pub(crate) enum Wanted<'a> {
     End,
     /// The first line of a record.
     RecordHead,
+    /// The line of a record's head that begins so.
+    HeadLine(Quote<'a>),
     /// The call of this entry of a record.
     Call(usize),
     /// The reply of this entry of a record, whose line begins so.
@@ -83,6 +85,7 @@ impl<'a> Wanted<'a> {
             Wanted::Sent => forms::SENT,
             Wanted::End
             | Wanted::RecordHead
+            | Wanted::HeadLine(_)
             | Wanted::Call(_)
             | Wanted::Reply(..)
             | Wanted::RecordEnd => &[],
@@ -113,6 +116,7 @@ impl<'a> Display for Wanted<'a> {
     fn fmt<W: Write>(&self, f: &mut Formatter<W>) -> fmt::Result {
         match *self {
             Wanted::RecordHead => f.write_str(RECORD_HEAD),
+            Wanted::HeadLine(due) => due.fmt(f),
             Wanted::Call(e) => {
                 write!(
                     f,
