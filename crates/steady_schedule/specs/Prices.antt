@@ -67,7 +67,7 @@ AreCosts counts settings prices top most =
 
 -- By these prices all numbers, made up as cheaply as can be, cost more than the scale for each
 -- change but one. So each schedule of the batch with so many settings has so many changes.
-pub record AreShown (batch : List Transfer) (settings : ℕ) (prices : List ℕ) (top count : ℕ)
+pub record ProveChanges (batch : List Transfer) (settings : ℕ) (prices : List ℕ) (top count : ℕ)
     : Type 0 where
   pub counts : List ℕ
   pub counted : ArePairCounts batch counts
@@ -81,7 +81,7 @@ pub record AreShown (batch : List Transfer) (settings : ℕ) (prices : List ℕ)
 -- prices show so many changes, if there are any
 abbrev pub ShowChanges : List Transfer → ℕ → List ℕ → ℕ → ℕ → Type 0
 ShowChanges batch settings prices top count =
-    0 < count → AreShown batch settings prices top count
+    0 < count → ProveChanges batch settings prices top count
 
 -- A table has a price of each link for each length up to the top one, and for 0, which none asks
 -- for. It shows so many changes of each schedule of the batch with so many settings.
