@@ -41,14 +41,19 @@ def changes_shown(pairs, settings, table):
     return -(-total // SCALE)
 
 
-def main():
-    batch, schedule, prices = map(read, sys.argv[1:])
+def judged(batch, schedule, prices):
+    """How many settings the schedule has, and how many changes the prices show of each with so many."""
     pairs = Counter((int(words[1]), MODULES + int(words[3])) for words in batch if words[0] in ("push", "pull"))
     settings = sum(words[0] == "setting" for words in schedule)
     table = [[int(price) for price in words[1:]] for words in prices if words[0] == "prices"]
     shown = changes_shown(pairs, settings, table) if table else 0
     if prices[0][:3] != ["settings", str(settings), "shown"] or int(prices[0][3]) > shown:
         sys.exit(f"The first line isn't right: {shown} changes are shown of {settings} settings.")
+    return settings, shown
+
+
+def main():
+    settings, shown = judged(*map(read, sys.argv[1:]))
     print(f"each schedule of {settings} settings changes the switch at least {shown} times")
 
 

@@ -14,6 +14,7 @@ put there: the texts have to be refused otherwise, or told of otherwise. In a te
 import multiprocessing
 import os
 import random
+import re
 import shutil
 import sys
 import tempfile
@@ -29,7 +30,10 @@ import sessions
 import spoil
 import steady
 import switching
-from program import ask
+from program import TOP, ask
+
+sys.path.append(f"{TOP}/examples")
+import check_prices
 
 SCRIPTS = 16
 
@@ -294,7 +298,24 @@ def try_draw(draw):
     wanted = picture.answer_draw(batch, text, settings, answer.out)
     asked = notes.Asked("batch", named(answer, "batch", batch), named(answer, "schedule", text), range=settings or b"")
     told = is_well_told(answer, asked, wanted, lambda it: picture.answer_draw(it.list[1], it.other[1], settings))
-    return is_answer(answer, wanted) and told, wanted, [batch, text, settings or b""], answer
+    well = is_answer(answer, wanted) and told and (draw.random() > 0.1 or are_priced())
+    return well, wanted, [batch, text, settings or b""], answer
+
+
+def are_priced():
+    """Whether `draw --prices` refuses what `draw` refuses, and else prints fair prices, which show as many changes as the title says."""
+    drawn, priced = (ask("draw", "batch", "schedule", *it) for it in ([], ["--prices"]))
+    if drawn.status:
+        return priced == drawn
+    with open("batch") as batch, open("schedule") as schedule:
+        texts = [[line.split() for line in it.splitlines()] for it in (batch.read(), schedule.read(), priced.out.decode())]
+    try:
+        _, shown = check_prices.judged(*texts)
+    except SystemExit:
+        return False
+    changes, words, least = re.search(rb", changes (\d+), (the fewest with so few settings|the fewest|at least (\d+))", drawn.out).groups()
+    wanted = int(least or changes)
+    return priced.err == b"" and priced.status == 0 and (shown >= wanted if words.endswith(b"settings") else shown <= wanted)
 
 
 def try_switch_by(draw):
