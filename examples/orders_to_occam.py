@@ -14,7 +14,7 @@ IDLE = "idle"
 
 def read_orders(text, acts, idle):
     """What a text tells its only module, or none: its number, its copies, and for each setting what it does over its links, by these names."""
-    head, *lines = [line.split(" ") for line in text.splitlines()]
+    head, *lines = [line.split(" ") for line in text.splitlines()] or [[]]
     if head[:1] != ["modules"] or int(head[1]) > 1:
         sys.exit("wanted are the orders of one module: exchange orders BATCH --module M")
     module, copies, settings = None, [], [[(idle, 0) for _ in LINKS] for _ in range(int(head[3]))]

@@ -55,6 +55,8 @@ def gather(ways, cable):
 
 
 def main():
+    if len(sys.argv) < 3 or sys.argv[1].startswith("-"):
+        sys.exit("usage: relay.py CABLE CONFIG [CONFIG_B] [CHAIN]")
     cable, *names = sys.argv[1:]
     chain = int(names.pop()) if names[-1].isdigit() else None
     source, target = open_cable(cable)

@@ -569,7 +569,8 @@ words that are left, in the form that `exchange apply --help` shows, and it is
 what --image-out wrote beside RECORD. A host may be writing it still, or was
 killed: then the last entry may be cut off, and there is no line `end`. What is
 whole is replayed, and a line on standard error says how much that is. With
---first E the first E entries are replayed, and no more is looked at.
+--first E the first E entries are replayed, all where there are fewer, and no
+more is looked at.
 
 Else the answer is the first of these that is wrong. The files are read first:
   refused file            RECORD or the image can't be read
