@@ -1,5 +1,5 @@
 -- A call of the seat, as its session sees it.
-use Rattle.std.proofs.Common.{◌≡◌, ◌<◌, ◌≤◌, Bool, Result, Ok, Err, is_err, append-nil, refl, sym, ◌∙◌}
+use Rattle.std.proofs.Common.{◌≡◌, ◌<◌, ◌≤◌, Bool, Result, Ok, Err, IfOk, OnErr, is_err, append-nil, refl, sym, ◌∙◌}
 use Rattle.batch.specs.Extent.{Extent}
 use Rattle.batch_book.specs.declared.call.Call.{Call}
 use Rattle.batch_book.specs.declared.limits.TheConstants.{RUN_STEP}
@@ -15,11 +15,13 @@ use Rattle.client_session.specs.Seats.{GoesOnFrom, IsCalled, IsProgressRead, IsU
 goes_on : (loses : Bool) (shape : Extent) (old new : SeatState) (c : Call) (r : Result Reply Unrecorded) → IsAsked old c r new → GoesOnFrom (is_err r) (seat_view loses shape old) (seat_view loses shape new)
 goes_on loses shape old new c r is = record { exchange = is.seat.exchange; shape = refl; loses = refl; session = is.seat.session; parts = is.seat.parts; log = is.log; seen = is.later; broken = is.broken }
 
-pub called : (loses : Bool) (shape : Extent) (old new : SeatState) (c : Call) (r : Reply) → IsAsked old c (Ok r) new → IsReplyTo c r → IsCalled (seat_view loses shape old) c r (seat_view loses shape new)
-called loses shape old new c r is answers = record { goes_on = goes_on loses shape old new c (Ok r) is; asked = is.asked; answers = answers; seen = is.seen }
+pub called : (loses : Bool) (shape : Extent) (old new : SeatState) (c : Call) (r : Result Reply Unrecorded) → IsAsked old c r new → IfOk r (IsReplyTo c) → IfOk r (λ reply. IsCalled (seat_view loses shape old) c reply (seat_view loses shape new))
+called loses shape old new c (Ok reply) is answers = record { goes_on = goes_on loses shape old new c (Ok reply) is; asked = is.asked; answers = answers; seen = is.seen }
+called loses shape old new c (Err lost) is answers = tt
 
-pub uncalled : (loses : Bool) (shape : Extent) (old new : SeatState) (c : Call) (lost : Unrecorded) → IsAsked old c (Err lost) new → IsUncalled (seat_view loses shape old) (seat_view loses shape new)
-uncalled loses shape old new c lost is = record { goes_on = goes_on loses shape old new c (Err lost) is; asked = is.asked ∙ append-nil old.asked }
+pub uncalled : (loses : Bool) (shape : Extent) (old new : SeatState) (c : Call) (r : Result Reply Unrecorded) → IsAsked old c r new → OnErr r (IsUncalled (seat_view loses shape old) (seat_view loses shape new))
+uncalled loses shape old new c (Ok reply) is = tt
+uncalled loses shape old new c (Err lost) is = record { goes_on = goes_on loses shape old new c (Err lost) is; asked = is.asked ∙ append-nil old.asked }
 
 pub progress_read : (loses : Bool) (shape : Extent) (old new : SeatState) (r : Reading) → IsSameSeat old new → new.asked ≡ old.asked → new.log ≡ old.log → new.broken ≡ old.broken → old.seen ≤ new.seen → new.seen ≡ value_at r.run r.done → r.done < RUN_STEP
     → IsProgressRead (seat_view loses shape old) r (seat_view loses shape new)

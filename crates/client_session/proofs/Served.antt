@@ -12,6 +12,7 @@ use Rattle.client_session.specs.declared.fault.ServeFault.TheVariants.{Read, Wri
 use Rattle.batch.specs.Extent.{Extent}
 use Rattle.batch_book.specs.Seats.{SeatState, IsSameSeat}
 use Rattle.batch_book.proofs.Fronts.{starts, starts_same, starts_then}
+use Rattle.client_session.specs.declared.limits.TheConstants.{HELD_BYTES}
 use Rattle.client_session.specs.Bytes.{PendingInput, TakesIn}
 use Rattle.client_session.specs.Faults.{IsFaultAt}
 use Rattle.client_session.specs.Seats.{SeatView, GoesOnFrom, seat_view}
@@ -326,10 +327,15 @@ stopped_turn most e a b c w v from to next h held p t = subst (λ (q : SeatView)
       (more_read e c (h.reads + length t.bytes) (length (p.bytes ++ t.bytes)) (h.pending ++ t.bytes) (omega (arith, p.is_so.reads, length-append p.bytes t.bytes)) t.rest);
 }
 
+-- what is held are the lines of those that wait
+held_lines : (turns waiting all : List Turn) (written held : List ℕ) → all ≡ turns ++ waiting → written ≡ lines_of turns → written ++ held ≡ lines_of all → held ≡ lines_of waiting
+held_lines turns waiting all written held are told text =
+    append_cancel_left written held (lines_of waiting) (text ∙ ap lines_of are ∙ flat_map-append (λ (t : Turn). t.did.line) turns waiting ∙ ap (λ l. l ++ lines_of waiting) (sym told))
+
 -- the record is broken, and so are these commands behind those that were told
 broken : (from to next : SeatView) (bytes rest held : List ℕ) (entries : List Entry) (written : List ℕ) (lost : List LostTurn) (h : IsHolding from to bytes (lost_texts lost ++ rest) entries written held)
-    → MayEnd h.all → GoesOnFrom true to next → AllByRecursion (IsLostTurn from.session) lost → length lost ≤ 1 → IsBroken from next bytes (entries ++ lost_entries lost) written
-broken from to next bytes rest held entries written lost h may goes are one =
+    → MayEnd h.all → length held ≤ HELD_BYTES → GoesOnFrom true to next → AllByRecursion (IsLostTurn from.session) lost → length lost ≤ 1 → IsBroken from next bytes (entries ++ lost_entries lost) written
+broken from to next bytes rest held entries written lost h may few goes are one =
     let s = h.session in record {
       turns = h.turns;
       held = h.waiting;
@@ -349,12 +355,13 @@ broken from to next bytes rest held entries written lost h may goes are one =
       one = one;
       entries_are = refl;
       told = h.told;
+      few = subst (λ l. length l ≤ HELD_BYTES) (held_lines h.turns h.waiting h.all written held h.are h.told s.text_is) few;
       recorded = starts_then _ to.log next.log h.recorded goes.log;
     }
 
 -- a call of the last command wasn't made
-lost_turn : (most : ℕ) (a b c w v : Option (List ℕ)) (from to next : SeatView) (h : PendingInput) (held : List ℕ) → Serving most a b w v from to h held → TurnLost b c h to next → Holds a c w v from next held (Some Record)
-lost_turn most a b c w v from to next h held p t =
+lost_turn : (most : ℕ) (a b c w v : Option (List ℕ)) (from to next : SeatView) (h : PendingInput) (held : List ℕ) → Serving most a b w v from to h held → length held ≤ HELD_BYTES → TurnLost b c h to next → Holds a c w v from next held (Some Record)
+lost_turn most a b c w v from to next h held p few t =
     let seat = p.is_so.holding.session.seat in
     let all = append-nil (lost_text t.turn) in
     let kept : h.pending ++ t.bytes ≡ lost_texts (t.turn ∷ []) ++ t.rest = t.kept ∙ ap (λ l. l ++ t.rest) (sym all) in
@@ -367,18 +374,18 @@ lost_turn most a b c w v from to next h held p t =
       asked = t.asked ∙ ap (λ l. l ++ t.turn.entries) p.asked ∙ append_assoc from.asked p.entries t.turn.entries ∙ ap (λ l. from.asked ++ (p.entries ++ l)) (sym more);
       appended = p.appended;
       is_so = broken from to next (p.bytes ++ t.bytes) t.rest held p.entries p.written (t.turn ∷ [])
-          (holding_read from to p.bytes t.bytes h.pending (lost_texts (t.turn ∷ []) ++ t.rest) p.entries p.written held p.is_so.holding kept) (inl p.is_so.go_on) t.goes_on
+          (holding_read from to p.bytes t.bytes h.pending (lost_texts (t.turn ∷ []) ++ t.rest) p.entries p.written held p.is_so.holding kept) (inl p.is_so.go_on) few t.goes_on
           (subst (λ by. IsLostTurn by t.turn) seat.session t.is, tt) (omega arith);
     }
 
-pub failed_turn : (most : ℕ) (e : ServeFault) (a b c w v : Option (List ℕ)) (from to next : SeatView) (h : PendingInput) (held : List ℕ) → Serving most a b w v from to h held → TurnFails e b c h to next → Holds a c w v from next held (Some e)
-failed_turn most Record a b c w v from to next h held p t = lost_turn most a b c w v from to next h held p t
-failed_turn most Read a b c w v from to next h held p t = stopped_turn most Read a b c w v from to next h held p t
-failed_turn most Write a b c w v from to next h held p t = stopped_turn most Write a b c w v from to next h held p t
-failed_turn most LineTooLong a b c w v from to next h held p t = stopped_turn most LineTooLong a b c w v from to next h held p t
-failed_turn most Cut a b c w v from to next h held p t = stopped_turn most Cut a b c w v from to next h held p t
-failed_turn most Turns a b c w v from to next h held p t = stopped_turn most Turns a b c w v from to next h held p t
-failed_turn most NoMemory a b c w v from to next h held p t = stopped_turn most NoMemory a b c w v from to next h held p t
+pub failed_turn : (most : ℕ) (e : ServeFault) (a b c w v : Option (List ℕ)) (from to next : SeatView) (h : PendingInput) (held : List ℕ) → Serving most a b w v from to h held → length held ≤ HELD_BYTES → TurnFails e b c h to next → Holds a c w v from next held (Some e)
+failed_turn most Record a b c w v from to next h held p few t = lost_turn most a b c w v from to next h held p few t
+failed_turn most Read a b c w v from to next h held p few t = stopped_turn most Read a b c w v from to next h held p t
+failed_turn most Write a b c w v from to next h held p few t = stopped_turn most Write a b c w v from to next h held p t
+failed_turn most LineTooLong a b c w v from to next h held p few t = stopped_turn most LineTooLong a b c w v from to next h held p t
+failed_turn most Cut a b c w v from to next h held p few t = stopped_turn most Cut a b c w v from to next h held p t
+failed_turn most Turns a b c w v from to next h held p few t = stopped_turn most Turns a b c w v from to next h held p t
+failed_turn most NoMemory a b c w v from to next h held p few t = stopped_turn most NoMemory a b c w v from to next h held p t
 
 -- the input has other faults than that
 pub no_input : (f : InputFault) → Some (of_input f) ≡ Some Record → ⊥
@@ -401,13 +408,14 @@ last_line turns (t ∷ []) all written held front missing are told text few some
     (turns, t, are, front, sym (append_cancel_left written held t.did.line line) ∙ cut)
 last_line turns (t ∷ u ∷ more) all written held front missing are told text few some cut = absurd (omega arith)
 
-cut_off : (from to : SeatView) (bytes rest : List ℕ) (entries : List Entry) (written held front missing : List ℕ) → IsAllTold from → to.asked ≡ from.asked ++ entries → held ≡ front ++ missing → 0 < length held → (h : IsHolding from to bytes rest entries written held) → MayEnd h.all → IsCutOff from (told_seat to) bytes entries (written ++ front)
-cut_off from to bytes rest entries written held front missing was asked cut some h may = record {
+cut_off : (from to : SeatView) (bytes rest : List ℕ) (entries : List Entry) (written held front missing : List ℕ) → IsAllTold from → to.asked ≡ from.asked ++ entries → held ≡ front ++ missing → 0 < length held → length held ≤ HELD_BYTES → (h : IsHolding from to bytes rest entries written held) → MayEnd h.all → IsCutOff from (told_seat to) bytes entries (written ++ front)
+cut_off from to bytes rest entries written held front missing was asked cut some few h may = record {
   turns = h.all;
   rest = rest;
   missing = missing;
   session = subst (IsSession false from (told_seat to) h.all bytes rest entries) (ap (λ l. written ++ l) cut ∙ sym (append_assoc written front missing)) (session_told from to h.all bytes rest entries (written ++ held) was asked h.session);
   may_end = may;
+  few = omega (arith, few, ap length cut, length-append front missing);
   recorded = refl;
   last = λ all. last_line h.turns h.waiting h.all written held front missing h.are h.told h.session.text_is (h.one all) some cut;
 }
@@ -425,7 +433,7 @@ untold Write a b w v u from to next held p was t =
       consumed = p.consumed;
       asked = p.asked;
       appended = Appends-more w v u p.written cut.front p.appended cut.appended;
-      is_so = cut_off from to p.bytes p.is_so.0 p.entries p.written held cut.front cut.missing was p.asked cut.bytes_are t.1 h p.is_so.2;
+      is_so = cut_off from to p.bytes p.is_so.0 p.entries p.written held cut.front cut.missing was p.asked cut.bytes_are t.1 t.3 h p.is_so.2;
     }
 untold Record a b w v u from to next held p was t =
     let goes : GoesOnFrom true to (record to { broken = true }) = record { exchange = refl; shape = refl; loses = refl; session = refl; parts = refl; log = starts_same to.log to.log refl; seen = omega arith; broken = refl } in
@@ -436,7 +444,7 @@ untold Record a b w v u from to next held p was t =
       consumed = p.consumed;
       asked = p.asked ∙ ap (λ l. from.asked ++ l) (sym (append-nil p.entries));
       appended = p.appended;
-      is_so = broken from to (record to { broken = true }) p.bytes p.is_so.0 held p.entries p.written [] p.is_so.1 p.is_so.2 goes tt (omega arith);
+      is_so = broken from to (record to { broken = true }) p.bytes p.is_so.0 held p.entries p.written [] p.is_so.1 p.is_so.2 t.2 goes tt (omega arith);
     })
 untold Read a b w v u from to next held p was t = absurd t
 untold LineTooLong a b w v u from to next held p was t = absurd t

@@ -6,7 +6,7 @@ use Rattle.batch.specs.declared.limits.TheConstants.{MAX_TRANSFERS}
 use Rattle.batch_book.specs.declared.entry.Entry.{Entry}
 use Rattle.batch_book.specs.History.{Starts}
 use Rattle.batch_book.specs.Seats.{SeatState}
-use Rattle.client_session.specs.declared.limits.TheConstants.{INPUT_BYTES, LINE_BYTES, MAX_READS}
+use Rattle.client_session.specs.declared.limits.TheConstants.{HELD_BYTES, INPUT_BYTES, LINE_BYTES, MAX_READS}
 use Rattle.client_session.specs.declared.command.SessionCommand.TheVariants.{Batch, Bye}
 use Rattle.client_session.specs.declared.fault.ServeFault.{ServeFault}
 use Rattle.client_session.specs.declared.fault.ServeFault.TheVariants.{Read, Write, LineTooLong, Cut, Turns, NoMemory, Record}
@@ -111,8 +111,8 @@ IsEndOfLastLine turns missing =
     (before : List Turn) × (t : Turn) × (turns ≡ before ++ t ∷ [])
     × (front : List ℕ) × (t.did.line ≡ front ++ missing)
 
--- A session whose last reply lines were written in part, or not at all. Where no entry can be lost,
--- that is the last line alone.
+-- A session whose last reply lines were written in part, or not at all: what is missing is no more
+-- than a session holds. Where no entry can be lost, that is the last line alone.
 pub record IsCutOff (old new : SeatView) (bytes : List ℕ) (entries : List Entry)
     (written : List ℕ) : Type 0 where
   pub turns : List Turn
@@ -120,6 +120,7 @@ pub record IsCutOff (old new : SeatView) (bytes : List ℕ) (entries : List Entr
   pub missing : List ℕ
   pub session : IsSession false old new turns bytes rest entries (written ++ missing)
   pub may_end : MayEnd turns
+  pub few : length missing ≤ HELD_BYTES
   pub recorded : IsAllTold new
   pub last : old.loses ≡ false → IsEndOfLastLine turns missing
 
@@ -131,7 +132,8 @@ abbrev pub lost_entries : List LostTurn → List Entry
 lost_entries lost = flat_map (λ (t : LostTurn). t.entries) lost
 
 -- A session whose record is broken: the replies to these commands were told. Some were read whole
--- behind them, and done, and their replies are held. And maybe a call of one more wasn't made.
+-- behind them, and done, and their replies are held, which are no more than a session holds. And
+-- maybe a call of one more wasn't made.
 pub record IsBroken (old new : SeatView) (bytes : List ℕ) (entries : List Entry)
     (written : List ℕ) : Type 0 where
   pub turns : List Turn
@@ -146,6 +148,7 @@ pub record IsBroken (old new : SeatView) (bytes : List ℕ) (entries : List Entr
   pub one : length lost ≤ 1
   pub entries_are : entries ≡ made ++ lost_entries lost
   pub told : written ≡ lines_of turns
+  pub few : length (lines_of held) ≤ HELD_BYTES
   pub recorded : Starts (old.log ++ added_entries turns) new.log
 
 -- the session of these bytes, entries and lines has ended so: by itself, or by a fault

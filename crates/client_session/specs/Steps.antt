@@ -9,7 +9,7 @@ use Rattle.batch_book.specs.declared.entry.Entry.{Entry}
 use Rattle.batch_book.specs.declared.call.Call.TheVariants.{Fetch}
 use Rattle.batch_book.specs.declared.reply.Reply.{Reply}
 use Rattle.batch_book.specs.declared.reply.Reply.TheVariants.{Fetched, Ran}
-use Rattle.client_session.specs.declared.limits.TheConstants.{INPUT_BYTES, LINE_BYTES, MAX_READS}
+use Rattle.client_session.specs.declared.limits.TheConstants.{HELD_BYTES, INPUT_BYTES, LINE_BYTES, MAX_READS}
 use Rattle.client_session.specs.declared.input.InputFault.{InputFault}
 use Rattle.client_session.specs.declared.input.InputFault.TheVariants as input
 use Rattle.client_session.specs.declared.command.SessionCommand.{SessionCommand}
@@ -155,13 +155,14 @@ MayTell old new out_before out_after held still =
     (AreTold old new out_before out_after held × (still ≡ []))
     ⊎ ((old.loses ≡ true) × (new ≡ old) × (out_after ≡ out_before) × (still ≡ held))
 
--- There are some, and they weren't told: so much as a front of them was written. Or the record is
--- broken, and nothing was.
+-- There are some, no more than a session holds, and they weren't told: so much as a front of them
+-- was written. Or the record is broken, and nothing was.
 abbrev pub AreUntold : ServeFault → (old new : SeatView) → (out_before out_after : Option (List ℕ))
     → List ℕ → Type 0
 AreUntold Write old new out_before out_after lines =
     (new ≡ record old { log = old.asked }) × (0 < length lines)
-    × IsCutShort out_before out_after lines
+    × IsCutShort out_before out_after lines × (length lines ≤ HELD_BYTES)
 AreUntold Record old new out_before out_after lines =
     (new ≡ record old { broken = true }) × (out_after ≡ out_before)
+    × (length lines ≤ HELD_BYTES)
 AreUntold fault old new out_before out_after lines = ⊥

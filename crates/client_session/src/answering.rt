@@ -40,9 +40,14 @@ fn call<
         line.new result }
     ensures loses { OnErr result (K.loses ≡ true) }
 {
-    let reply = seat.call(rt, call)?;
-    line.tell(id, &reply);
-    Ok(())
+    let made = seat.call(rt, call);
+    match &made {
+        Ok(reply) => {
+            line.tell(id, reply);
+            Ok(())
+        }
+        Err(_) => Err(ServeFault::Record),
+    }
 }
 
 /// Submits the batch that the text denotes, or tells the text's first fault.

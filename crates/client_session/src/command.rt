@@ -119,6 +119,12 @@ impl SessionCommand {
     pub fn read(line: &[u8]) -> Option<SessionCommand>
         ensures { Means line.now result }
     {
+        if let Some((module, address)) = peek(line) {
+            return Some(SessionCommand::Peek(module, address));
+        }
+        if let Some((module, address, word)) = poke(line) {
+            return Some(SessionCommand::Poke(module, address, word));
+        }
         if let Some(count) = number_behind(line, b"batch ") {
             return Some(SessionCommand::Batch(count));
         }
@@ -133,12 +139,6 @@ impl SessionCommand {
         }
         if let Some(id) = number_behind(line, b"drop ") {
             return Some(SessionCommand::Drop(id));
-        }
-        if let Some((module, address)) = peek(line) {
-            return Some(SessionCommand::Peek(module, address));
-        }
-        if let Some((module, address, word)) = poke(line) {
-            return Some(SessionCommand::Poke(module, address, word));
         }
         if line == b"progress".as_slice() {
             return Some(SessionCommand::Progress);

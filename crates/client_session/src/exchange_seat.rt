@@ -6,7 +6,7 @@ ghost use Rattle.client_session.specs.Seats.{seat_view, IsCalled, IsUncalled, Is
 
 use crate::fault::ServeFault;
 use batch::Shape;
-use batch_book::{Call, ExchangeName, History, Reading, Reply, Seat, Shared};
+use batch_book::{Call, ExchangeName, History, Reading, Reply, Seat, Shared, Unrecorded};
 use crossbar::ConfigPort;
 use peek_poke::WireMaker;
 use schedule_certificate::Gate;
@@ -86,20 +86,17 @@ impl<L: ExchangeName, P: ConfigPort, W: WireMaker + Sync, G: Gate + Sync, K: His
     G,
     K,
 > {
-    /// Makes a call of the book, whose reply can be told once the seat is settled. The fault is
-    /// that the record is broken.
+    /// Makes a call of the book, whose reply can be told once the seat is settled.
     pub fn call<R: Threads + Wait + Sync>(
         &mut self,
         rt: &R,
         call: Call,
-    ) -> Result<Reply, ServeFault>
+    ) -> Result<Reply, Unrecorded>
         ensures ok { IfOk result (λ reply. IsCalled self.old call reply self.new) }
-        ensures fault { IfErr result (λ fault. fault ≡ Record) }
         ensures err { OnErr result (IsUncalled self.old self.new) }
         ensures loses { OnErr result (K.loses ≡ true) }
     {
-        let reply = self.shared.try_call(rt, &mut self.seat, call)?;
-        Ok(reply)
+        self.shared.try_call(rt, &mut self.seat, call)
     }
 
     /// Sees to it that all which the session has asked can be told. The fault is that the record is

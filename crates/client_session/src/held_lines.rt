@@ -1,6 +1,6 @@
 //! Reply lines that are held until they can be told.
 
-ghost use Rattle.std.specs.Prelude.{◌≡◌, ◌≤◌, ◌<◌, ◌+◌, ◌++◌, ◌∷◌, [], true, length};
+ghost use Rattle.std.specs.Prelude.{◌≡◌, ◌≤◌, ◌+◌, ◌++◌, [], true, length};
 ghost use Rattle.line_words.specs.declared.limits.TheConstants.{LINE_ROOM};
 ghost use Rattle.client_session.specs.declared.limits.TheConstants.{HELD_BYTES};
 
@@ -44,7 +44,8 @@ impl HeldLines {
 
     /// The lines.
     pub(crate) fn as_bytes(&self) -> &[u8]
-        ensures { result.now ≡ self.now }
+        ensures lines { result.now ≡ self.now }
+        ensures room { length self.now ≤ HELD_BYTES }
     {
         &self.bytes[..self.len]
     }
@@ -61,23 +62,15 @@ impl HeldLines {
         self.refusal.is_some()
     }
 
-    /// Puts a byte behind the others.
-    fn push(&mut self, byte: u8)
-        requires { length self.old < HELD_BYTES }
-        ensures { self.new ≡ self.old ++ byte ∷ [] }
-    {
-        self.bytes[self.len] = byte;
-        self.len += 1;
-    }
-
     /// Puts a line behind the others.
     pub(crate) fn put(&mut self, line: &ReplyLine)
         requires { length self.old + LINE_ROOM ≤ HELD_BYTES }
         ensures { self.new ≡ self.old ++ line.now }
     {
-        for byte in line.as_bytes() {
-            self.push(*byte);
-        }
+        let bytes = line.as_bytes();
+        let end = self.len + bytes.len();
+        self.bytes[self.len..end].copy_from_slice(bytes);
+        self.len = end;
         self.refusal = line.refusal();
     }
 

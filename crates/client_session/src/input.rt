@@ -68,26 +68,21 @@ impl Input {
 
     /// The bytes that are pending.
     pub(crate) fn pending(&self) -> &[u8]
-        ensures { result.now ≡ self.now.pending }
+        ensures bytes { result.now ≡ self.now.pending }
+        ensures room { (length self.now.pending ≤ INPUT_BYTES) × (self.now.reads ≤ MAX_READS) }
     {
         &self.buffer[self.start..self.end]
     }
 
     /// The length of the line in front, without its line feed, where it is there. No more is looked
     /// at than a line and its line feed may have.
-    fn line_length(&self) -> Option<usize>
+    pub(crate) fn line_length(&self) -> Option<usize>
         ensures some { IfSome result (λ n. HasLine self.now.pending n × (n ≤ LINE_BYTES)) }
         ensures none { IfNone result (HasNoFeed (take (LINE_BYTES + 1) self.now.pending)) }
         ensures room { (length self.now.pending ≤ INPUT_BYTES) × (self.now.reads ≤ MAX_READS) }
     {
         let pending = &self.buffer[self.start..self.end];
         first_feed(&pending[..(LINE_BYTES + 1).min(pending.len())])
-    }
-
-    /// The line in front, where it is there.
-    pub(crate) fn line(&self) -> Option<&[u8]> {
-        let n = self.line_length()?;
-        Some(&self.pending()[..n])
     }
 
     /// Whether so many lines are there behind the line in front. Takes time by their length.
@@ -154,12 +149,15 @@ impl Input {
     }
 
     /// The length of the line in front, without its line feed, or nothing at the end of the input.
-    /// Takes time by the length of the line times the reads that it came in.
+    /// Where it was found before, it isn't looked for again. Else it takes time by the length of
+    /// the line times the reads that it came in.
     pub(crate) fn next_line<R: AskedReader>(
         &mut self,
         reader: &mut R,
+        found: Option<usize>,
     ) -> Result<Option<usize>, InputFault>
-        requires { self.old.reads ≤ MAX_READS }
+        requires reads { self.old.reads ≤ MAX_READS }
+        requires found { IfSome found (λ n. HasLine self.old.pending n × (n ≤ LINE_BYTES)) }
         ensures takes { TakesIn (R.remaining reader.old) (R.remaining reader.new) self.old
             self.new }
         ensures line { IfOk result (λ found. MatchOption found
@@ -176,6 +174,11 @@ impl Input {
         ensures fuel { fuel self.new ≤ fuel self.old }
         ensures room { (length self.new.pending ≤ INPUT_BYTES) × (self.new.reads ≤ MAX_READS) }
     {
+        // Its contract has the bounds of what is pending.
+        self.pending();
+        if found.is_some() {
+            return Ok(found);
+        }
         loop {
             if let Some(n) = self.line_length() {
                 return Ok(Some(n));

@@ -8,8 +8,9 @@
 //! was written are their reply lines, in order. No reading of the progress is behind an earlier one
 //! (`AreReadings`). Where entries may wait to be recorded, replies are held until theirs are, and
 //! told together. Where a fault ends the session, the commands before it were served. Where the
-//! record is broken, nothing is told of those whose replies were held (`IsBroken`). A reader that
-//! counts is asked at most a million times (`AsksWithinLimit` of `specs/Asking.antt`).
+//! writer fails or the record is broken, at most [`HELD_BYTES`] bytes of their replies aren't told
+//! (`IsCutOff`, `IsBroken`). A reader that counts is asked at most a million times
+//! (`AsksWithinLimit` of `specs/Asking.antt`).
 //!
 //! A [`Listener`] hears beside them what was said, and what of it is refused. What it tells is told
 //! of refusals (`TellsOfRefusals` of `specs/Listening.antt`); which ones no contract says.
@@ -33,6 +34,6 @@ mod turns;
 pub use asked_reader::{AskedReader, CountedReader};
 pub use command::SessionCommand;
 pub use fault::ServeFault;
-pub use limits::{COMMAND_ROOM, INPUT_BYTES, LINE_BYTES, MAX_READS};
+pub use limits::{COMMAND_ROOM, HELD_BYTES, INPUT_BYTES, LINE_BYTES, MAX_READS, REPLY_ROOM};
 pub use listener::{Listener, NoListener};
 pub use serving::serve;

@@ -1,16 +1,17 @@
 //! The session.
 
-ghost use Rattle.std.specs.Prelude.{◌≡◌, ◌<◌, ◌≤◌, ◌+◌, [], true, false, Some, OnOk, OnErr, IfErr, length};
+ghost use Rattle.std.specs.Prelude.{◌≡◌, ◌<◌, ◌≤◌, ◌+◌, [], true, false, Some, IfSome, OnOk, OnErr, IfOk, IfErr, length};
 ghost use Rattle.std.specs.Io.KnownBytes.{Appends};
 ghost use Rattle.byte_streams.specs.Writing.{IsCutShort};
 ghost use Rattle.line_words.specs.declared.limits.TheConstants.{LINE_ROOM};
 ghost use Rattle.batch_book.specs.Seats.{IsSameSeat};
 ghost use Rattle.client_session.specs.Asking.{AsksWithinLimit};
+ghost use Rattle.client_session.specs.Bytes.{HasLine};
 ghost use Rattle.client_session.specs.Listening.{TellsOfRefusals};
 ghost use Rattle.client_session.specs.Seats.{seat_view};
 ghost use Rattle.client_session.specs.Sessions.{HasEnded, HoldsAtEnd, GoesThrough, IsAllTold, IsServed, cuts_off, fault_in, seat_back, fault_back};
 ghost use Rattle.client_session.specs.Steps.{AreTold, AreUntold, MayTell};
-ghost use Rattle.client_session.specs.declared.limits.TheConstants.{HELD_BYTES};
+ghost use Rattle.client_session.specs.declared.limits.TheConstants.{HELD_BYTES, LINE_BYTES};
 
 use crate::asked_reader::AskedReader;
 use crate::command::SessionCommand;
@@ -85,18 +86,19 @@ fn tell<
     ensures loses { IfErr result (λ e. e ≡ ServeFault.Record → K.loses ≡ true) }
     ensures beside { TellsOfRefusals H.may_tell (H.told listener.old) (H.told listener.new) }
 {
+    let lines = held.as_bytes();
     seat.settle(rt)?;
-    send(writer, held.as_bytes())?;
+    send(writer, lines)?;
     tell_refusal(listener, held.clear());
     Ok(())
 }
 
-/// Whether the command in front of the input is done at once: its lines are there, and it plans
-/// and runs nothing.
-fn is_quick(input: &Input) -> bool {
-    let Some(line) = input.line() else {
-        return false;
-    };
+/// Whether the command whose line of this length is in front is done at once: its lines are there,
+/// and it plans and runs nothing.
+fn is_quick(input: &Input, n: usize) -> bool
+    requires { n ≤ length input.now.pending }
+{
+    let line = &input.pending()[..n];
     if line.starts_with(b"r") || line.starts_with(b"pl") {
         return false;
     }
@@ -109,7 +111,16 @@ fn is_quick(input: &Input) -> bool {
     }
 }
 
-/// Tells what is held, where no more is to be held before the next command.
+/// The length of the line in front, where its command is done at once.
+fn quick_line(input: &Input) -> Option<usize>
+    ensures { IfSome result (λ n. HasLine input.now.pending n × (n ≤ LINE_BYTES)) }
+{
+    let n = input.line_length()?;
+    if is_quick(input, n) { Some(n) } else { None }
+}
+
+/// Tells what is held, where no more is to be held before the next command. Else it gives the
+/// length of that one's line.
 fn tell_first<
     R: Wait,
     L: ExchangeName,
@@ -126,19 +137,24 @@ fn tell_first<
     writer: &mut O,
     listener: &mut H,
     held: &mut HeldLines,
-) -> Result<(), ServeFault>
+) -> Result<Option<usize>, ServeFault>
     ensures ok { OnOk result (MayTell seat.old seat.new (O.contents writer.old)
         (O.contents writer.new) held.old held.new) }
     ensures room { OnOk result (length held.new + LINE_ROOM ≤ HELD_BYTES) }
+    ensures found { IfOk result (λ found.
+        IfSome found (λ n. HasLine input.now.pending n × (n ≤ LINE_BYTES))) }
     ensures err { IfErr result (λ e. AreUntold e seat.old seat.new (O.contents writer.old)
         (O.contents writer.new) held.old) }
     ensures loses { IfErr result (λ e. e ≡ ServeFault.Record → K.loses ≡ true) }
     ensures beside { TellsOfRefusals H.may_tell (H.told listener.old) (H.told listener.new) }
 {
-    if held.has_room() && seat.waits() && !held.refuses() && is_quick(input) {
-        return Ok(());
+    if held.has_room() && seat.waits() && !held.refuses() {
+        if let Some(n) = quick_line(input) {
+            return Ok(Some(n));
+        }
     }
-    tell(rt, seat, writer, listener, held)
+    tell(rt, seat, writer, listener, held)?;
+    Ok(None)
 }
 
 /// Serves the session of a seat at its exchange, but for its last reply lines, which are held.
@@ -171,12 +187,13 @@ fn serve_lines<
     ensures beside { TellsOfRefusals H.may_tell (H.told listener.old) (H.told listener.new) }
 {
     let mut input = Input::new();
+    let mut line = ReplyLine::new();
     loop {
-        tell_first(rt, seat, &input, writer, listener, held)?;
-        let Some(n) = input.next_line(reader)? else {
+        let found = tell_first(rt, seat, &input, writer, listener, held)?;
+        let Some(n) = input.next_line(reader, found)? else {
             return Ok(());
         };
-        let mut line = ReplyLine::new();
+        line.clear();
         let ends = turn(
             rt, alloc, seat, &mut input, reader, listener, &mut line, n, workers,
         )?;

@@ -43,7 +43,7 @@ fn take_lines<I: AskedReader>(
     ensures fuel { fuel input.new ≤ fuel input.old }
 {
     for _ in 0..count {
-        let Some(n) = input.next_line(reader)? else {
+        let Some(n) = input.next_line(reader, None)? else {
             return Err(ServeFault::Cut);
         };
         text.extend_from_slice(&input.pending()[..n + 1])?;

@@ -6,7 +6,7 @@ use Rattle.client_session.proofs.serving.tell.Goals as goal
 pub returns-in_err-settle-clause-err : goal.returns-in_err-settle-clause-err
 returns-in_err-settle-clause-err g c =
     let p = err_from_is_err_and c.from_residual.result c.from_residual.ensures.1 in
-    rw (p.1, p.2, c.in_err-settle.ensures.fault) (c.in_err-settle.ensures.err, refl)
+    rw (p.1, p.2, c.in_err-settle.ensures.fault) (c.in_err-settle.ensures.err, refl, c.as_bytes-lines.ensures.room)
 
 pub returns-in_err-settle-clause-loses : goal.returns-in_err-settle-clause-loses
 returns-in_err-settle-clause-loses g c =
@@ -16,9 +16,10 @@ returns-in_err-settle-clause-loses g c =
 pub returns-in_err-send-clause-err : goal.returns-in_err-send-clause-err
 returns-in_err-send-clause-err g c =
     let p = err_from_is_err_and c.from_residual-in_err-send.result c.from_residual-in_err-send.ensures.1 in
-    let some = rw c.as_bytes.ensures at c.in_err-send.ensures.some in
-    let cut = rw c.as_bytes.ensures at c.in_err-send.ensures.err in
-    rw (p.1, p.2, c.in_err-send.ensures.fault) (c.in_ok-settle.ensures.ok, some, cut)
+    let lines = c.as_bytes-lines.ensures.lines in
+    let some = rw lines at c.in_err-send.ensures.some in
+    let cut = rw lines at c.in_err-send.ensures.err in
+    rw (p.1, p.2, c.in_err-send.ensures.fault) (c.in_ok-settle.ensures.ok, some, cut, c.as_bytes-lines.ensures.room)
 
 pub returns-in_err-send-clause-loses : goal.returns-in_err-send-clause-loses
 returns-in_err-send-clause-loses g c =
@@ -26,7 +27,7 @@ returns-in_err-send-clause-loses g c =
     rw (p.1, p.2, c.in_err-send.ensures.fault) (λ is. absurd (cc))
 
 pub returns-clause-ok : goal.returns-clause-ok
-returns-clause-ok g c = record { seat = c.in_ok-settle.ensures.ok; appended = rw c.as_bytes.ensures at c.in_ok-send.ensures.ok }
+returns-clause-ok g c = record { seat = c.in_ok-settle.ensures.ok; appended = rw c.as_bytes-lines.ensures.lines at c.in_ok-send.ensures.ok }
 
 pub returns-in_err-settle-clause-beside : goal.returns-in_err-settle-clause-beside
 returns-in_err-settle-clause-beside g c = tells_nothing _

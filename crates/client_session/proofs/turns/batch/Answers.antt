@@ -17,7 +17,7 @@ returns-in_err-take_lines-clause-err g c =
 
 pub returns-clause-ok : goal.returns-clause-ok
 returns-clause-ok g c =
-    let first = c.in_ok-text.ensures.items ∙ ap (take (c.args.n + 1)) c.pending.ensures in
+    let first = c.in_ok-text.ensures.items ∙ ap (take (c.args.n + 1)) c.pending.ensures.bytes in
     batch_taken _ _ c.args.input.now c.skip.new.self c.take_lines.new.input _ _ c.args.n c.args.count _ c.take_lines.new.text.items _ _ c.requires.found.0 c.requires.found.1 c.requires.means c.skip.ensures.pending first c.in_ok-take_lines.ensures.ok c.skip.ensures.reads c.as_slice-text.ensures.value (rw c.in_ok-submit.was at c.submit.ensures.done)
 
 pub returns-clause-fuel : goal.returns-clause-fuel

@@ -29,7 +29,7 @@ loop-preserved g c =
     let k = c.in-Some.n in
     let got = LinesTaken-read _ _ _ _ _ mid _ _ _ c.loop.invariant.0 c.in_ok-n.ensures.takes in
     let line = rw c.in-Some.is at c.in_ok-n.ensures.line in
-    let grows = c.in_ok-extend_from_slice.ensures.items ∙ ap (λ l. c.loop.text.items ++ take (k + 1) l) c.pending.ensures in
+    let grows = c.in_ok-extend_from_slice.ensures.items ∙ ap (λ l. c.loop.text.items ++ take (k + 1) l) c.pending.ensures.bytes in
     let less = fuel_skip mid c.skip.new.self k c.skip.ensures.pending c.skip.ensures.reads line.0.0 in (
       LinesTaken-line _ _ _ mid _ _ _ _ _ k got line.0 line.1 grows c.skip.ensures.pending c.skip.ensures.reads,
       omega (arith, less, c.in_ok-n.ensures.fuel, c.loop.invariant.1),

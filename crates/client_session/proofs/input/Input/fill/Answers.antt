@@ -1,4 +1,4 @@
-use Rattle.std.proofs.Common.{◌+◌, ◌-◌, ◌++◌, ◌∙◌, [], ap, sym, take, append-nil, arith}
+use Rattle.std.proofs.Common.{◌-◌, ◌++◌, ◌∙◌, [], ap, sym, take, append-nil, arith}
 use Rattle.std.proofs.lemmas.List.{length-take}
 use Rattle.client_session.specs.declared.limits.TheConstants.{INPUT_BYTES}
 use Rattle.client_session.proofs.Asking.{RisesBy-none}

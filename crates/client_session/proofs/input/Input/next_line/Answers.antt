@@ -7,7 +7,7 @@ use Rattle.client_session.proofs.Taking.{TakesIn-more, TakesIn-none, cut_at_end,
 use Rattle.client_session.proofs.input.Input.next_line.Goals as goal
 
 pub loop-n-init : goal.loop-n-init
-loop-n-init g c = (TakesIn-none _ _, omega arith, gives_none refl c.requires)
+loop-n-init g c = (TakesIn-none _ _, omega arith, gives_none refl c.requires.reads)
 
 pub loop-n-preserved : goal.loop-n-preserved
 loop-n-preserved g c =
@@ -30,13 +30,13 @@ returns-then-branch-eq0-clause-takes g c = TakesIn-more _ _ _ _ _ _ c.loop-n.inv
 pub returns-then-branch-eq0-clause-err : goal.returns-then-branch-eq0-clause-err
 returns-then-branch-eq0-clause-err g c =
     let more = c.in_ok-fill.ensures in
-    let line = no_line _ (rw (none_of _ c.in_default.not-Some) at c.line_length.ensures.none) (omega (arith, ap length c.pending.ensures)) in
+    let line = no_line _ (rw (none_of _ c.in_default.not-Some) at c.line_length.ensures.none) (omega (arith, ap length c.pending-in-loop-n.ensures.bytes)) in
     cut_at_end c.at_end.result _ c.fill.new.self more.takes (omega arith) (more.end c.if-branch-eq0.true) line c.at_end.ensures.err
 
 pub returns-in_err-fill-clause-err : goal.returns-in_err-fill-clause-err
 returns-in_err-fill-clause-err g c =
     let p = err_from_is_err_and c.from_residual.result c.from_residual.ensures.1 in
-    let line = no_line _ (rw (none_of _ c.in_default.not-Some) at c.line_length.ensures.none) (omega (arith, ap length c.pending.ensures)) in
+    let line = no_line _ (rw (none_of _ c.in_default.not-Some) at c.line_length.ensures.none) (omega (arith, ap length c.pending-in-loop-n.ensures.bytes)) in
     rw (p.1, p.2) (fault_before _ _ c.loop-n.self c.fill.new.self line c.in_err-fill.ensures.err)
 
 pub returns-in_err-fill-clause-asks : goal.returns-in_err-fill-clause-asks
