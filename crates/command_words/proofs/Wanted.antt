@@ -10,7 +10,7 @@ use Rattle.command_words.specs.declared.commands.CommandName.TheVariants as name
 use Rattle.command_words.specs.declared.uses.Access.TheVariants.{Write}
 use Rattle.command_words.specs.declared.uses.FileUse.{FileUse}
 use Rattle.command_words.specs.declared.jobs.Job.{Job}
-use Rattle.command_words.specs.declared.jobs.Job.TheVariants.{Plan, Check, Draw, Switch, Orders, Drive, C004, Direct, Apply, Run, Serve, Host, Talk, Replay}
+use Rattle.command_words.specs.declared.jobs.Job.TheVariants.{Plan, Check, Draw, Prices, Switch, Orders, Drive, C004, Direct, Apply, Run, Serve, Host, Talk, Replay}
 use Rattle.command_words.specs.declared.jobs.RecordFile.{RecordFile}
 use Rattle.command_words.specs.declared.jobs.Request.{Request}
 use Rattle.plan_answers.specs.declared.source.Source.{Source}
@@ -85,6 +85,7 @@ files_are : (rows : List Row) (job : Job) → HasJob rows job → files_of job �
 files_are rows (Plan file planning workers) has = rw has.0 refl
 files_are rows (Check batch schedule) has = rw (has.0, has.1) refl
 files_are rows (Draw batch schedule settings) has = rw (has.0, has.1) refl
+files_are rows (Prices batch schedule) has = rw (has.0, has.1) refl
 files_are rows (Switch batch source wiring workers) has = rw (has.0, scheduled rows source has.1, has.2) refl
 files_are rows (Orders batch source of_module workers) has = rw (has.0, scheduled rows source has.1) refl
 files_are rows (Drive batch port port_b source wiring first goes_on workers) has = rw (has.0, scheduled rows source has.3, has.4) refl

@@ -19,7 +19,7 @@ use Rattle.command_words.specs.declared.uses.Access.{Access}
 use Rattle.command_words.specs.declared.uses.Access.TheVariants.{Read, Write, Port}
 use Rattle.command_words.specs.declared.uses.FileUse.{FileUse}
 use Rattle.command_words.specs.declared.jobs.Job.{Job}
-use Rattle.command_words.specs.declared.jobs.Job.TheVariants.{Plan, Check, Draw, Switch, Orders, Drive, C004, Direct, Apply, Run, Serve, Host, Talk, Replay}
+use Rattle.command_words.specs.declared.jobs.Job.TheVariants.{Plan, Check, Draw, Prices, Switch, Orders, Drive, C004, Direct, Apply, Run, Serve, Host, Talk, Replay}
 use Rattle.command_words.specs.declared.jobs.Request.{Request}
 use Rattle.command_words.specs.declared.jobs.RecordFile.{RecordFile}
 use Rattle.command_words.specs.declared.jobs.SharedRack.{SharedRack}
@@ -104,6 +104,7 @@ abbrev pub name_of : Job → CommandName
 name_of (Plan file planning workers) = name.Plan
 name_of (Check batch schedule) = name.Check
 name_of (Draw batch schedule settings) = name.Draw
+name_of (Prices batch schedule) = name.Draw
 name_of (Switch batch source wiring workers) = name.Switch
 name_of (Orders batch source of_module workers) = name.Orders
 name_of (Drive batch port port_b source wiring first goes_on workers) = name.Drive
@@ -124,7 +125,10 @@ HasJob rows (Check batch schedule) =
     HasText (codes "BATCH") rows batch × HasText (codes "SCHEDULE") rows schedule
 HasJob rows (Draw batch schedule settings) =
     HasText (codes "BATCH") rows batch × HasText (codes "SCHEDULE") rows schedule
-    × HasOption (codes "settings") rows settings
+    × HasOption (codes "settings") rows settings × (IsGiven (codes "prices") rows → ⊥)
+HasJob rows (Prices batch schedule) =
+    HasText (codes "BATCH") rows batch × HasText (codes "SCHEDULE") rows schedule
+    × HasOption (codes "settings") rows None × IsGiven (codes "prices") rows
 HasJob rows (Switch batch source wiring workers) =
     HasText (codes "BATCH") rows batch × HasSource rows source
     × HasOption (codes "wiring") rows wiring × HasWorkers rows workers
@@ -229,6 +233,7 @@ abbrev pub files_of : Job → Files Text
 files_of (Plan file planning workers) = of_list file None None
 files_of (Check batch schedule) = of_list batch (Some schedule) None
 files_of (Draw batch schedule settings) = of_list batch (Some schedule) None
+files_of (Prices batch schedule) = of_list batch (Some schedule) None
 files_of (Switch batch source wiring workers) = of_list batch (schedule_in source) wiring
 files_of (Orders batch source of_module workers) = of_list batch (schedule_in source) None
 files_of (Drive batch port port_b source wiring first goes_on workers) =

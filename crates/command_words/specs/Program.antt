@@ -9,7 +9,7 @@ use Rattle.clap.specs.declared.builder.action.ArgAction.TheVariants.{SetTrue}
 use Rattle.clap.specs.declared.builder.value_parser.ValueParser.TheVariants as parser
 use Rattle.exchange_limits.specs.declared.limits.TheConstants.{MAX_WORKERS}
 use Rattle.command_words.specs.declared.commands.Argument.{Argument}
-use Rattle.command_words.specs.declared.commands.Argument.TheVariants.{Shape, File, Batch, Schedule, Port, PortB, Moves, Image, Record, Scripts, Clients, Shaped, ImageIn, RecordOut, Resume, Sync, ImageOut, Settings, Scheduled, Wiring, First, Entries, Module, Steady, GoOn, Workers, Quiet}
+use Rattle.command_words.specs.declared.commands.Argument.TheVariants.{Shape, File, Batch, Schedule, Port, PortB, Moves, Image, Record, Scripts, Clients, Shaped, ImageIn, RecordOut, Resume, Sync, ImageOut, Settings, Prices, Scheduled, Wiring, First, Entries, Module, Steady, GoOn, Workers, Quiet}
 use Rattle.command_words.specs.declared.commands.CommandName.{CommandName}
 use Rattle.command_words.specs.declared.commands.CommandName.TheVariants.{Plan, Check, Draw, Switch, Orders, Drive, C004, Direct, Apply, Run, Serve, Host, Talk, Replay}
 use Rattle.command_words.specs.declared.limits.TheConstants.{LAST_MODULE, MAX_CLIENTS, MAX_NUMBER}
@@ -58,6 +58,7 @@ rule_for Resume = flag (codes "resume")
 rule_for Sync = flag (codes "sync")
 rule_for ImageOut = option (codes "image-out")
 rule_for Settings = option (codes "settings")
+rule_for Prices = flag (codes "prices")
 rule_for Scheduled = option (codes "schedule")
 rule_for Wiring = option (codes "wiring")
 rule_for First = record (number_option (codes "from") 0 MAX_NUMBER) { defaults = codes "0" ∷ [] }
@@ -80,7 +81,7 @@ commands =
 abbrev pub sheet_of : CommandName → List ℕ × List Argument
 sheet_of Plan = (codes "plan", File ∷ Steady ∷ Workers ∷ Quiet ∷ [])
 sheet_of Check = (codes "check", Batch ∷ Schedule ∷ Quiet ∷ [])
-sheet_of Draw = (codes "draw", Batch ∷ Schedule ∷ Settings ∷ Quiet ∷ [])
+sheet_of Draw = (codes "draw", Batch ∷ Schedule ∷ Settings ∷ Prices ∷ Quiet ∷ [])
 sheet_of Switch =
     (codes "switch", Batch ∷ Scheduled ∷ Steady ∷ Workers ∷ Wiring ∷ Quiet ∷ [])
 sheet_of Orders =

@@ -68,6 +68,8 @@ pub(crate) enum Argument {
     ImageOut,
     /// `--settings A..B`.
     Settings,
+    /// `--prices`.
+    Prices,
     /// `--schedule FILE`.
     Scheduled,
     /// `--wiring FILE`.
@@ -127,13 +129,13 @@ impl CommandName {
     {
         use Argument::{
             Batch, Clients, Entries, File, First, GoOn, Image, ImageIn, ImageOut, Module, Moves,
-            Port, PortB, Quiet, Record, RecordOut, Resume, Schedule, Scheduled, Scripts, Settings,
-            Shape, Shaped, Steady, Sync, Wiring, Workers,
+            Port, PortB, Prices, Quiet, Record, RecordOut, Resume, Schedule, Scheduled, Scripts,
+            Settings, Shape, Shaped, Steady, Sync, Wiring, Workers,
         };
         match self {
             Self::Plan => ("plan", &[File, Steady, Workers, Quiet], &PLAN),
             Self::Check => ("check", &[Batch, Schedule, Quiet], &CHECK),
-            Self::Draw => ("draw", &[Batch, Schedule, Settings, Quiet], &DRAW),
+            Self::Draw => ("draw", &[Batch, Schedule, Settings, Prices, Quiet], &DRAW),
             Self::Switch => (
                 "switch",
                 &[Batch, Scheduled, Steady, Workers, Wiring, Quiet],

@@ -68,12 +68,13 @@ impl Job {
     {
         match self {
             Job::Plan { file: list, .. } | Job::Direct { moves: list } => of_list(list, None, None),
-            Job::Check { batch, schedule } => of_list(batch, Some(schedule), None),
-            Job::Draw {
+            Job::Check { batch, schedule }
+            | Job::Draw {
                 batch,
                 schedule,
                 ..
-            } => of_list(batch, Some(schedule), None),
+            }
+            | Job::Prices { batch, schedule } => of_list(batch, Some(schedule), None),
             Job::Switch {
                 batch,
                 source,

@@ -68,6 +68,7 @@ fn arg_of<'a>(alloc: Global, argument: Argument) -> Arg<'a>
         Argument::Sync => flag(alloc, "sync", help),
         Argument::ImageOut => option(alloc, "image-out", "FILE", help),
         Argument::Settings => option(alloc, "settings", "A..B", help),
+        Argument::Prices => flag(alloc, "prices", help),
         Argument::Scheduled => option(alloc, "schedule", "FILE", help),
         Argument::Wiring => option(alloc, "wiring", "FILE", help),
         Argument::First => option(alloc, "from", "K", help)

@@ -117,6 +117,17 @@ certificate`. With --settings it has the columns of settings A to B alone, count
 from 0, both of them:
   ./exchange draw BATCH SCHEDULE --settings 0..31 > first.svg
 
+With --prices the answer is no picture, but prices that show how often the switch
+has to change:
+  settings S shown N   each schedule of BATCH with S settings, as many as SCHEDULE
+                       has, changes it N times or more
+  prices P P ..        for each length of a step, from 1 on: the prices of link 0
+                       of modules 0 to 31, then of link 3. They add up to 65536
+                       at most
+A step is a run of settings that join the same pairs of links. Where SCHEDULE
+hasn't the fewest settings, N is 0 and there are no prices.
+examples/check_prices.py checks them. --prices and --settings exclude each other.
+
 Else it is the first of these that is wrong:
   refused file            a file can't be read
   refused settings        A..B isn't two numbers, or A is above B
@@ -125,8 +136,8 @@ Else it is the first of these that is wrong:
   refused check ..        the same, where SCHEDULE is no schedule of BATCH
   refused no setting K    A..B has K, and SCHEDULE doesn't
 
-Status: 0 a picture was printed, 1 it was refused or there was no memory, 2 the
-arguments are wrong, 3 the answer couldn't be written.",
+Status: 0 a picture was printed, or prices, 1 it was refused or there was no
+memory, 2 the arguments are wrong, 3 the answer couldn't be written.",
 };
 
 /// What help says of `switch`.
@@ -630,6 +641,7 @@ pub(crate) fn help_on(argument: Argument) -> &'static str {
         Argument::RecordOut => "The file for the record of all sessions' calls",
         Argument::ImageOut => "The file for the image of the words after all sessions",
         Argument::Settings => "The settings to draw, A to B, counted from 0",
+        Argument::Prices => "Print prices that show how many changes are needed, and no picture",
         Argument::Scheduled => "The file of its schedule, or - for standard input",
         Argument::Wiring => "The file of the board's wiring, or - for standard input",
         Argument::First => "The setting of the schedule to begin with, counted from 0",

@@ -34,6 +34,12 @@ pub enum Job {
         schedule: Text,
         settings: Option<Text>,
     },
+    /// Tell prices that show how often schedules of the batch of a file have to change the switch,
+    /// where they have as many settings as that of another file.
+    Prices {
+        batch: Text,
+        schedule: Text,
+    },
     /// Tell what a run of a schedule of the batch of a file sends the switches, or the one switch
     /// of a board whose wiring a file has. So many workers plan.
     Switch {

@@ -161,10 +161,27 @@ fn check_of(alloc: Global, found: &ArgMatches<'_>) -> Result<Job, Lack>
     })
 }
 
+/// The job of `draw --prices`.
+fn prices_of(alloc: Global, found: &ArgMatches<'_>) -> Result<Job, Lack>
+    requires { IsGiven (codes "prices") (rows_in found.now) }
+    ensures { IsReading (IsJob CommandName.Draw (rows_in found.now)) result }
+{
+    match option_of(alloc, found, "settings")? {
+        Some(_) => Err(Lack::Picture),
+        None => Ok(Job::Prices {
+            batch: text_of(alloc, found, "BATCH")?,
+            schedule: text_of(alloc, found, "SCHEDULE")?,
+        }),
+    }
+}
+
 /// The job of `draw`.
 fn draw_of(alloc: Global, found: &ArgMatches<'_>) -> Result<Job, Lack>
     ensures { IsReading (IsJob CommandName.Draw (rows_in found.now)) result }
 {
+    if is_given(found, "prices") {
+        return prices_of(alloc, found);
+    }
     Ok(Job::Draw {
         batch: text_of(alloc, found, "BATCH")?,
         schedule: text_of(alloc, found, "SCHEDULE")?,
@@ -367,9 +384,9 @@ fn judge(alloc: Global, job: &Job) -> Result<(), Lack>
 /// texts and its number of workers, and whether it is quiet. Other arguments are clap's error of
 /// what is at fault in them, which holds the text to print; a demand for help or for the program's
 /// version is one. So are arguments that fit, but give two of `--workers`, `--steady` and
-/// `--schedule`, or `--resume` or `--sync` without `--record`, or name a job of which several files
-/// are `-`, standard input, clients whose names are no names, or a file to be written that is read
-/// or written too, or that is `-`.
+/// `--schedule`, or `--prices` with `--settings`, or `--resume` or `--sync` without `--record`, or
+/// name a job of which several files are `-`, standard input, clients whose names are no names, or a
+/// file to be written that is read or written too, or that is `-`.
 /// Where there was no memory, nothing is said about the arguments: clap's error of that kind is
 /// [`ArgumentsFault::NoMemory`], too.
 pub fn read_arguments(alloc: Global, arguments: &[String]) -> Result<Request, ArgumentsFault>

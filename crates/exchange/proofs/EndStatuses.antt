@@ -5,7 +5,7 @@ use Rattle.board_wiring.specs.declared.board.Board.{Board}
 use Rattle.clap.specs.Words.{Text}
 use Rattle.command_words.specs.Jobs.{Files}
 use Rattle.command_words.specs.declared.jobs.Job.{Job}
-use Rattle.command_words.specs.declared.jobs.Job.TheVariants.{Apply, C004, Check, Direct, Draw, Drive, Host, Orders, Plan, Replay, Run as RunJob, Serve, Switch as SwitchJob, Talk}
+use Rattle.command_words.specs.declared.jobs.Job.TheVariants.{Apply, C004, Check, Direct, Draw, Drive, Host, Orders, Plan, Prices, Replay, Run as RunJob, Serve, Switch as SwitchJob, Talk}
 use Rattle.command_words.specs.declared.jobs.SharedRack.{SharedRack}
 use Rattle.drive_answers.specs.Answers as drives
 use Rattle.drive_answers.specs.Answers.{IsDriveAnswer}
@@ -21,6 +21,7 @@ use Rattle.named_files.specs.declared.unanswered.Unanswered.TheVariants as why
 use Rattle.plan_answers.specs.Answers as answers
 use Rattle.plan_answers.specs.Directing as directing
 use Rattle.plan_answers.specs.Drawings.{drawn, undrawn}
+use Rattle.plan_answers.specs.Pricing.{priced, unpriced}
 use Rattle.plan_answers.specs.Refusals.{Printed}
 use Rattle.plan_answers.specs.declared.limits.TheConstants.{DONE, REFUSED}
 use Rattle.plan_answers.specs.declared.source.Source.{Source}
@@ -63,6 +64,8 @@ of_text (Check batch schedule) texts printed (answers.shortest count shown text 
 of_text (Check batch schedule) texts printed (answers.refused refusal wrong line) = inr line.status
 of_text (Draw batch schedule chosen) texts printed (least, drawn d so_many done) = inl done
 of_text (Draw batch schedule chosen) texts printed (least, undrawn refusal wrong line) = inr line.status
+of_text (Prices batch schedule) texts printed (priced transfers settings read says done) = inl done
+of_text (Prices batch schedule) texts printed (unpriced refusal wrong line) = inr line.status
 of_text (SwitchJob batch scheduled wiring workers) texts printed is = switched_on (source_in scheduled (text_in texts.other)) (text_in texts.list) texts.wiring printed is
 of_text (Orders batch scheduled only workers) texts printed (ordering.ordered transfers settings is (ordering.told apart told done)) = inl done
 of_text (Orders batch scheduled only workers) texts printed (ordering.ordered transfers settings is (ordering.overlap i j first line)) = inr line.status

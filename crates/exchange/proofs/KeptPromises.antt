@@ -20,7 +20,7 @@ use Rattle.exchange.proofs.PromisedSessions.{AreCallsOf}
 use Rattle.exchange.proofs.PromisedCalls.{are_kept, are_part, are_told, before, behind, clients_come, kept_named, none_begun, none_ended, scripts_come, talk_comes}
 use Rattle.exchange.proofs.PromisedDrives.{keeps_drives, keeps_stops, no_drives, no_stops}
 use Rattle.exchange.proofs.PromisedOthers.{keeps_nothing, keeps_others}
-use Rattle.exchange.proofs.PromisedPictures.{keeps_pictures, no_pictures}
+use Rattle.exchange.proofs.PromisedPictures.{keeps_pictures, keeps_prices, no_pictures, no_prices}
 use Rattle.exchange.proofs.PromisedPlans.{keeps_checks, keeps_directions, keeps_plans, no_checks, no_directions, no_plans}
 use Rattle.exchange.proofs.PromisedRefusals.{keeps_refusals, no_refusals}
 use Rattle.exchange.proofs.PromisedReplays.{keeps_replays, no_replays}
@@ -122,6 +122,7 @@ keeps_all named given ports words prints status files clients scripts_leave live
   stops = keeps_stops named given ports words prints status jobs;
   replies = keeps_replies named given ports words prints status jobs;
   pictures = keeps_pictures _ all;
+  prices = keeps_prices _ all;
   scripts = scripts;
   live = live;
   talks = talks;
@@ -176,6 +177,7 @@ keeps_in_part words named left given out_before out_after code received receipts
         stops = no_stops _ _ _ unwritten;
         replies = no_replies _ unwritten;
         pictures = no_pictures _ unwritten;
+        prices = no_prices _ unwritten;
         scripts = λ rack scripts workers asks written. absurd (written unwritten);
         live = λ rack names workers asks written. absurd (written unwritten);
         talks = λ rack asks written. absurd (written unwritten);

@@ -15,7 +15,7 @@ use Rattle.plan_answers.specs.declared.source.Source.{Source}
 use Rattle.plan_answers.specs.declared.source.Source.TheVariants as source
 use Rattle.command_words.specs.declared.jobs.ArgumentsFault.TheVariants.{Clap}
 use Rattle.command_words.specs.declared.jobs.Job.{Job}
-use Rattle.command_words.specs.declared.jobs.Job.TheVariants.{Plan, Check, Draw, Switch, Orders, Drive, C004, Direct, Apply, Run, Serve, Host, Talk, Replay}
+use Rattle.command_words.specs.declared.jobs.Job.TheVariants.{Plan, Check, Draw, Prices, Switch, Orders, Drive, C004, Direct, Apply, Run, Serve, Host, Talk, Replay}
 use Rattle.command_words.specs.declared.jobs.RecordFile.{RecordFile}
 use Rattle.command_words.specs.declared.jobs.Request.{Request}
 use Rattle.command_words.specs.declared.jobs.SharedRack.{SharedRack}
@@ -100,7 +100,11 @@ job_of_rows rows (Plan f p w) other same x y = absurd (let bad = same in cc)
 job_of_rows rows (Check f s) (Check g t) same x y = rw (text _ f g x.0 y.0, text _ s t x.1 y.1) refl
 job_of_rows rows (Check f s) other same x y = absurd (let bad = same in cc)
 job_of_rows rows (Draw f s r) (Draw g t q) same x y = rw (text _ f g x.0 y.0, text _ s t x.1 y.1, sym x.2 ∙ y.2) refl
+job_of_rows rows (Draw f s r) (Prices g t) same x y = absurd (x.3 y.3)
 job_of_rows rows (Draw f s r) other same x y = absurd (let bad = same in cc)
+job_of_rows rows (Prices f s) (Prices g t) same x y = rw (text _ f g x.0 y.0, text _ s t x.1 y.1) refl
+job_of_rows rows (Prices f s) (Draw g t q) same x y = absurd (y.3 x.3)
+job_of_rows rows (Prices f s) other same x y = absurd (let bad = same in cc)
 job_of_rows rows (Switch f s i w) (Switch g t j v) same x y = rw (text _ f g x.0 y.0, sourced rows s t x.1 y.1, sym x.2 ∙ y.2, workers rows w v x.3 y.3) refl
 job_of_rows rows (Switch f s i w) other same x y = absurd (let bad = same in cc)
 job_of_rows rows (Orders f s m w) (Orders g t n v) same x y = rw (text _ f g x.0 y.0, sourced rows s t x.1 y.1, numeral _ _ rows m n x.2 y.2, workers rows w v x.3 y.3) refl

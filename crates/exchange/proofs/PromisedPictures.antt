@@ -1,17 +1,18 @@
--- The promise of `draw`.
+-- The promises of `draw`.
 use Rattle.std.proofs.Common.{◌≡◌, ◌∙◌, ◌++◌, ℕ, List, length, Option, codes, refl, sym, subst, ap, append_assoc}
 use Rattle.batch.specs.Batches.{IsBatch}
 use Rattle.batch.specs.Extent.{widest}
 use Rattle.batch.specs.declared.transfer.Transfer.{Transfer}
 use Rattle.clap.specs.Words.{Text}
-use Rattle.command_words.specs.declared.jobs.Job.TheVariants.{Draw}
+use Rattle.command_words.specs.declared.jobs.Job.TheVariants.{Draw, Prices}
 use Rattle.exchange.proofs.AskedJobs.{Answers, never_done, not_done, text_done}
 use Rattle.exchange.proofs.HeldFiles.{given_text}
-use Rattle.exchange.specs.Promises.{HasDrawn, IsTitled, KeepsPictures, Run, StandsIn}
+use Rattle.exchange.specs.Promises.{HasDrawn, HasPriced, IsTitled, KeepsPictures, KeepsPrices, Run, StandsIn}
 use Rattle.exchange.specs.Responses.{text_in}
 use Rattle.exchange.specs.declared.limits.TheConstants.{UNWRITTEN}
 use Rattle.link_graph.specs.Certificates.{Naming}
 use Rattle.plan_answers.specs.Drawings.{IsDrawnWith, drawn, undrawn}
+use Rattle.plan_answers.specs.Pricing.{IsPriced, priced, unpriced}
 use Rattle.plan_answers.specs.Refusals.{Printed}
 use Rattle.plan_answers.specs.declared.limits.TheConstants.{DONE}
 use Rattle.schedule_picture.proofs.Fewest.{tells_fewest}
@@ -23,6 +24,7 @@ use Rattle.schedule_picture.specs.RowsText.{headings_text}
 use Rattle.schedule_picture.specs.Verdicts.{IsVerdict}
 use Rattle.schedule_picture.specs.declared.shown.Shown.{Shown}
 use Rattle.schedule_picture.specs.declared.verdict.Verdict.{Verdict}
+use Rattle.steady_schedule.proofs.Prices.{needed_by}
 
 -- what stands in a front of the text
 pub stands_before : (part text more : List ℕ) → StandsIn part text → StandsIn part (text ++ more)
@@ -109,3 +111,32 @@ keeps_pictures run all batch schedule chosen done =
 
 pub no_pictures : (run : Run) → run.status ≡ UNWRITTEN → KeepsPictures run
 no_pictures run unwritten batch schedule chosen done = absurd (not_done run _ unwritten done)
+
+-- ---- prices
+
+priced_so : (run : Run) (batch schedule : Text) (text other : List ℕ) (printed : Printed)
+    → run.holds batch text → run.holds schedule other → run.prints printed.text → printed.status ≡ DONE → IsPriced widest text other printed → HasPriced run batch schedule
+priced_so run batch schedule text other printed held held_schedule prints status (priced transfers settings read says done) =
+    let reads = read.texts.batch_read in
+    let table = says.priced in
+    record {
+      transfers = transfers;
+      settings = settings;
+      named = read.certificate;
+      printed = printed.text;
+      held = record { text = text; held = held; denotes = reads };
+      held_schedule = record { text = other; held = held_schedule; says = read.texts.schedule_read };
+      valid = read.valid;
+      prices = says;
+      needed = needed_by transfers (length settings) table.prices.items table.top table.changes (record { few = reads.few; within = reads.within }) says.table.show;
+      prints = prints;
+    }
+priced_so run batch schedule text other printed held held_schedule prints status (unpriced refusal wrong line) = absurd (never_done printed.status line.status status)
+
+pub keeps_prices : (run : Run) → Answers run → KeepsPrices run
+keeps_prices run all batch schedule done =
+    let is = text_done run (Prices batch schedule) tt all done in
+    priced_so run batch schedule (text_in is.files.list) (text_in is.files.other) is.printed (given_text run.holds batch is.files.list is.held.list) (given_text run.holds schedule is.files.other is.held.other) is.prints (sym is.status ∙ done.1) is.answer
+
+pub no_prices : (run : Run) → run.status ≡ UNWRITTEN → KeepsPrices run
+no_prices run unwritten batch schedule done = absurd (not_done run _ unwritten done)

@@ -11,7 +11,7 @@ use Rattle.board_wiring.specs.Sources.{of_wiring}
 use Rattle.board_wiring.specs.declared.board.Board.{Board}
 use Rattle.command_words.specs.Jobs.{Files}
 use Rattle.command_words.specs.declared.jobs.Job.{Job}
-use Rattle.command_words.specs.declared.jobs.Job.TheVariants.{Apply, Check, Direct, Draw, Orders, Plan, Run as RunJob, Switch as SwitchJob}
+use Rattle.command_words.specs.declared.jobs.Job.TheVariants.{Apply, Check, Direct, Draw, Orders, Plan, Prices, Run as RunJob, Switch as SwitchJob}
 use Rattle.exchange.proofs.AskedJobs.{Answers, IsAnswered}
 use Rattle.exchange.proofs.EndStatuses.{gave_up}
 use Rattle.exchange.proofs.PromisedRights.{drawings_right, switches_right}
@@ -20,6 +20,7 @@ use Rattle.exchange.specs.Responses.{IsOfTexts, IsTextAnswer, source_in, text_in
 use Rattle.exchange.specs.declared.limits.TheConstants.{UNWRITTEN}
 use Rattle.move_directions.proofs.OneReading as moves_reading
 use Rattle.named_files.specs.declared.unanswered.Unanswered.TheVariants as why
+use Rattle.plan_answers.proofs.OneDrawing.{read_right}
 use Rattle.plan_answers.proofs.OneSource.{from_right, right_denoted, right_or_wrong}
 use Rattle.plan_answers.proofs.OneVerdict.{one_verdict}
 use Rattle.plan_answers.proofs.Widest.{widest_fits}
@@ -29,6 +30,7 @@ use Rattle.plan_answers.specs.Directing as directing
 use Rattle.plan_answers.specs.Directing.{of_moves}
 use Rattle.plan_answers.specs.Drawings as drawings
 use Rattle.plan_answers.specs.Drawings.{IsFirstUndrawn, drawn, undrawn}
+use Rattle.plan_answers.specs.Pricing.{priced, unpriced}
 use Rattle.plan_answers.specs.Refusals.{IsRefused, Printed}
 use Rattle.plan_answers.specs.Schedules.{AreRight, IsWrongFrom}
 use Rattle.plan_answers.specs.declared.limits.TheConstants.{DONE, REFUSED}
@@ -77,6 +79,8 @@ wrong_of (Check batch schedule) texts printed alone (answers.shortest count show
 wrong_of (Check batch schedule) texts printed alone (answers.refused refusal wrong line) status = record { refusal = refusal; wrong = wrong; line = line }
 wrong_of (Draw batch schedule chosen) texts printed alone (least, drawn d so_many done) status = absurd (done_is printed.status done status)
 wrong_of (Draw batch schedule chosen) texts printed alone (least, undrawn refusal wrong line) status = record { refusal = refusal; wrong = undrawn_so (text_in texts.list) (text_in texts.other) chosen refusal wrong; line = line }
+wrong_of (Prices batch schedule) texts printed alone (priced transfers settings read says done) status = absurd (done_is printed.status done status)
+wrong_of (Prices batch schedule) texts printed alone (unpriced refusal wrong line) status = record { refusal = refusal; wrong = wrong; line = line }
 wrong_of (SwitchJob batch scheduled wiring workers) texts printed alone is status = switched_on (source_in scheduled (text_in texts.other)) (text_in texts.list) texts.wiring printed is status
 wrong_of (Orders batch scheduled only workers) texts printed alone (ordering.ordered transfers settings is (ordering.told apart told done)) status = absurd (done_is printed.status done status)
 wrong_of (Orders batch scheduled only workers) texts printed alone (ordering.ordered transfers settings is (ordering.overlap i j first line)) status =
@@ -129,6 +133,7 @@ not_right : (job : Job) (texts : Files (List ℕ)) (refusal : Refusal) → IsFir
 not_right (Plan file planning workers) texts refusal wrong right = batch_reading.apart widest widest_fits (text_in texts.list) right.0 wrong.0 right.1 wrong.1
 not_right (Check batch schedule) texts refusal wrong right = checks_right (text_in texts.list) (text_in texts.other) right.0 right.1 refusal right.2 right.3 wrong
 not_right (Draw batch schedule chosen) texts refusal wrong right = drawings_right (text_in texts.list) (text_in texts.other) chosen refusal right wrong
+not_right (Prices batch schedule) texts refusal wrong right = read_right widest widest_fits (text_in texts.list) (text_in texts.other) right.0 right.1 refusal right.2 wrong
 not_right (SwitchJob batch scheduled wiring workers) texts refusal wrong right = switches_right (source_in scheduled (text_in texts.other)) (text_in texts.list) texts.wiring refusal right wrong
 not_right (Orders batch scheduled only workers) texts refusal wrong right = orders_right (source_in scheduled (text_in texts.other)) (text_in texts.list) right.0 refusal right.1 right.2 wrong
 not_right (Direct moves) texts refusal wrong right = moves_reading.apart (text_in texts.list) right.0 wrong.0 right.1 wrong.1
@@ -142,6 +147,7 @@ of_texts : (job : Job) → IsOfTextsAlone job → IsOfTexts job
 of_texts (Plan file planning workers) alone = tt
 of_texts (Check batch schedule) alone = tt
 of_texts (Draw batch schedule chosen) alone = tt
+of_texts (Prices batch schedule) alone = tt
 of_texts (SwitchJob batch scheduled wiring workers) alone = tt
 of_texts (Orders batch scheduled only workers) alone = tt
 of_texts (Direct moves) alone = tt

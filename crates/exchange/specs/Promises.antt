@@ -21,7 +21,7 @@ use Rattle.clap.specs.Words.{IsAmong, Text}
 use Rattle.clap.specs.declared.error.kind.ErrorKind.TheVariants.{DisplayHelp, DisplayVersion}
 use Rattle.command_words.specs.Jobs.{AskFor, Files, faults_of, files_of, input_name, recorded_in}
 use Rattle.command_words.specs.declared.jobs.Job.{Job}
-use Rattle.command_words.specs.declared.jobs.Job.TheVariants.{Apply, C004, Check, Direct, Draw, Drive, Host, Orders, Plan, Replay, Run as RunJob, Serve, Switch as SwitchJob, Talk}
+use Rattle.command_words.specs.declared.jobs.Job.TheVariants.{Apply, C004, Check, Direct, Draw, Drive, Host, Orders, Plan, Prices, Replay, Run as RunJob, Serve, Switch as SwitchJob, Talk}
 use Rattle.crossbar.specs.Pairs.{switch_of}
 use Rattle.crossbar.specs.Switch.{Switch, after_all, answers, enquiries, idle}
 use Rattle.crossbar.specs.declared.board.BoardWiring.{BoardWiring}
@@ -46,6 +46,7 @@ use Rattle.move_directions.specs.Text.{Denotes as DenotesMoves}
 use Rattle.named_files.specs.Contents.{Holding}
 use Rattle.link_graph.specs.declared.link.End.{End}
 use Rattle.plan_answers.specs.Drawings.{AreShown, AreWanted}
+use Rattle.plan_answers.specs.Pricing.{SaysPrices}
 use Rattle.plan_answers.specs.declared.limits.TheConstants.{DONE, REFUSED}
 use Rattle.plan_answers.specs.declared.setting_range.SettingRange.{SettingRange}
 use Rattle.schedule_picture.specs.Laws.{AreFewest, CellsOverlap, IsDrawnAt}
@@ -59,6 +60,7 @@ use Rattle.plan_answers.specs.declared.source.Source.TheVariants as source
 use Rattle.rack_answers.specs.Reports.{report_for}
 use Rattle.rack_answers.specs.Switching.{lines_on}
 use Rattle.steady_schedule.specs.Needs.{ChangesAtNeed}
+use Rattle.steady_schedule.specs.Prices.{AreNeeded}
 use Rattle.switch_settings.specs.Racks.{is_wide}
 use Rattle.switch_settings.specs.Settings.{numbers_in, setting_pairs}
 use Rattle.batch.specs.Faults.{IsFirstFault}
@@ -702,6 +704,24 @@ KeepsPictures run =
     (batch schedule : Text) (chosen : Option Text) → HasDone run (Draw batch schedule chosen)
     → HasDrawn run batch schedule chosen
 
+-- The files held a batch and a schedule of it. Printed was a table of prices, with how many changes
+-- they show, and nothing else. Each schedule of the batch with as many settings has so many.
+pub record HasPriced (run : Run) (batch schedule : Text) : Type 0 where
+  pub transfers : List Transfer
+  pub settings : List (List ℕ)
+  pub named : Option Naming
+  pub printed : List ℕ
+  pub held : HoldsBatch run batch transfers
+  pub held_schedule : HoldsSettings run schedule settings named
+  pub valid : IsScheduleOf transfers settings
+  pub prices : SaysPrices transfers (length settings) printed
+  pub needed : AreNeeded transfers (length settings) prices.priced.changes
+  pub prints : run.prints printed
+
+abbrev pub KeepsPrices : Run → Type 0
+KeepsPrices run =
+    (batch schedule : Text) → HasDone run (Prices batch schedule) → HasPriced run batch schedule
+
 -- ---- 8: clients
 
 -- the words with which a rack of sessions begins: those of the image in this file; or, without one,
@@ -1094,6 +1114,7 @@ abbrev pub IsOfTextsAlone : Job → Type 0
 IsOfTextsAlone (Plan file planning workers) = ⊤
 IsOfTextsAlone (Check batch schedule) = ⊤
 IsOfTextsAlone (Draw batch schedule chosen) = ⊤
+IsOfTextsAlone (Prices batch schedule) = ⊤
 IsOfTextsAlone (SwitchJob batch scheduled wiring workers) = ⊤
 IsOfTextsAlone (Orders batch scheduled only workers) = ⊤
 IsOfTextsAlone (Direct moves) = ⊤
@@ -1129,6 +1150,8 @@ IsFirstWrongIn (Check batch schedule) texts refusal =
     IsFirstWrong widest (text_in texts.list) (text_in texts.other) refusal
 IsFirstWrongIn (Draw batch schedule chosen) texts refusal =
     IsFirstWrongDrawn (text_in texts.list) (text_in texts.other) chosen refusal
+IsFirstWrongIn (Prices batch schedule) texts refusal =
+    IsInvalid widest (text_in texts.list) (text_in texts.other) refusal
 IsFirstWrongIn (SwitchJob batch scheduled wiring workers) texts refusal =
     IsFirstWrongOn (source_in scheduled (text_in texts.other)) (text_in texts.list)
     texts.wiring 0 refusal
@@ -1182,6 +1205,9 @@ AreRightTexts (Check batch schedule) texts =
     × IsShown transfers (text_in texts.other) count
 AreRightTexts (Draw batch schedule chosen) texts =
     CanBeDrawn (text_in texts.list) (text_in texts.other) chosen
+AreRightTexts (Prices batch schedule) texts =
+    (transfers : List Transfer) × (settings : List (List ℕ))
+    × IsScheduleRead widest (text_in texts.list) (text_in texts.other) transfers settings
 AreRightTexts (SwitchJob batch scheduled wiring workers) texts =
     CanBeSwitched (source_in scheduled (text_in texts.other)) (text_in texts.list) texts.wiring
 AreRightTexts (Orders batch scheduled only workers) texts =
@@ -1306,6 +1332,7 @@ pub record KeepsAll (run : Run) (before after : Ways) (kept : Kept) (clients : C
   pub stops : KeepsStops run before after
   pub replies : KeepsReplies run
   pub pictures : KeepsPictures run
+  pub prices : KeepsPrices run
   pub scripts : KeepsScripts run kept scripts_leave
   pub live : KeepsClients run kept clients live_leave
   pub talks : KeepsTalks run kept live_leave

@@ -7,6 +7,7 @@ use Rattle.rack_answers.specs.Answers.{IsApplied, IsRunAnswer}
 use Rattle.rack_answers.specs.Orders.{IsOrdered}
 use Rattle.rack_answers.specs.Switching.{IsOn, IsSwitched}
 use Rattle.plan_answers.specs.Drawings.{IsDrawn}
+use Rattle.plan_answers.specs.Pricing.{IsPriced}
 use Rattle.plan_answers.specs.Directing.{IsDirected}
 use Rattle.plan_answers.specs.Schedules.{source_map}
 use Rattle.plan_answers.specs.declared.source.Source.{Source}
@@ -21,7 +22,7 @@ use Rattle.record_replay.specs.ReplayAnswers.{IsReplayPrinted}
 use Rattle.plan_answers.specs.declared.limits.TheConstants.{DONE, REFUSED}
 use Rattle.command_words.specs.Jobs.{Files, file_uses, files_of}
 use Rattle.command_words.specs.declared.jobs.Job.{Job}
-use Rattle.command_words.specs.declared.jobs.Job.TheVariants.{Plan, Check, Draw, Switch, Orders, Drive, C004, Direct, Apply, Run, Serve, Host, Talk, Replay}
+use Rattle.command_words.specs.declared.jobs.Job.TheVariants.{Plan, Check, Draw, Prices, Switch, Orders, Drive, C004, Direct, Apply, Run, Serve, Host, Talk, Replay}
 use Rattle.named_files.specs.Apart.{AreSeenApart, Leading}
 use Rattle.named_files.specs.Contents.{AreContents, Holding}
 use Rattle.drive_answers.specs.Ways.{Ways}
@@ -78,6 +79,8 @@ IsTextAnswer (Check batch schedule) files end =
     IsChecked widest (text_in files.list) (text_in files.other) end
 IsTextAnswer (Draw batch schedule settings) files end =
     IsDrawn widest (text_in files.list) (text_in files.other) settings end
+IsTextAnswer (Prices batch schedule) files end =
+    IsPriced widest (text_in files.list) (text_in files.other) end
 IsTextAnswer (Switch batch source wiring workers) files end =
     IsOn (λ board. IsSwitched (source_in source (text_in files.other)) board
     (text_in files.list)) files.wiring end

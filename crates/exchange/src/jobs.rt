@@ -34,7 +34,7 @@ use named_files::{
     Contents, Lost, NoAnswer, Outputs, Receipts, Runtime, System, Unwritten, open_apart,
     read_contents, reason_line, slice_of, source_with, tell_note, text_of,
 };
-use plan_answers::{Answer, answer_check, answer_direct, answer_draw, answer_plan};
+use plan_answers::{Answer, answer_check, answer_direct, answer_draw, answer_plan, answer_prices};
 use rack_answers::{answer_apply, answer_orders, answer_run, answer_switch};
 use record_replay::answer_replay;
 use std::alloc::{AllocError, Global};
@@ -375,6 +375,7 @@ fn answer_texts<R: AllocGlobal + Threads + Sync>(
             let range = bytes_in(settings);
             Ok(Found::alone(answer_draw(alloc, list, other, range)?))
         }
+        Job::Prices { .. } => Ok(Found::alone(answer_prices(alloc, list, other)?)),
         Job::Switch {
             source,
             workers,

@@ -70,6 +70,7 @@ fn said_by(job: &Job) -> Said<'_> {
         | Job::Host { workers, .. } => Said::Workers(workers.get()),
         Job::Check { .. }
         | Job::Draw { .. }
+        | Job::Prices { .. }
         | Job::C004
         | Job::Direct { .. }
         | Job::Talk { .. }

@@ -16,6 +16,11 @@ returns-in_ok-answer_draw-in-Draw g c =
     let files = contents_in c.args.contents.now in
     rw c.in-Draw.is (rw c.alone-in-Draw.ensures (rw (c.text_of-list.ensures, c.text_of-other.ensures, c.bytes_in-range.ensures) at c.in_ok-answer_draw-in-Draw.ensures.drawn))
 
+pub returns-in_ok-answer_prices-in-Prices : goal.returns-in_ok-answer_prices-in-Prices
+returns-in_ok-answer_prices-in-Prices g c =
+    let files = contents_in c.args.contents.now in
+    rw c.in-Prices.is (rw c.alone-in-Prices.ensures (rw (c.text_of-list.ensures, c.text_of-other.ensures) at c.in_ok-answer_prices-in-Prices.ensures))
+
 pub returns-in_ok-answer-in-Switch : goal.returns-in_ok-answer-in-Switch
 returns-in_ok-answer-in-Switch g c =
     let files = contents_in c.args.contents.now in
