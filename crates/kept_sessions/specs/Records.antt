@@ -1,5 +1,5 @@
 -- How the record of live sessions begins, and what its file holds.
-use Rattle.std.specs.Prelude.{◌≡◌, ◌≢◌, ◌⊎◌, ◌++◌, ◌+◌, ◌==◌, ℕ, Bool, true, false, List, Option, Some, None, IfSome, MatchOption, [], count_by, length}
+use Rattle.std.specs.Prelude.{◌≡◌, ◌≢◌, ◌⊎◌, ◌++◌, ◌+◌, ◌==◌, ℕ, Bool, true, false, List, Option, Some, None, IfSome, MatchOption, [], count_by, length, slice_get, take}
 use Rattle.clap.specs.Words.{Text}
 use Rattle.batch.specs.Text.{line_feed}
 use Rattle.module_memory.specs.Images.{image_of}
@@ -74,6 +74,12 @@ abbrev pub BeginsFor : Holding → Option RecordFile → Store → List Text →
 BeginsFor holds None opening names was = was ≡ new_account opening
 BeginsFor holds (Some out) opening names was =
     (held : List ℕ) × holds out.name held × BeginsAs out.resumes held opening names was
+
+-- two texts begin with the same bytes, so many, and then one has another, or has ended
+abbrev pub IsCommonFront : List ℕ → List ℕ → ℕ → Type 0
+IsCommonFront one other n =
+    (take n one ≡ take n other)
+    × ((byte : ℕ) → slice_get one n ≡ Some byte → slice_get other n ≢ Some byte)
 
 -- what is wrong with a record that is to have this head, by which the numbers of its sessions are
 -- below this: it has another, or this is wrong behind it

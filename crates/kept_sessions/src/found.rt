@@ -10,7 +10,8 @@ use record_replay::{RecordError, Replayed, Torn};
 #[derive(Drop)]
 pub struct Found {
     pub answer: Answer,
-    /// Where a record is wrong, and what is due there, where it is refused.
+    /// Where a record is wrong, and what is due there, where it is refused. Where sessions can't go
+    /// on with its head, that is the head of their own.
     pub error: Option<RecordError>,
     /// What the file of that held, where sessions were to go on with it.
     pub held: Option<Vec<u8>>,

@@ -1,14 +1,15 @@
 //! How the record of live sessions begins.
 
-ghost use Rattle.std.specs.Prelude.{◌≡◌, ◌==◌, ◌⊎◌, [], ◌≤◌, ◌+◌, ◌++◌, ◌-◌, IfErr, IfOk, true, count_by, drop, length, map, take};
+ghost use Rattle.std.specs.Prelude.{◌≡◌, ◌==◌, ◌⊎◌, [], ◌≤◌, ◌+◌, ◌++◌, ◌-◌, IfErr, IfOk, Some, true, count_by, drop, length, map, take};
 ghost use Rattle.batch.specs.Text.{IsNumber, line_feed};
 ghost use Rattle.batch_book.specs.History.{new_account};
 ghost use Rattle.book_record.specs.Heads.{session_limit};
 ghost use Rattle.record_replay.specs.ReplayAnswers.{of_record};
+ghost use Rattle.record_replay.specs.declared.fault.RecordFault.TheVariants.{Head};
 ghost use Rattle.named_files.specs.Notes.{IsRefused};
 ghost use Rattle.kept_sessions.specs.Live.{IsReady};
 ghost use Rattle.kept_sessions.specs.Outcomes.{IsUnbegun, IsUnremade};
-ghost use Rattle.kept_sessions.specs.Records.{BeginsAs, IsCutFrom, IsCutOf, IsResumed, head_for, record_front};
+ghost use Rattle.kept_sessions.specs.Records.{BeginsAs, IsCommonFront, IsCutFrom, IsCutOf, IsResumed, head_for, record_front};
 
 use crate::found::Cut;
 use batch_book::{Book, Silent};
@@ -128,6 +129,33 @@ fn wrong_behind(head: usize, error: RecordError) -> Unbegun
     })
 }
 
+/// How many bytes two texts have at their beginning that are the same.
+fn common_front(one: &[u8], other: &[u8]) -> usize
+    ensures { IsCommonFront one.now other.now result }
+{
+    for n in 0..one.len() {
+        match other.get(n) {
+            Some(byte) if *byte == one[n] => {}
+            _ => return n,
+        }
+    }
+    one.len()
+}
+
+/// What is wrong with a record that has another head than this: all from the first byte on that
+/// differs. The head is what is due.
+fn other_head(held: &[u8], head: Vec<u8>) -> RecordError
+    ensures fault { result.fault ≡ Head }
+    ensures due { result.due ≡ Some head }
+    ensures offset { IsCommonFront held.now head.items result.offset }
+{
+    RecordError {
+        fault: RecordFault::Head,
+        offset: common_front(held, head.as_slice()),
+        due: Some(head),
+    }
+}
+
 /// The book of the entries that stand behind this head, which is that of the rack's record, and by
 /// which the numbers of sessions are below this; and how many bytes the head and they have.
 fn resume<R: Threads + Sync>(
@@ -135,22 +163,18 @@ fn resume<R: Threads + Sync>(
     alloc: Global,
     rack: Rack,
     held: &[u8],
-    head: &[u8],
+    head: Vec<u8>,
     limit: usize,
     workers: WorkerCount,
 ) -> Result<(Book<Silent>, usize), Unbegun>
-    ensures resumed { IfOk result (λ r. (resumed : IsResumed limit held.now head.now rack r.0)
+    ensures resumed { IfOk result (λ r. (resumed : IsResumed limit held.now head.items rack r.0)
         × (r.1 ≡ length held.now - length resumed.rest)) }
     ensures whole { IfOk result (λ r. r.0.whole ≡ true) }
     ensures all { IfOk result (λ r. r.0.stands ≡ r.0.history) }
-    ensures unbegun { IfErr result (IsUnbegun true limit held.now head.now rack) }
+    ensures unbegun { IfErr result (IsUnbegun true limit held.now head.items rack) }
 {
-    let Some(text) = behind(held, head) else {
-        return Err(Unbegun::Wrong(RecordError {
-            fault: RecordFault::Head,
-            offset: 0,
-            due: None,
-        }));
+    let Some(text) = behind(held, head.as_slice()) else {
+        return Err(Unbegun::Wrong(other_head(held, head)));
     };
     match replay(rt, alloc, rack, text, limit, None, workers) {
         Ok(Remade { book, rest, .. }) => {
@@ -228,7 +252,7 @@ pub(crate) fn begin<R: Threads + Sync>(
         return Err(Unbegun::Missed(holds_more(alloc, name)));
     }
     let limit = session_limit(names.len());
-    let (book, kept) = resume(rt, alloc, rack, held, head.as_slice(), limit, workers)?;
+    let (book, kept) = resume(rt, alloc, rack, held, head, limit, workers)?;
     Ok(Begun {
         book,
         kept,

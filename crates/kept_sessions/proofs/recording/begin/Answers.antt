@@ -14,7 +14,7 @@ returns-then-starts_with-clause-begins g c =
 pub returns-clause-front : goal.returns-clause-front
 returns-clause-front g c =
     let t = c.in_ok-book.ensures.resumed in
-    resumed_front c.session_limit-limit.result c.args.held.now c.as_slice-2.result.now c.args.rack c.args.names.now c.in_ok-book.book c.in_ok-book.kept c.new.result.items (c.as_slice-2.ensures.value ∙ c.in_ok-head.ensures) t.0 t.1 c.new.ensures.items
+    resumed_front c.session_limit-limit.result c.args.held.now c.in_ok-head.head.items c.args.rack c.args.names.now c.in_ok-book.book c.in_ok-book.kept c.new.result.items c.in_ok-head.ensures t.0 t.1 c.new.ensures.items
 
 pub returns-then-starts_with-clause-cut : goal.returns-then-starts_with-clause-cut
 returns-then-starts_with-clause-cut g c =
@@ -28,5 +28,5 @@ returns-clause-cut g c =
     let held = c.args.held.now in
     let t = c.in_ok-book.ensures.resumed in
     let kept = c.in_ok-book.kept in
-    let front = resumed_front c.session_limit-limit.result held c.as_slice-2.result.now c.args.rack c.args.names.now c.in_ok-book.book kept [] (c.as_slice-2.ensures.value ∙ c.in_ok-head.ensures) t.0 t.1 refl in
+    let front = resumed_front c.session_limit-limit.result held c.in_ok-head.head.items c.args.rack c.args.names.now c.in_ok-book.book kept [] c.in_ok-head.ensures t.0 t.1 refl in
     cut_from held _ kept c.cut_of.result (sym (append-nil (take kept held)) ∙ front) c.cut_of.ensures
