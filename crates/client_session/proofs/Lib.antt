@@ -3,7 +3,6 @@ pub mod Parts
 pub mod Known
 pub mod Asking
 pub mod Lists
-pub mod Lines
 pub mod Listening
 pub mod Taken
 mod Calling

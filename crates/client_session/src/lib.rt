@@ -34,6 +34,6 @@ mod turns;
 pub use asked_reader::{AskedReader, CountedReader};
 pub use command::SessionCommand;
 pub use fault::ServeFault;
-pub use limits::{COMMAND_ROOM, HELD_BYTES, INPUT_BYTES, LINE_BYTES, MAX_READS, REPLY_ROOM};
+pub use limits::{COMMAND_ROOM, HELD_BYTES, INPUT_BYTES, LINE_BYTES, MAX_READS};
 pub use listener::{Listener, NoListener};
 pub use serving::serve;

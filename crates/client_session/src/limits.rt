@@ -12,8 +12,5 @@ pub const MAX_READS: usize = 1_000_000;
 /// How many bytes the line of a command may have, without its line feed.
 pub const COMMAND_ROOM: usize = 43;
 
-/// Room for a reply line, whatever it says, in bytes.
-pub const REPLY_ROOM: usize = 1536;
-
 /// How many bytes of reply lines a session holds at most: a hundred short lines, and a long one.
 pub const HELD_BYTES: usize = 6144;

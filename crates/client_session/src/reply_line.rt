@@ -2,13 +2,10 @@
 //! something else than a reader and a writer.
 
 ghost use Rattle.std.specs.Prelude.{◌≡◌, [], ◌≤◌, ◌<◌, ◌+◌, ◌*◌, ◌++◌, length, flat_map, codes, IfSome};
-ghost use Rattle.client_session.specs.declared.limits.TheConstants.{REPLY_ROOM};
-ghost use Rattle.line_words.specs.declared.limits.TheConstants.{LINE_ROOM};
 ghost use Rattle.refusals.specs.Refusals.{refusal_line};
 ghost use Rattle.client_session.specs.Steps.{CanBeTold};
 ghost use Rattle.client_session.specs.Replies.{cause_words, state_words, moved_words, ran_words, stopped_words, reply_line, progress_line, with_feed};
 
-use crate::limits::REPLY_ROOM;
 use crate::sources::{of_book, of_run};
 use batch::{MAX_MODULES, MAX_TRANSFERS, MAX_WORDS};
 use batch_book::{BatchState, Reading, Reply};
@@ -64,7 +61,7 @@ fn put_moved(line: &mut Line, moved: &[(u16, u16)])
     }
 }
 
-/// Puts what is told of a stop, without a line feed.
+/// Puts what is told of a stop, without a line feed, into an empty line.
 pub fn put_stopped(
     line: &mut Line,
     id: usize,
@@ -73,14 +70,17 @@ pub fn put_stopped(
     cause: StopCause,
     moved: &[(u16, u16)],
 )
-    requires room { length line.old + REPLY_ROOM ≤ LINE_ROOM }
+    requires empty { length line.old ≡ 0 }
     requires few { length moved.now ≤ MAX_MODULES }
     ensures text { line.new ≡ line.old ++ stopped_words id run setting cause moved.now }
     ensures room { length line.new < LINE_ROOM }
 {
-    line.put_numbered(b"stopped ", id);
-    line.put_numbered(b" run ", run);
-    line.put_numbered(b" setting ", setting);
+    line.put(b"stopped ");
+    line.put_number(id as u64);
+    line.put(b" run ");
+    line.put_number(run as u64);
+    line.put(b" setting ");
+    line.put_number(setting as u64);
     line.put(b" ");
     put_cause(line, cause);
     line.put(b" moved");
@@ -89,121 +89,41 @@ pub fn put_stopped(
 
 /// Puts what is told of a run that completed.
 fn put_ran(line: &mut Line, id: usize, run: usize, settings: usize, words: usize)
-    requires room { length line.old + REPLY_ROOM ≤ LINE_ROOM }
+    requires empty { length line.old ≡ 0 }
     requires few { words ≤ MAX_TRANSFERS * MAX_WORDS }
     ensures text { line.new ≡ line.old ++ ran_words id run settings words }
     ensures room { length line.new < LINE_ROOM }
 {
-    line.put_numbered(b"ran ", id);
-    line.put_numbered(b" run ", run);
-    line.put_numbered(b" settings ", settings);
-    line.put_numbered(b" words ", words);
+    line.put(b"ran ");
+    line.put_number(id as u64);
+    line.put(b" run ");
+    line.put_number(run as u64);
+    line.put(b" settings ");
+    line.put_number(settings as u64);
+    line.put(b" words ");
+    line.put_number(words as u64);
     line.put(b" bits ");
     line.put_number(line_bits(words as u64));
 }
 
-/// Puts the line of a reply to a command that names this batch, or to one that names none. Gives
-/// the refusal that it says, where it says one.
-fn put_reply(line: &mut Line, id: usize, reply: &Reply) -> Option<Refusal>
-    requires room { length line.old + REPLY_ROOM ≤ LINE_ROOM }
-    requires can { CanBeTold reply.now }
-    ensures text { line.new ≡ line.old ++ reply_line id reply.now }
-    ensures refusal { IfSome result (λ why. reply_line id reply.now ≡ refusal_line why) }
-{
-    match reply {
-        Reply::Accepted(new) => {
-            line.put(b"accepted ");
-            line.put_number(*new as u64);
-        }
-        Reply::Fetched(_) => unreachable!(),
-        Reply::Settled { settings } => {
-            line.put(b"planned ");
-            line.put_number(id as u64);
-            line.put(b" settings ");
-            line.put_number(*settings as u64);
-        }
-        Reply::Ran {
-            run,
-            settings,
-            words,
-        } => put_ran(line, id, *run, *settings, *words),
-        Reply::Stopped {
-            run,
-            setting,
-            cause,
-            moved,
-        } => put_stopped(line, id, *run, *setting, *cause, moved.as_slice()),
-        Reply::RunRefused(why) => return Some(put_refusal(line, of_run(*why))),
-        Reply::Shown { transfers, state } => {
-            line.put(b"batch ");
-            line.put_number(id as u64);
-            line.put(b" transfers ");
-            line.put_number(*transfers as u64);
-            line.put(b" ");
-            line.put(state_text(*state));
-        }
-        Reply::Discarded => {
-            line.put(b"dropped ");
-            line.put_number(id as u64);
-        }
-        Reply::Word(word) => {
-            line.put(b"word ");
-            line.put_hex8(*word);
-        }
-        Reply::Poked => line.put(b"poked"),
-        Reply::Refused(why) => return Some(put_refusal(line, of_book(*why))),
-    }
-    line.put(b"\n");
-    None
-}
-
-/// Puts the line of a refusal, and gives the refusal.
-fn put_refusal(line: &mut Line, refusal: Refusal) -> Refusal
-    requires { length line.old + REPLY_ROOM ≤ LINE_ROOM }
-    ensures text { line.new ≡ line.old ++ refusal_line refusal }
-    ensures same { result ≡ refusal }
-{
-    refusal.put(line);
-    refusal
-}
-
-/// Puts the line of a reading of the progress word.
-fn put_progress(line: &mut Line, reading: Reading)
-    requires { length line.old + REPLY_ROOM ≤ LINE_ROOM }
-    ensures { line.new ≡ line.old ++ progress_line reading }
-{
-    line.put(b"progress run ");
-    line.put_number(reading.run);
-    line.put(b" done ");
-    line.put_number(reading.done);
-    line.put(b"\n");
-}
-
 /// A reply line, and the refusal that it says, where it says one.
 ///
-/// A session lends one to what does a command, since it would cost more to hand it about. What it
-/// says one after another stands in one text, as long as there is room, since a new text costs more.
+/// A session lends one to what does a command, since it would cost more to hand it about.
 #[derive(Drop)]
 pub struct ReplyLine {
-    text: Line,
-    // Where the line begins. Those before it stand in front of that.
-    start: usize,
+    line: Line,
     refusal: Option<Refusal>,
 }
 
 impl Model for ReplyLine {
-    ghost use Rattle.std.specs.Prelude.{◌≡◌, ◌≤◌, ◌+◌, ℕ, List, IfSome, drop, length};
-    ghost use Rattle.line_words.specs.declared.limits.TheConstants.{LINE_ROOM};
+    ghost use Rattle.std.specs.Prelude.{◌≡◌, ℕ, List, IfSome};
     ghost use Rattle.refusals.specs.Refusals.{refusal_line};
-    ghost use Rattle.client_session.specs.declared.limits.TheConstants.{REPLY_ROOM};
 
     ghost Value = { List ℕ };
 
-    ghost view = { λ reply. drop reply.start reply.text };
+    ghost view = { λ reply. reply.line };
 
-    ghost invariant = { λ reply. (reply.start ≤ length reply.text)
-        × (reply.start + REPLY_ROOM ≤ LINE_ROOM)
-        × IfSome reply.refusal (λ why. drop reply.start reply.text ≡ refusal_line why) };
+    ghost invariant = { λ reply. IfSome reply.refusal (λ why. reply.line ≡ refusal_line why) };
 }
 
 impl ReplyLine {
@@ -212,8 +132,7 @@ impl ReplyLine {
         ensures { result ≡ [] }
     {
         ReplyLine {
-            text: Line::new(),
-            start: 0,
+            line: Line::new(),
             refusal: None,
         }
     }
@@ -222,13 +141,7 @@ impl ReplyLine {
     pub(crate) fn clear(&mut self)
         ensures { self.new ≡ [] }
     {
-        let end = self.text.as_bytes().len();
-        if end <= LINE_ROOM - REPLY_ROOM {
-            self.start = end;
-        } else {
-            self.text = Line::new();
-            self.start = 0;
-        }
+        self.line.clear();
         self.refusal = None;
     }
 
@@ -237,7 +150,8 @@ impl ReplyLine {
         requires { self.old ≡ [] }
         ensures { self.new ≡ refusal_line refusal }
     {
-        self.refusal = Some(put_refusal(&mut self.text, refusal));
+        refusal.put(&mut self.line);
+        self.refusal = Some(refusal);
     }
 
     /// Puts the line of a reply to a command that names this batch, or to one that names none.
@@ -246,7 +160,52 @@ impl ReplyLine {
         requires can { CanBeTold reply.now }
         ensures { self.new ≡ reply_line id reply.now }
     {
-        self.refusal = put_reply(&mut self.text, id, reply);
+        let line = &mut self.line;
+        match reply {
+            Reply::Accepted(new) => {
+                line.put(b"accepted ");
+                line.put_number(*new as u64);
+            }
+            Reply::Fetched(_) => unreachable!(),
+            Reply::Settled { settings } => {
+                line.put(b"planned ");
+                line.put_number(id as u64);
+                line.put(b" settings ");
+                line.put_number(*settings as u64);
+            }
+            Reply::Ran {
+                run,
+                settings,
+                words,
+            } => put_ran(line, id, *run, *settings, *words),
+            Reply::Stopped {
+                run,
+                setting,
+                cause,
+                moved,
+            } => put_stopped(line, id, *run, *setting, *cause, moved.as_slice()),
+            Reply::RunRefused(why) => return self.refuse(of_run(*why)),
+            Reply::Shown { transfers, state } => {
+                line.put(b"batch ");
+                line.put_number(id as u64);
+                line.put(b" transfers ");
+                line.put_number(*transfers as u64);
+                line.put(b" ");
+                line.put(state_text(*state));
+            }
+            Reply::Discarded => {
+                line.put(b"dropped ");
+                line.put_number(id as u64);
+            }
+            Reply::Word(word) => {
+                line.put(b"word ");
+                line.put_hex8(*word);
+            }
+            Reply::Poked => line.put(b"poked"),
+            Reply::Refused(why) => return self.refuse(of_book(*why)),
+        }
+        line.put(b"\n");
+        self.refusal = None;
     }
 
     /// Puts the line of a reading of the progress word.
@@ -254,7 +213,12 @@ impl ReplyLine {
         requires { self.old ≡ [] }
         ensures { self.new ≡ progress_line reading }
     {
-        put_progress(&mut self.text, reading);
+        let line = &mut self.line;
+        line.put(b"progress run ");
+        line.put_number(reading.run);
+        line.put(b" done ");
+        line.put_number(reading.done);
+        line.put(b"\n");
         self.refusal = None;
     }
 
@@ -263,7 +227,7 @@ impl ReplyLine {
         requires { self.old ≡ [] }
         ensures { self.new ≡ with_feed (codes "bye") }
     {
-        self.text.put(b"bye\n");
+        self.line.put(b"bye\n");
         self.refusal = None;
     }
 
@@ -272,7 +236,7 @@ impl ReplyLine {
         ensures line { result.now ≡ self.now }
         ensures room { length self.now ≤ LINE_ROOM }
     {
-        &self.text.as_bytes()[self.start..]
+        self.line.as_bytes()
     }
 
     /// The refusal that it says, where it says one.

@@ -45,6 +45,13 @@ impl Line {
         }
     }
 
+    /// No bytes again.
+    pub fn clear(&mut self)
+        ensures { self.new ≡ [] }
+    {
+        self.len = 0;
+    }
+
     /// The bytes.
     pub fn as_bytes(&self) -> &[u8]
         ensures bytes { result.now ≡ self.now }
@@ -67,9 +74,9 @@ impl Line {
         requires { length self.old + length text.now ≤ LINE_ROOM }
         ensures { self.new ≡ self.old ++ text.now }
     {
-        for byte in text {
-            self.push(*byte);
-        }
+        let end = self.len + text.len();
+        self.bytes[self.len..end].copy_from_slice(text);
+        self.len = end;
     }
 
     /// Puts the digits of a number behind the others.
