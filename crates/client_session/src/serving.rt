@@ -99,11 +99,10 @@ fn is_quick(input: &Input, n: usize) -> bool
     requires { n ≤ length input.now.pending }
 {
     let line = &input.pending()[..n];
-    if line.starts_with(b"r") || line.starts_with(b"pl") {
-        return false;
-    }
-    if !line.starts_with(b"ba") {
-        return true;
+    match line {
+        [b'r', ..] | [b'p', b'l', ..] => return false,
+        [b'b', b'a', ..] => {}
+        _ => return true,
     }
     match SessionCommand::read(line) {
         Some(SessionCommand::Batch(count)) => input.has_lines(count),
