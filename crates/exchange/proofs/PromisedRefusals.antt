@@ -19,7 +19,6 @@ use Rattle.exchange.specs.Promises.{AreRightTexts, CanBeRun, HasRefused, IsFirst
 use Rattle.exchange.specs.Responses.{IsOfTexts, IsTextAnswer, source_in, text_in}
 use Rattle.exchange.specs.declared.limits.TheConstants.{UNWRITTEN}
 use Rattle.move_directions.proofs.OneReading as moves_reading
-use Rattle.named_files.specs.declared.unanswered.Unanswered.TheVariants as why
 use Rattle.plan_answers.proofs.OneDrawing.{read_right}
 use Rattle.plan_answers.proofs.OneSource.{from_right, right_denoted, right_or_wrong}
 use Rattle.plan_answers.proofs.OneVerdict.{one_verdict}
