@@ -11,8 +11,14 @@ use setting_runner::{Plant, RunRefusal, StopCause};
 use std::sync::atomic::AtomicUsize;
 use std::thread::Threads;
 
-/// A call of a port: the switch that it is for, and the bytes.
-type Sent = (Chip, &'static [u8]);
+/// What a call of a port sends to a switch.
+#[derive(Clone, Copy)]
+enum Sent {
+    /// These bytes.
+    Set(Chip, &'static [u8]),
+    /// The enquiries of outputs 0 to 31.
+    Ask(Chip),
+}
 
 /// The enquiries of outputs 0 to 31.
 const ENQUIRIES: [u8; 64] = [
@@ -22,11 +28,9 @@ const ENQUIRIES: [u8; 64] = [
     0x02, 0x18, 0x02, 0x19, 0x02, 0x1a, 0x02, 0x1b, 0x02, 0x1c, 0x02, 0x1d, 0x02, 0x1e, 0x02, 0x1f,
 ];
 
-/// All outputs of A are asked.
-const ASKS_A: Sent = (Chip::A, &ENQUIRIES);
+const ASKS_A: Sent = Sent::Ask(Chip::A);
 
-/// All outputs of B are asked.
-const ASKS_B: Sent = (Chip::B, &ENQUIRIES);
+const ASKS_B: Sent = Sent::Ask(Chip::B);
 
 /// What a port of the tests does.
 #[derive(Clone, Copy)]
@@ -91,7 +95,8 @@ impl KnowingPort {
     /// Whether it is to be sent this by the call that has so many before it.
     fn is_due(&self, before: usize, chip: Chip, bytes: &[u8]) -> bool {
         match self.sent.get(before) {
-            Some((wanted, text)) => *wanted == chip && *text == bytes,
+            Some(Sent::Set(wanted, text)) => *wanted == chip && *text == bytes,
+            Some(Sent::Ask(wanted)) => *wanted == chip && bytes == ENQUIRIES.as_slice(),
             None => false,
         }
     }
@@ -172,10 +177,10 @@ const TWO: Case<'static> = Case {
 };
 
 /// Its setting, which is also setting 0 of row three-transfers.
-const BOTH_PAIRS: Sent = (Chip::A, &[0x04, 0x01, 0x00, 0x11, 0x01, 0x01, 0x12, 0x03]);
+const BOTH_PAIRS: Sent = Sent::Set(Chip::A, &[0x04, 0x01, 0x00, 0x11, 0x01, 0x01, 0x12, 0x03]);
 
 /// Setting 1 of row three-transfers.
-const ONE_PAIR: Sent = (
+const ONE_PAIR: Sent = Sent::Set(
     Chip::A,
     &[0x06, 0x00, 0x11, 0x06, 0x01, 0x12, 0x01, 0x00, 0x12, 0x03],
 );
@@ -212,15 +217,15 @@ const FIVE: Case<'static> = Case {
 };
 
 const FIVE_SENT: [Sent; 10] = [
-    (Chip::A, &[0x04, 0x01, 0x00, 0x11, 0x03]),
+    Sent::Set(Chip::A, &[0x04, 0x01, 0x00, 0x11, 0x03]),
     ASKS_A,
-    (Chip::A, &[0x03]),
+    Sent::Set(Chip::A, &[0x03]),
     ASKS_A,
-    (Chip::A, &[0x06, 0x00, 0x11, 0x01, 0x00, 0x12, 0x03]),
+    Sent::Set(Chip::A, &[0x06, 0x00, 0x11, 0x01, 0x00, 0x12, 0x03]),
     ASKS_A,
-    (Chip::A, &[0x06, 0x00, 0x12, 0x01, 0x00, 0x13, 0x03]),
+    Sent::Set(Chip::A, &[0x06, 0x00, 0x12, 0x01, 0x00, 0x13, 0x03]),
     ASKS_A,
-    (Chip::A, &[0x03]),
+    Sent::Set(Chip::A, &[0x03]),
     ASKS_A,
 ];
 
@@ -257,44 +262,44 @@ const ACROSS: Case<'static> = Case {
 };
 
 const ACROSS_SENT: [Sent; 4] = [
-    (Chip::A, &[0x04, 0x00, 0x00, 0x10, 0x00, 0x10, 0x00, 0x03]),
-    (Chip::B, &[0x04, 0x00, 0x10, 0x00, 0x00, 0x00, 0x10, 0x03]),
+    Sent::Set(Chip::A, &[0x04, 0x00, 0x00, 0x10, 0x00, 0x10, 0x00, 0x03]),
+    Sent::Set(Chip::B, &[0x04, 0x00, 0x10, 0x00, 0x00, 0x00, 0x10, 0x03]),
     ASKS_A,
     ASKS_B,
 ];
 
 /// Row three-transfers on a rack with two switches.
 const THREE_WIDE_SENT: [Sent; 8] = [
-    (Chip::A, &[0x04, 0x00, 0x00, 0x01, 0x00, 0x01, 0x02, 0x03]),
-    (Chip::B, &[0x04, 0x00, 0x01, 0x00, 0x00, 0x02, 0x01, 0x03]),
+    Sent::Set(Chip::A, &[0x04, 0x00, 0x00, 0x01, 0x00, 0x01, 0x02, 0x03]),
+    Sent::Set(Chip::B, &[0x04, 0x00, 0x01, 0x00, 0x00, 0x02, 0x01, 0x03]),
     ASKS_A,
     ASKS_B,
-    (Chip::A, &[0x05, 0x01, 0x05, 0x02, 0x00, 0x00, 0x02, 0x03]),
-    (Chip::B, &[0x05, 0x00, 0x05, 0x01, 0x00, 0x02, 0x00, 0x03]),
+    Sent::Set(Chip::A, &[0x05, 0x01, 0x05, 0x02, 0x00, 0x00, 0x02, 0x03]),
+    Sent::Set(Chip::B, &[0x05, 0x00, 0x05, 0x01, 0x00, 0x02, 0x00, 0x03]),
     ASKS_A,
     ASKS_B,
 ];
 
 /// Row five-settings on such a rack.
 const FIVE_WIDE_SENT: [Sent; 20] = [
-    (Chip::A, &[0x04, 0x00, 0x00, 0x01, 0x03]),
-    (Chip::B, &[0x04, 0x00, 0x01, 0x00, 0x03]),
+    Sent::Set(Chip::A, &[0x04, 0x00, 0x00, 0x01, 0x03]),
+    Sent::Set(Chip::B, &[0x04, 0x00, 0x01, 0x00, 0x03]),
     ASKS_A,
     ASKS_B,
-    (Chip::A, &[0x03]),
-    (Chip::B, &[0x03]),
+    Sent::Set(Chip::A, &[0x03]),
+    Sent::Set(Chip::B, &[0x03]),
     ASKS_A,
     ASKS_B,
-    (Chip::A, &[0x05, 0x01, 0x00, 0x00, 0x02, 0x03]),
-    (Chip::B, &[0x05, 0x00, 0x00, 0x02, 0x00, 0x03]),
+    Sent::Set(Chip::A, &[0x05, 0x01, 0x00, 0x00, 0x02, 0x03]),
+    Sent::Set(Chip::B, &[0x05, 0x00, 0x00, 0x02, 0x00, 0x03]),
     ASKS_A,
     ASKS_B,
-    (Chip::A, &[0x05, 0x02, 0x00, 0x00, 0x03, 0x03]),
-    (Chip::B, &[0x05, 0x00, 0x00, 0x03, 0x00, 0x03]),
+    Sent::Set(Chip::A, &[0x05, 0x02, 0x00, 0x00, 0x03, 0x03]),
+    Sent::Set(Chip::B, &[0x05, 0x00, 0x00, 0x03, 0x00, 0x03]),
     ASKS_A,
     ASKS_B,
-    (Chip::A, &[0x03]),
-    (Chip::B, &[0x03]),
+    Sent::Set(Chip::A, &[0x03]),
+    Sent::Set(Chip::B, &[0x03]),
     ASKS_A,
     ASKS_B,
 ];
@@ -335,8 +340,8 @@ const TURNED_BACK: [u8; 98] = [
 ];
 
 const TURNED_SENT: [Sent; 4] = [
-    (Chip::A, &TURNED_FORTH),
-    (Chip::B, &TURNED_BACK),
+    Sent::Set(Chip::A, &TURNED_FORTH),
+    Sent::Set(Chip::B, &TURNED_BACK),
     ASKS_A,
     ASKS_B,
 ];

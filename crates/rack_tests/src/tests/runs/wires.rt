@@ -77,9 +77,10 @@ fn stops_in<R: AllocGlobal + Threads + Sync>(
     let holed = HoledLines { bytes, made: &made };
     let told = AtomicUsize::new(0);
     let told_holed = AtomicUsize::new(0);
-    ends_so(rt, &mut with_wires(wires), case, &told)
-        && ends_so(rt, &mut with_wires(holed), case, &told_holed)
-        && made.load(Ordering::SeqCst) == transfers
+    let ends_fused = ends_so(rt, &mut with_wires(wires), case, &told);
+    let ends_holed = ends_so(rt, &mut with_wires(holed), case, &told_holed);
+    let wires = made.load(Ordering::SeqCst);
+    ends_fused && ends_holed && wires == transfers
 }
 
 /// Whether runs do, which stop in setting 0 at that wire, with so many words of each transfer
