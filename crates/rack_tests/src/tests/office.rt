@@ -169,6 +169,25 @@ pub fn close<L: ExchangeName, W: WireMaker + Drop, G: Drop>(
 /// What the first seat of an exchange asks, and is answered.
 pub type Row = (Ask, Said);
 
+/// Calls of one kind, of which each has a number.
+#[derive(Clone, Copy)]
+pub enum Calls {
+    /// A word is peeked, which is 0.
+    Peeks,
+    /// The batch of [`PUSH`] is submitted, and accepted under its number.
+    Pushes,
+}
+
+impl Calls {
+    /// What the call of this number asks, and is answered.
+    fn row(self, number: usize) -> Row {
+        match self {
+            Calls::Peeks => (Ask::Peek(0, FIRST), Said::Word(0)),
+            Calls::Pushes => (Ask::Submit(PUSH), Said::Accepted(number)),
+        }
+    }
+}
+
 impl<L: ExchangeName, W: WireMaker + Sync, G: Gate + Sync> Pair<L, W, G> {
     /// What the first seat asks, and is answered.
     pub fn ask<R: AllocGlobal + Threads + Wait + Sync>(&mut self, rt: &R, ask: Ask) -> Said {
@@ -195,14 +214,22 @@ impl<L: ExchangeName, W: WireMaker + Sync, G: Gate + Sync> Pair<L, W, G> {
         None
     }
 
-    /// How many of so many peeks of a word are answered that it is 0.
-    pub fn zeros<R: AllocGlobal + Threads + Wait + Sync>(&mut self, rt: &R, times: usize) -> usize {
-        let mut zeros: usize = 0;
-        for _ in 0..times {
-            if answer(rt, &self.shared, &mut self.first, Ask::Peek(0, FIRST)) == Said::Word(0) {
-                zeros = zeros.saturating_add(1);
+    /// How many of these calls are answered rightly, of which each has its number, from one to
+    /// before another.
+    pub fn rightly<R: AllocGlobal + Threads + Wait + Sync>(
+        &mut self,
+        rt: &R,
+        calls: Calls,
+        from: usize,
+        to: usize,
+    ) -> usize {
+        let mut right: usize = 0;
+        for number in from..to {
+            let (ask, said) = calls.row(number);
+            if answer(rt, &self.shared, &mut self.first, ask) == said {
+                right = right.saturating_add(1);
             }
         }
-        zeros
+        right
     }
 }

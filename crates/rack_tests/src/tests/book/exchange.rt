@@ -6,7 +6,7 @@ ghost use Rattle.std.specs.Prelude.{◌≡◌, IfSome};
 ghost use Rattle.progress_word.specs.declared.limits.TheConstants.{ALL_PARTS};
 
 use crate::tests::common::{marked, with_wires};
-use crate::tests::office::{Ask, FIRST, PUSH, Pair, Row, Said, close, open_pair};
+use crate::tests::office::{Ask, Calls, FIRST, PUSH, Pair, Row, Said, close, open_pair};
 use batch_book::{
     BatchState, BookRefusal, Closed, ExchangeBlank, ExchangeName, MAX_ENTRIES, SeatMissing, Shared,
     SharedFault,
@@ -109,11 +109,13 @@ fn fills<L: ExchangeName, R: AllocGlobal + Threads + Wait + Sync>(
     requires { L.parts ≡ ALL_PARTS }
 {
     let mut pair = pair;
-    let zeros = pair.zeros(rt, peeks);
+    let zeros = pair.rightly(rt, Calls::Peeks, 0, peeks);
     let poked = pair.ask(rt, Ask::Poke(0, FIRST, 1));
     match close(rt.alloc(), pair) {
         Some(closed) => {
-            zeros == peeks && poked == Said::Refused(BookRefusal::HistoryFull) && is_full(&closed)
+            let is_full = is_full(&closed);
+            let is_refused = poked == Said::Refused(BookRefusal::HistoryFull);
+            zeros == peeks && is_refused && is_full
         }
         None => false,
     }
@@ -125,12 +127,9 @@ fn fills_book<L: ExchangeName, R: AllocGlobal + Threads + Wait + Sync>(
     rt: &R,
     pair: &mut Two<L>,
 ) -> bool {
-    for id in 2..=256 {
-        if pair.ask(rt, Ask::Submit(PUSH)) != Said::Accepted(id) {
-            return false;
-        }
-    }
-    pair.ask(rt, Ask::Submit(PUSH)) == Said::Refused(BookRefusal::BookFull)
+    let accepted = pair.rightly(rt, Calls::Pushes, 2, 257);
+    let said = pair.ask(rt, Ask::Submit(PUSH));
+    accepted == 255 && said == Said::Refused(BookRefusal::BookFull)
 }
 
 /// Whether that is so behind the first rows, which leaves 259 entries, so that 65,277 more peeks
@@ -142,7 +141,10 @@ fn meets_limits<L: ExchangeName, R: AllocGlobal + Threads + Wait + Sync>(
     requires { L.parts ≡ ALL_PARTS }
 {
     let mut pair = pair;
-    pair.first_wrong(rt, &LIMITS).is_none() && fills_book(rt, &mut pair) && fills(rt, pair, 65277)
+    let is_begun = pair.first_wrong(rt, &LIMITS).is_none();
+    let is_full = fills_book(rt, &mut pair);
+    let fills = fills(rt, pair, 65277);
+    is_begun && is_full && fills
 }
 
 /// Tries to close the exchange with the first seat alone, and gives the pair back where that is
@@ -183,7 +185,8 @@ fn goes_on<L: ExchangeName, R: AllocGlobal + Threads + Wait + Sync>(rt: &R, pair
         return false;
     };
     let said = pair.ask_second(rt, Ask::Peek(1, FIRST));
-    close(rt.alloc(), pair).is_some() && said == Said::Word(0x0001_0000)
+    let is_closed = close(rt.alloc(), pair).is_some();
+    is_closed && said == Said::Word(0x0001_0000)
 }
 
 /// What comes back where so many sessions are refused.
