@@ -303,19 +303,20 @@ def try_draw(draw):
 
 
 def are_priced():
-    """Whether `draw --prices` refuses what `draw` refuses, and else prints fair prices, which show as many changes as the title says."""
+    """Whether `draw --prices` refuses what `draw` refuses. Else its prices show as many changes as its first line says. These are as many as
+    the picture's title says, where the schedule has the fewest settings, and else none."""
     drawn, priced = (ask("draw", "batch", "schedule", *it) for it in ([], ["--prices"]))
     if drawn.status:
         return priced == drawn
     with open("batch") as batch, open("schedule") as schedule:
         texts = [[line.split() for line in it.splitlines()] for it in (batch.read(), schedule.read(), priced.out.decode())]
     try:
-        _, shown = check_prices.judged(*texts)
+        check_prices.judged(*texts)
     except SystemExit:
         return False
-    changes, words, least = re.search(rb", changes (\d+), (the fewest with so few settings|the fewest|at least (\d+))", drawn.out).groups()
-    wanted = int(least or changes)
-    return priced.err == b"" and priced.status == 0 and (shown >= wanted if words.endswith(b"settings") else shown <= wanted)
+    title = re.search(rb"settings (\d+)(, the fewest)?.*, changes (\d+), (?:the fewest|at least (\d+))", drawn.out)
+    wanted = int(title[4] or title[3]) if title[2] and texts[0][0] != ["batch", "0"] else 0
+    return (priced.err, priced.status, int(texts[2][0][3])) == (b"", 0, wanted)
 
 
 def try_switch_by(draw):
