@@ -477,8 +477,8 @@ SHAPE is MxKxW, in the form that `exchange run --help` shows. 1 to 16 clients
 are served at once, each in a thread of its own, on one exchange: one rack,
 whose words are at first 0, or those of the image where there is one. Lines and
 replies are those that `exchange serve --help` shows. Each reply is written as
-soon as it is there, and before the client's next line is read. With --record,
-lines that come together are answered together.
+soon as it is there, and before more is read; with --record, those to lines that
+came together may be written together.
 
 What a client says is read from CLIENT.in, and its replies are written to
 CLIENT.out. Usually both are named pipes. Plain files work too: CLIENT.out is
@@ -535,8 +535,8 @@ which prints `poked` and `word 000000ff`.",
     notes: "\
 SHAPE is MxKxW, in the form that `exchange run --help` shows. The words of the
 rack are at first 0, or those of the image where there is one. The session's
-lines are read from standard input, and each is answered on standard output
-before the next is read. So the image can't be `-`. The lines are
+lines are read from standard input, and answered on standard output before more
+is read. So the image can't be `-`. The lines are
   batch N, plan ID, run ID, show ID, drop ID, peek M A, poke M A D, progress, bye
 `exchange serve --help` says what each does, and how it is answered.
 
