@@ -18,7 +18,8 @@
 //! Some counts serve any schedule of a batch: how often it changes the switch ([`count_changes`]);
 //! how many partners a link has at most ([`most_partners`]), since no schedule changes the switch
 //! less often than that (`laws::partners_need_changes`); and as many changes as prices of the links
-//! show that each schedule with as many settings has to have ([`most_shown`]).
+//! show that each schedule with as many settings has to have ([`most_shown`]). Whatever prices show
+//! is so, whoever found them (`laws::prices_need_changes`).
 #![tactic(auto)]
 
 mod bounding;
