@@ -84,7 +84,9 @@ ShowChanges batch settings prices top count =
     0 < count → ProveChanges batch settings prices top count
 
 -- A table has a price of each link for each length up to the top one, and for 0, which none asks
--- for. It shows so many changes of each schedule of the batch with so many settings.
+-- for. It shows so many changes of each schedule of the batch with so many settings. Where it shows
+-- none, it has no prices but those for 0.
 pub record IsPriceTable (batch : List Transfer) (settings : ℕ) (table : Priced) : Type 0 where
   pub sized : length table.prices.items ≡ (table.top + 1) * LINKS
   pub show : ShowChanges batch settings table.prices.items table.top table.changes
+  pub none : table.changes ≡ 0 → table.top ≡ 0

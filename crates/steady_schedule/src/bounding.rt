@@ -304,6 +304,9 @@ fn shown_prices(
     let mut slopes = vec![in alloc; 0i64; room]?;
     let mut best = vec![in alloc; 0u32; room]?;
     let changes = needs.search(enough, &mut best, &mut prices, &mut slopes, &mut pieces);
+    if changes == 0 {
+        return Priced::none(alloc);
+    }
     Ok(Priced {
         changes,
         top,

@@ -13,7 +13,7 @@ use std::alloc::{AllocError, Global};
 pub struct Priced {
     /// How many changes the prices show. Where this is 0, they show nothing.
     pub changes: usize,
-    /// The length that no step exceeds, where they show something.
+    /// The length that no step exceeds, where they show something; else 0.
     pub top: usize,
     /// The price of each link for each length up to `top`, at `length * LINKS + index`: those of a
     /// length side by side, of links 0 by their modules, then of links 3. Those of a length add up
