@@ -68,10 +68,11 @@ fn prices_of(
 /// of a step, from 1 on, has the prices of all [`LINKS`] links: of links 0 by their modules, then
 /// of links 3. They add up to 65,536 at most. [`most_shown`] says why they show N changes.
 ///
-/// Where the schedule hasn't the fewest settings, or there is no transfer, N is 0, and no prices
-/// follow. That is no failure: prices show nothing then. Else N is what the title of the picture
-/// says: this schedule's changes where these are the fewest, or those of `at least N`. No contract
-/// says how great it is.
+/// Where the schedule hasn't the fewest settings, or there is no transfer, N is 0. Where N is 0, no
+/// prices follow. That is no failure: prices show nothing then.
+///
+/// No contract says how great N is. Tests show that it is this schedule's changes where the title
+/// of the picture says `the fewest with so few settings`, and else no more than the title says.
 ///
 /// The texts are looked at as by [`answer_draw`](crate::answer_draw). Takes time that grows with
 /// the lengths of the texts, and as [`most_shown`] does.
