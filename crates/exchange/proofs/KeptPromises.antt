@@ -104,7 +104,7 @@ live_whole : {C : Type 0} (received : C → Closed) (receipts : Receipts C) (hol
 live_whole received receipts holds lost same rack names book calls are kept = are_kept received rack names receipts book calls are (subst (λ (l : Lost). AreWritten received (recorded_in rack) rack.image_out names book receipts l) same kept.0)
 
 live_told : {C : Type 0} (received : C → Closed) (receipts : Receipts C) (holds : Holding) (lost : Lost) → ⊤ → (rack : SharedRack) (names : List Text) (book : Account) (calls : Calls) → AreCallsOf calls book → AreLiveKept holds received rack names (Some book) receipts lost → AreToldKept (kept_by received receipts) rack names calls
-live_told received receipts holds lost any rack names book calls are kept = are_told received rack names receipts book calls are lost kept.0 kept.3
+live_told received receipts holds lost any rack names book calls are kept = are_told received rack names receipts book calls are lost kept.0 kept.2 kept.3
 
 -- ---- all promises
 

@@ -36,7 +36,7 @@ use Rattle.module_memory.specs.Store.{Store}
 use Rattle.named_files.specs.Clients.{clients_by, ends_of}
 use Rattle.named_files.specs.Contents.{AreContents, Holding}
 use Rattle.named_files.specs.Notes.{unanswered}
-use Rattle.named_files.specs.Outputs.{HasNothingGone, IsFileWritten, lost_none}
+use Rattle.named_files.specs.Outputs.{HasNothingGone, IsFileWritten, IsUnput as IsPutNowhere, lost_none}
 use Rattle.named_files.specs.Streams.{Closed}
 use Rattle.named_files.specs.declared.lost.Lost.{Lost}
 use Rattle.named_files.specs.declared.lost.Reason.{Reason}
@@ -85,6 +85,14 @@ module _ {C : Type 0} (received : C → Closed) where
   unput name None is = tt
   unput name (Some receipt) is = ap (λ (c : Closed). c.stands) is.1
 
+  put_nowhere : (image : Option C) → IsPutNowhere received image → IsUnput (option_map received image)
+  put_nowhere None is = tt
+  put_nowhere (Some receipt) is = is
+
+  whole_or_unput : (name : Option Text) (bytes : List ℕ) (recorded image : Option C) (lost : Option Reason) → IsFileWritten received name bytes recorded lost → (is_some lost ≡ true → IsPutNowhere received image) → IsKept (is_some name) bytes (option_map received recorded) ⊎ IsUnput (option_map received image)
+  whole_or_unput name bytes recorded image None is nowhere = inl (whole_kept name bytes recorded is)
+  whole_or_unput name bytes recorded image (Some lost) is nowhere = inr (put_nowhere image (nowhere refl))
+
   record_is : (names : List Text) (calls : Calls) (book : Account) → AreCallsOf calls book → whole_of names book ≡ whole_record names calls
   record_is names calls book are = ap₂ (λ (o : Store) (es : List Entry). record_of names o es ++ end_line) (sym are.opening) (sym are.entries)
 
@@ -104,8 +112,12 @@ module _ {C : Type 0} (received : C → Closed) where
       part_kept rack.image_out _ receipts.image lost.image (subst (λ (x : List ℕ). IsFileWritten received rack.image_out x receipts.image lost.image) (image_is calls book are) is.1),
     )
 
-    pub are_told : (lost : Lost) → AreWritten received (recorded_in rack) rack.image_out names book receipts lost → IfSome receipts.recorded (λ r. HasAllTold names book (received r).bytes) → AreToldKept (kept_by received receipts) rack names calls
-    are_told lost is told = (are_part lost is, front_kept (recorded_in rack) (whole_of names book) receipts.recorded lost.recorded names book calls are is.0 told)
+    pub are_told : (lost : Lost) → AreWritten received (recorded_in rack) rack.image_out names book receipts lost → (is_some lost.recorded ≡ true → IsPutNowhere received receipts.image) → IfSome receipts.recorded (λ r. HasAllTold names book (received r).bytes) → AreToldKept (kept_by received receipts) rack names calls
+    are_told lost is nowhere told = (
+      are_part lost is,
+      front_kept (recorded_in rack) (whole_of names book) receipts.recorded lost.recorded names book calls are is.0 told,
+      whole_or_unput (recorded_in rack) _ receipts.recorded receipts.image lost.recorded (subst (λ (x : List ℕ). IsFileWritten received (recorded_in rack) x receipts.recorded lost.recorded) (record_is names calls book are) is.0) nowhere,
+    )
 
 -- ---- what comes of a job that has sessions
 

@@ -102,7 +102,7 @@ ended_so number recorded None after old new read made told none same keeps lost 
     plain number recorded old new None after read made told [] turns left (whole_told old new read made told turns left s) (all ∙ same) (refl, refl, refl, inl (whole.0, ap₂ (λ (x y : List ℕ). x ++ y) whole.1 (no_more after whole.2)))
 ended_so number recorded None after old new read made told none same keeps lost (turns, left, s, inr bye, all) =
     plain number recorded old new None after read made told [] turns left (whole_told old new read made told turns left s) (all ∙ same) (refl, refl, refl, inr bye)
-ended_so number recorded (Some Write) after old new read made told none same keeps lost c = plain number recorded old new (Some Write) after read made told c.missing c.turns c.rest c.session (c.recorded ∙ same) (refl, refl, c.may_end, λ unrecorded. c.last (keeps unrecorded))
+ended_so number recorded (Some Write) after old new read made told none same keeps lost c = plain number recorded old new (Some Write) after read made told c.missing c.turns c.rest c.session (c.recorded ∙ same) (refl, refl, c.may_end, c.few, λ unrecorded. c.last (keeps unrecorded))
 ended_so number recorded (Some Record) after old new read made told none same keeps lost b = record {
   turns = b.turns;
   held = b.held;
@@ -115,7 +115,7 @@ ended_so number recorded (Some Record) after old new read made told none same ke
   entries = b.entries_are ∙ ap (λ (x : List Entry). x ++ lost_entries b.lost) b.session.entries_are;
   stand = subst (λ (x : List Entry). Starts (x ++ added_entries b.turns) new.log) none b.recorded;
   readings = b.session.readings;
-  ends = (lost refl, refl, few_lost old.session b.lost b.are_lost b.one, b.may_end);
+  ends = (lost refl, refl, few_lost old.session b.lost b.are_lost b.one, b.may_end, b.few);
 }
 ended_so number recorded (Some Read) after old new read made told none same keeps lost e = plain number recorded old new (Some Read) after read made told [] e.0 e.1 (whole_told old new read made told e.0 e.1 e.2) (e.5 ∙ same) (refl, refl, refl, e.3)
 ended_so number recorded (Some LineTooLong) after old new read made told none same keeps lost e = plain number recorded old new (Some LineTooLong) after read made told [] e.0 e.1 (whole_told old new read made told e.0 e.1 e.2) (e.5 ∙ same) (refl, refl, refl, e.3)

@@ -111,6 +111,7 @@ use Rattle.session_answers.specs.Histories.{status_at}
 use Rattle.session_answers.specs.HostAnswers.{ending_line, has_failed}
 use Rattle.session_answers.specs.declared.ended_session.Ending.{Ending}
 use Rattle.session_answers.specs.declared.ended_session.Ending.TheVariants.{Served, Unopened}
+use Rattle.client_session.specs.declared.limits.TheConstants.{HELD_BYTES}
 use Rattle.client_session.specs.declared.fault.ServeFault.{ServeFault}
 use Rattle.client_session.specs.declared.fault.ServeFault.TheVariants.{Record, Write}
 use Rattle.command_words.specs.declared.jobs.RecordFile.{RecordFile}
@@ -754,19 +755,21 @@ all_turns s = s.turns ++ s.held
 
 -- How a session ended, where this of its commands' lines wasn't told, and no command that was done
 -- made these entries. By itself: all was told, and all was read, or `bye` was the last command.
--- Where it couldn't be told, an end of its lines is missing; without a record, of its last line.
--- Where calls couldn't be recorded, nothing was told of the last commands that were done, and one
--- more may have made an entry. No command was done behind `bye`.
+-- Where it couldn't be told, an end of its lines is missing, no more than a session holds; without
+-- a record, of its last line. Where calls couldn't be recorded, nothing was told of the last
+-- commands that were done, whose lines are no more than that, and one more may have made an entry.
+-- No command was done behind `bye`.
 abbrev pub EndsSo : (recorded : Bool) → Session → (untold : List ℕ) → List Entry → Option ServeFault
     → Type 0
 EndsSo recorded s untold unseen None =
     (s.held ≡ []) × (untold ≡ []) × (unseen ≡ [])
     × ((GoOn s.turns × (s.rest ≡ [])) ⊎ EndByBye s.turns)
 EndsSo recorded s untold unseen (Some Write) =
-    (s.held ≡ []) × (unseen ≡ []) × MayEnd s.turns
+    (s.held ≡ []) × (unseen ≡ []) × MayEnd s.turns × (length untold ≤ HELD_BYTES)
     × (recorded ≡ false → IsEndOfLastLine s.turns untold)
 EndsSo recorded s untold unseen (Some Record) =
     (recorded ≡ true) × (untold ≡ []) × (length unseen ≤ 1) × MayEnd (all_turns s)
+    × (length (lines_of s.held) ≤ HELD_BYTES)
 EndsSo recorded s untold unseen (Some fault) =
     (s.held ≡ []) × (untold ≡ []) × (unseen ≡ []) × GoOn s.turns
 
@@ -868,12 +871,15 @@ AreKeptInPart kept rack names calls =
     IsKeptInPart (is_some (recorded_in rack)) (whole_record names calls) kept.recorded
     × IsKeptInPart (is_some rack.image_out) (image_of calls.left.store) kept.image
 
--- both do, and the record of live sessions has all calls that are to stand there
+-- Both do, and the record of live sessions has all calls that are to stand there. Where it isn't
+-- whole, no image was put in its place.
 abbrev pub AreToldKept : Kept → SharedRack → List Text → Calls → Type 0
 AreToldKept kept rack names calls =
     AreKeptInPart kept rack names calls
     × IsBegun (is_some (recorded_in rack))
     (record_of names calls.opening (calls.earlier ++ calls.standing)) kept.recorded
+    × (IsKept (is_some (recorded_in rack)) (whole_record names calls) kept.recorded
+    ⊎ IsUnput kept.image)
 
 -- what a session was told, below its heading; where a fault ended it, a line says so behind that
 abbrev pub told_text : Session → List ℕ
