@@ -22,7 +22,7 @@ use std::snapshot::Snapshot;
 /// Entries that go to a writer as texts, as many at a time as wait when it is flushed. It keeps
 /// none of them, so there may be any number: of those that wait it has the text, in memory.
 ///
-/// Once a flush has failed nothing more is written.
+/// Once a flush has failed, no later one writes anything: the writer holds what it held.
 pub struct Streamed<W: Write, N: StreamName> {
     writer: W,
     // The text of the entries that wait.
@@ -95,7 +95,9 @@ impl<W: Write, N: StreamName> Streamed<W, N> {
 
     /// The writer, and what it has got.
     pub fn into_writer(self) -> W
-        ensures { IsWritten N.held (W.contents result) N.earlier self.stands self.all self.whole }
+        ensures holds { W.contents result ≡ self.holds }
+        ensures written { IsWritten N.held (W.contents result) N.earlier self.stands self.all
+            self.whole }
     {
         let Streamed {
             writer,
@@ -182,7 +184,15 @@ impl<W: Write, N: StreamName> History for Streamed<W, N> {
         put_entry(&mut self.buffer, self.text.as_slice(), id, &entry.reply);
     }
 
-    fn flush(&mut self) -> Result<(), Unrecorded> {
+    fn flush(&mut self) -> Result<(), Unrecorded>
+        ensures pushed { self.new.all ≡ self.old.all }
+        ensures was { OnOk result (self.old.whole ≡ true) }
+        ensures all { OnOk result (self.new.stands ≡ self.old.all) }
+        ensures whole { OnOk result (self.new.whole ≡ true) }
+        ensures none { OnErr result (self.new.stands ≡ self.old.stands) }
+        ensures lost { OnErr result (self.new.whole ≡ false) }
+        ensures still { self.old.whole ≡ false → self.new.holds ≡ self.old.holds }
+    {
         if !self.whole {
             return Err(Unrecorded);
         }
