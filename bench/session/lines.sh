@@ -8,9 +8,9 @@
 #
 # Needs valgrind and python3. Build the program first: ./exchange prove
 set -eu
-SERVE=2500
-TALK=2500
-RECORD=3500
+SERVE=1900
+TALK=2050
+RECORD=2900
 KEPT=420
 FLAT=1
 PLAN=2048

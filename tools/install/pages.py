@@ -48,7 +48,7 @@ def section(heading, text):
 
 def at_docs(text, docs):
     """A text whose examples name the files below a folder."""
-    return text.replace(" examples/", f" {docs}/examples/")
+    return re.sub(r"(?<=\s)examples/", f"{docs}/examples/", text)
 
 
 def manual(program, docs):
