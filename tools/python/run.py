@@ -240,7 +240,7 @@ def try_named(rack):
 
 def try_pages(rack):
     """The helps, the page for `man`, and what bash completes."""
-    helps = [line.replace(" examples/", f" {rack}/share/doc/exchange/examples/") for line in read_helps(rack)]
+    helps = [re.sub(r"(^|(?<= ))examples/", f"{rack}/share/doc/exchange/examples/", line) for line in read_helps(rack)]
     try_named(rack)
     if shutil.which("man"):
         env = {**os.environ, "MANWIDTH": "200", "LC_ALL": "C.UTF-8"}
