@@ -1,6 +1,7 @@
 """Records of sessions, replayed a second time: plain Python, as plain.py, that shares no code with the product."""
 
 import copy
+import math
 import re
 import zlib
 
@@ -251,7 +252,7 @@ class Replay:
         own, total, self.names, at = head_in(text)
         if shape not in (None, own):
             raise Misrecorded("head", text, 0, HEAD_WANTED)
-        self.shape, self.exchange, self.entries, self.ends = own, Exchange(own, image), [], [at]
+        self.shape, self.exchange, self.entries, self.ends = own, Exchange(own, image, math.inf), [], [at]
         if zlib.adler32(self.exchange.image()) != total:
             raise Misrecorded("head", text, 0, HEAD_WANTED)
         while first is None or len(self.entries) < first:

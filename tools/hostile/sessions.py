@@ -11,10 +11,11 @@ FIRST = 0x80000800
 
 
 class Exchange:
-    """A rack of zeros, or of an image's words, the batches that sessions have submitted, and how many calls there were."""
+    """A rack of zeros, or of an image's words, the batches that sessions have submitted, and how many calls there were. Of a record that is
+    written while calls are made there may be any number."""
 
-    def __init__(self, shape, image=None):
-        self.shape, self.words, self.batches = shape, {}, {}
+    def __init__(self, shape, image=None, most=MOST_ENTRIES):
+        self.shape, self.words, self.batches, self.most = shape, {}, {}, most
         if image is not None:
             word_at = plain.read_image(shape, image)
             places = [(m, b, j) for m in range(shape[0]) for b in range(shape[1]) for j in range(shape[2])]
@@ -30,7 +31,7 @@ class Exchange:
 
     def enter(self):
         """Makes room for a call in the history."""
-        if self.entries >= MOST_ENTRIES:
+        if self.entries >= self.most:
             raise Refused("history full")
         self.entries += 1
 

@@ -4,6 +4,7 @@ Plain Python that shares no code with the product. What calls do, and what repli
 """
 
 import copy
+import math
 import os
 import sys
 import zlib
@@ -42,7 +43,7 @@ class Record:
             if not client:
                 raise Wrong("the head is cut")
             self.names.append(client[1].decode())
-        self.exchange, self.entries, self.ends = Exchange(self.shape, image), [], [at]
+        self.exchange, self.entries, self.ends = Exchange(self.shape, image, math.inf), [], [at]
         if zlib.adler32(self.exchange.image()) != self.sum:
             raise Wrong("the sum is another")
         self.reply_has_begun = False
