@@ -3,13 +3,18 @@
 configuration link, and asked after each setting, as a real one.
 
 Eight modules transpose what they have: block b of module m and block m of module b change places. Each module has its orders, and obeys
-those of a setting once it is told that the setting stands. In the end the memories are compared with those that `apply` leaves.
-docs/EMULATORS.md says how to run it.
+those of a setting once it is told that the setting stands. In the end the memories are compared with those that `apply` leaves. Where a word
+names the program `exchange`, its `drive` sets the switch, over two named pipes. docs/EMULATORS.md says how to run it.
 """
 
+import os
 import queue
+import select
+import subprocess
 import sys
+import tempfile
 import threading
+from pathlib import Path
 
 import exchange
 
@@ -31,7 +36,7 @@ class Module(threading.Thread):
     """A module with its blocks. It obeys its orders of each setting that stands, and then says so."""
 
     def __init__(self, number, blocks):
-        super().__init__()
+        super().__init__(daemon=True)
         self.number, self.blocks, self.orders, self.told, self.done = number, blocks, None, queue.Queue(), queue.Queue()
 
     def run(self):
@@ -54,6 +59,43 @@ def stands(setting):
     return all(switch.take(bytes([2, output])) == bytes([0x80 + given]) for output, given in asked)
 
 
+def set_here():
+    """Hands the switch the bytes of each setting: the number of each that is set."""
+    for number, (sent,) in enumerate(exchange.switch_bytes(batch, plan)):
+        if switch.take(sent) or switch.refused:
+            sys.exit("WRONG: the switch doesn't obey")
+        yield number
+
+
+def set_by(program):
+    """Has `drive` set the switch: the number of each setting that it reports. The blocks have moved once the next number is asked for."""
+    with tempfile.TemporaryDirectory() as folder:
+        files = {name: Path(folder, name) for name in ("batch", "schedule", "board", "board.in", "board.out")}
+        files["batch"].write_text(batch)
+        files["schedule"].write_text(plan)
+        os.mkfifo(files["board.in"])
+        os.mkfifo(files["board.out"])
+        words = [program, "drive", files["batch"], files["board"], "--schedule", files["schedule"]]
+        # Without a buffer no line is hidden from `select`, and no line feed is kept back.
+        with subprocess.Popen(words, stdin=subprocess.PIPE, stdout=subprocess.PIPE, bufsize=0) as drive:
+            # Opened to read and to write, neither waits for `drive`, which opens none where it is refused.
+            sent, replies = os.open(files["board.in"], os.O_RDWR), os.open(files["board.out"], os.O_RDWR)
+            while True:
+                select.select([sent, drive.stdout], [], [])
+                # Bytes that are there came before the line, though it may be seen first.
+                if select.select([sent], [], [], 0)[0]:
+                    os.write(replies, switch.take(os.read(sent, 4096)))
+                    continue
+                line = drive.stdout.readline().decode()
+                if not line.startswith("setting"):
+                    break
+                yield int(line.split()[1])
+                drive.stdin.write(b"\n")
+            print(line, end="")
+            os.close(sent)
+            os.close(replies)
+
+
 modules = [Module(m, [bytes([16 * m + b]) * BYTES for b in range(MODULES)]) for m in range(MODULES)]
 image = b"".join(block for module in modules for block in module.blocks)
 transfers = [exchange.Transfer("push", m, b, b, m) for m in range(MODULES) for b in range(MODULES) if b != m]
@@ -64,12 +106,9 @@ plan = exchange.plan(batch, steady=True)
 for module, told in zip(modules, exchange.orders(batch, plan)):
     module.orders = told
     module.start()
-standing = 0
-for number, ((sent,), numbers) in enumerate(zip(exchange.switch_bytes(batch, plan), exchange.settings(plan))):
-    setting = [transfers[it] for it in numbers]
-    if switch.take(sent) or switch.refused:
-        sys.exit("WRONG: the switch doesn't obey")
-    standing += stands(setting)
+settings, standing = exchange.settings(plan), 0
+for number in set_by(sys.argv[1]) if sys.argv[1:] else set_here():
+    standing += stands([transfers[it] for it in settings[number]])
     for module in modules:
         module.told.put(number)
     for module in modules:
