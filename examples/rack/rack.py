@@ -24,7 +24,10 @@ import sys
 import tempfile
 import threading
 
-import exchange
+try:
+    import exchange
+except ImportError:
+    sys.exit("rack.py: Python has no module exchange: ./exchange install PREFIX puts it there, and docs/BOARD.md says how")
 
 HERE = os.path.dirname(os.path.realpath(__file__))
 BOARD = os.path.join(os.path.dirname(HERE), "board")
