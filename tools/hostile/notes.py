@@ -160,9 +160,17 @@ def told_at(line, at, wrong):
     return f"at byte {at + 1} {wrong}"
 
 
-def taken(text, number):
-    """Of a module's line in a wiring, the link of the switch that stands there before, as it is told; None where none does."""
+def miswired(text, number):
+    """The first rule that a module's line of a wiring breaks, as it is told, where its form is right; None where it breaks none."""
+    modules = [int(it) for it in re.findall(rb"(?m)^module (\d+) ", b"\n".join(text.split(b"\n")[1:number]))]
     lines = [re.findall(rb" at (\d+)", line) for line in text.split(b"\n")[:number]]
+    beyond = next((int(port) for port in lines[-1] if int(port) >= plain.PORTS), None)
+    if modules[-1] >= plain.JOINED:
+        return f"module {modules[-1]} is above {plain.JOINED - 1}"
+    if modules[-1] <= max(modules[:-1], default=-1):
+        return f"module {modules[-1]} isn't above module {modules[-2]} of the line before"
+    if beyond is not None:
+        return f"the switch has no link {beyond}"
     for port in lines[-1]:
         above = next((k for k, ports in enumerate(lines[:-1], 1) if port in ports), None)
         if above:
@@ -196,7 +204,7 @@ def of_line(kind, name, text, number):
     which = 0 if number == 1 else 1 + max(behind, 0)
     if which >= len(forms) or behind == 2 and line_of(text, number - 1) == b"busiest none":
         return f"{place_of(name, number)}: {quoted(line)} comes after the last line; nothing may follow"
-    differs = taken(text, number) if kind == "wiring" and which == 1 else None
+    differs = miswired(text, number) if kind == "wiring" and which == 1 and not difference(line, forms[1][0]) else None
     return f"{place_of(name, number)}: {of_form(text, number, *forms[which], differs)}"
 
 

@@ -1,5 +1,5 @@
--- Links of the switch that stand twice in a wiring.
-use Rattle.std.specs.Prelude.{◌≡◌, ℕ, ◌<◌, ◌⊎◌, List}
+-- Links of the switch that stand twice in a wiring, and modules that don't rise.
+use Rattle.std.specs.Prelude.{◌≡◌, ℕ, ◌-◌, ◌<◌, ◌≤◌, ◌⊎◌, List}
 use Rattle.refusal_notes.specs.Lines.{HasNumber, line_at}
 
 -- link 3 of a module is on this link of the switch, as its line says: one word less stands before
@@ -17,3 +17,9 @@ IsTaken wiring number port at =
     HasPort (line_at wiring number) port
     × (((at < number) × HasPort (line_at wiring at) port)
     ⊎ ((at ≡ number) × HasNumber (line_at wiring at) 5 port × HasPort3 (line_at wiring at) port))
+
+-- the module of a line isn't above that of the line before, which isn't the first
+abbrev pub IsFallen : List ℕ → ℕ → ℕ → ℕ → Type 0
+IsFallen wiring number on last =
+    (2 < number) × HasNumber (line_at wiring number) 1 on
+    × HasNumber (line_at wiring (number - 1)) 1 last × (on ≤ last)

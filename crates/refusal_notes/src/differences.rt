@@ -4,12 +4,14 @@ ghost use Rattle.std.specs.Prelude.{IfSome};
 ghost use Rattle.refusal_notes.specs.Differences.{IsDifferenceOf};
 
 use crate::forms::{Form, Part};
+use crate::limit::number_from;
 use crate::lines::line_at;
 use crate::listed::Listing;
 use crate::quote::Quote;
-use crate::taken::taken_by;
+use crate::taken::{fallen, missing_port, taken_by};
 use crate::wanted::Wanted;
 use batch::{MAX_DIGITS, number_from_digits};
+use crossbar::JOINED_MODULES;
 use std::fmt::{self, Display, Formatter, Write};
 
 const _: () = prove!(MAX_DIGITS == 9);
@@ -38,6 +40,12 @@ pub(crate) enum Difference<'a> {
     /// At this byte, counted from 1, it stops being of the form: what has to stand there, and what
     /// does from there on.
     Stops(usize, Due, &'a [u8]),
+    /// It is that of a module of this number, which no board has.
+    NoModule(usize),
+    /// It is that of a module of this number, which isn't above that of the line before, the second.
+    Falls(usize, usize),
+    /// It has a link of this number, which no switch has.
+    NoPort(usize),
     /// It has a link of the switch that a line above has, of this number, or itself.
     Taken(usize, usize),
 }
@@ -159,12 +167,27 @@ impl<'a> Difference<'a> {
                 let before = line.len().saturating_sub(rest.len());
                 Some(Difference::Stops(before + 1, due, &line[before..]))
             }
-            (None, Wanted::Entry(Listing::Modules)) => {
-                let (port, above) = taken_by(text, number)?;
-                Some(Difference::Taken(port, above))
-            }
+            (None, Wanted::Entry(Listing::Modules)) => Difference::of_module(text, number),
             (None, _) => None,
         }
+    }
+
+    /// The first rule of a wiring that a module's line breaks whose form is right.
+    fn of_module(wiring: &[u8], number: usize) -> Option<Difference<'a>>
+        ensures { IfSome result (IsDifferenceOf wiring.now number) }
+    {
+        let line = line_at(wiring, number);
+        if let Some(module) = number_from(line, 1, JOINED_MODULES as usize) {
+            return Some(Difference::NoModule(module));
+        }
+        if let Some((module, last)) = fallen(wiring, number) {
+            return Some(Difference::Falls(module, last));
+        }
+        if let Some(port) = missing_port(line) {
+            return Some(Difference::NoPort(port));
+        }
+        let (port, above) = taken_by(wiring, number)?;
+        Some(Difference::Taken(port, above))
     }
 }
 
@@ -179,6 +202,14 @@ impl<'a> Display for Difference<'a> {
                 write!(f, "at byte {at} ")?;
                 write_stop(f, due, rest)
             }
+            Difference::NoModule(module) => write!(f, "module {module} is above 15"),
+            Difference::Falls(module, last) => {
+                write!(
+                    f,
+                    "module {module} isn't above module {last} of the line before"
+                )
+            }
+            Difference::NoPort(port) => write!(f, "the switch has no link {port}"),
             Difference::Taken(port, line) => {
                 write!(f, "link {port} of the switch is on line {line} already")
             }

@@ -10,8 +10,9 @@
 //! wanted there (`IsLineTold` of `specs/Told.antt`). A number that is too great stands there, and
 //! isn't below the limit that goes with it (`IsNoteAbove` of `specs/Notes.antt`). Where a line
 //! differs at a byte, what stands there is the line from there on (`IsDifferenceOf` of
-//! `specs/Differences.antt`). A link that is taken is in both lines (`IsTaken`). Two transfers that
-//! clash stand at two places of the setting, and both use the link (`Clashes`).
+//! `specs/Differences.antt`). A link that is taken is in both lines (`IsTaken`), and a module that
+//! doesn't rise isn't above that of the line before (`IsFallen`). Two transfers that clash stand at
+//! two places of the setting, and both use the link (`Clashes`).
 #![tactic(auto)]
 
 mod boards;

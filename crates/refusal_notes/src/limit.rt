@@ -46,7 +46,7 @@ fn either_from(line: &[u8], first: usize, second: usize, least: usize) -> Option
 }
 
 /// The number that this word of the line is, where it is at least so much.
-fn number_from(line: &[u8], place: usize, least: usize) -> Option<usize>
+pub(crate) fn number_from(line: &[u8], place: usize, least: usize) -> Option<usize>
     ensures some { IfSome result (λ n. HasNumber line.now place n × (least ≤ n)) }
     ensures none { IfNone result ((n : ℕ) → HasNumber line.now place n → n < least) }
 {

@@ -1,10 +1,13 @@
-//! Links of the switch that stand twice in a wiring.
+//! Links of the switch that stand twice in a wiring, or that no switch has; modules that don't rise.
 
-ghost use Rattle.std.specs.Prelude.{◌<◌, IfSome, IsTrue};
+ghost use Rattle.std.specs.Prelude.{◌<◌, ◌≤◌, IfSome, IsTrue};
+ghost use Rattle.c004_commands.specs.declared.port.TheConstants.{PORTS};
 ghost use Rattle.refusal_notes.specs.Lines.{HasNumber, line_at as the_line};
-ghost use Rattle.refusal_notes.specs.Taken.{HasPort, HasPort3, IsTaken};
+ghost use Rattle.refusal_notes.specs.Taken.{HasPort, HasPort3, IsFallen, IsTaken};
 
+use crate::limit::number_from;
 use crate::lines::{line_at, number_at};
+use c004_commands::PORTS;
 
 /// Whether this word of a line is this number.
 fn has_number(line: &[u8], place: usize, n: usize) -> bool
@@ -46,6 +49,38 @@ pub(crate) fn taken_by(wiring: &[u8], number: usize) -> Option<(usize, usize)>
     let port = port3(line)?;
     let above = line_with(wiring, number, port)?;
     Some((port, above))
+}
+
+/// The first link in a module's line that no switch has.
+pub(crate) fn missing_port(line: &[u8]) -> Option<usize>
+    ensures { IfSome result (λ port. HasPort line.now port × (PORTS ≤ port)) }
+{
+    if let Some(port) = number_from(line, 5, PORTS as usize) {
+        return Some(port);
+    }
+    let port = port3(line)?;
+    if port >= PORTS as usize {
+        Some(port)
+    } else {
+        None
+    }
+}
+
+/// The module in the line of this number, and that of the line above, where it isn't above that
+/// one.
+pub(crate) fn fallen(wiring: &[u8], number: usize) -> Option<(usize, usize)>
+    ensures { IfSome result (λ x. IsFallen wiring.now number x.0 x.1) }
+{
+    if number <= 2 {
+        return None;
+    }
+    let module = number_at(line_at(wiring, number), 1)?;
+    let last = number_at(line_at(wiring, number - 1), 1)?;
+    if module <= last {
+        Some((module, last))
+    } else {
+        None
+    }
 }
 
 /// The link of the switch that link 3 of a module is on, as its line says.
