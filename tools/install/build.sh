@@ -71,6 +71,7 @@ if [ ! -e "$library" ] ||
     say "proving and building exchange_c, the library: two minutes, or longer beside other work .."
     if ! follow archive; then
         say "$(tail -n 1 "$said"), so rt lib does it, and first the crates below it that ./exchange prove hasn't proved here .."
+        : >"$said"
         follow make_all || { cat "$said" >&2 && exit 3; }
     fi
     touch "$library"
