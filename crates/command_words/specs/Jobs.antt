@@ -258,7 +258,7 @@ hears_input job = false
 
 -- a file of this name, of which a job makes this use
 abbrev pub file : Access → Text → FileUse
-file access name = record { name = name; access = access }
+file access name = record { name = name; access = access; role = tt }
 
 -- the name of the file for the record of the sessions on a rack
 abbrev pub recorded_in : SharedRack → Option Text

@@ -15,7 +15,7 @@ use clap::error::ErrorKind;
 use std::alloc::{AllocError, Global};
 
 /// What a job lacks whose arguments clap has let through.
-#[derive(Clone, Copy)]
+#[derive(Drop)]
 pub(crate) enum Lack {
     /// An argument that has to be there. Clap has refused such arguments before.
     Word,
@@ -29,12 +29,8 @@ pub(crate) enum Lack {
     Record,
     /// A name for each client that is one.
     Clients,
-    /// A name of its own for each client.
-    OwnNames,
-    /// A file of its own for each use of standard input.
-    Input,
-    /// A file of its own for each that is written.
-    Files,
+    /// A file of its own for each that is written, and for standard input. This tells why.
+    Files(String),
     /// Memory.
     Memory,
 }
@@ -49,7 +45,7 @@ impl From<AllocError> for Lack {
 
 impl Lack {
     /// What is told of it.
-    fn message(self) -> &'static str {
+    fn message(&self) -> &str {
         match self {
             Lack::Word => "a word is missing",
             Lack::Planning => "`--steady` plans with one worker: leave `--workers` out",
@@ -57,11 +53,7 @@ impl Lack {
             Lack::Picture => "`--prices` excludes `--settings`",
             Lack::Record => "`--resume` and `--sync` are for `--record`",
             Lack::Clients => "a client's name is empty or has a line feed",
-            Lack::OwnNames => "two clients have one name",
-            Lack::Input =>
-                "standard input is read once: `-` can name one file, and none of `talk`, or of `drive` without `--go-on`",
-            Lack::Files =>
-                "a file that is written, for `--record`, `--image-out`, a client or PORT, can't be `-`, nor one that is read, or written too",
+            Lack::Files(why) => why.as_str(),
             Lack::Memory => "no memory",
         }
     }

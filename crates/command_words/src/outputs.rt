@@ -1,12 +1,25 @@
 //! Whether the files that a job names may be those that it reads and writes, and its clients have
 //! names.
 
-ghost use Rattle.std.specs.Prelude.{◌↔◌, All, IsTrue};
+ghost use Rattle.std.specs.Prelude.{◌↔◌, All, IfNone, IfSome, IsTrue, MatchOption, slice_get};
 ghost use Rattle.command_words.specs.Jobs.{HaveNames, HaveTwoNames, IsClientName, MayHaveName, clients_of};
+ghost use Rattle.command_words.specs.Names.{IsMisnamed};
 
 use crate::jobs::Job;
+use crate::role::RoleClash;
 use crate::text::Text;
 use crate::uses::{Access, FileUse};
+use refusal_notes::Named;
+use std::fmt::{self, Display, Formatter, Write};
+
+/// Why files may not have their names.
+#[derive(Clone, Copy)]
+pub(crate) enum Misnamed<'a> {
+    /// This one is written, and named `-`.
+    Input(&'a FileUse),
+    /// These two have one name, and have to have two.
+    OneName(&'a FileUse, &'a FileUse),
+}
 
 /// Whether the file isn't both written and named `-`.
 fn may_have_name(file: &FileUse) -> bool
@@ -23,24 +36,58 @@ fn have_two_names(one: &FileUse, other: &FileUse) -> bool
     !(are_two && one.name.as_str() == other.name.as_str())
 }
 
-/// Whether a file and each of others have two names, where they have to be two.
-fn is_apart(file: &FileUse, others: &[FileUse]) -> bool
-    ensures { IsTrue result ↔ All (λ other. HaveTwoNames other file.now) others.now }
+/// The place of the first of these files that has to have another name than this one, and hasn't.
+fn namesake(file: &FileUse, others: &[FileUse]) -> Option<usize>
+    ensures some { IfSome result (λ k. MatchOption (slice_get others.now k) ⊥
+        (λ other. HaveTwoNames other file.now → ⊥)) }
+    ensures none { IfNone result (All (λ other. HaveTwoNames other file.now) others.now) }
 {
-    others.iter().all(|other| have_two_names(other, file))
-}
-
-/// Whether nothing is written that is read, or written too, and standard input is read once, as far
-/// as names say.
-pub(crate) fn have_names(files: &[FileUse]) -> bool
-    ensures { IsTrue result ↔ HaveNames files.now }
-{
-    for i in 0..files.len() {
-        if !(may_have_name(&files[i]) && is_apart(&files[i], &files[..i])) {
-            return false;
+    for k in 0..others.len() {
+        if !have_two_names(&others[k], file) {
+            return Some(k);
         }
     }
-    true
+    None
+}
+
+/// The first of these files that may not have its name: what is written may not be `-`, nor be read,
+/// or written too, and standard input is read once.
+pub(crate) fn first_misnamed(files: &[FileUse]) -> Option<Misnamed<'_>>
+    ensures some { IfSome result (IsMisnamed files.now) }
+    ensures none { IfNone result (HaveNames files.now) }
+{
+    for i in 0..files.len() {
+        if !may_have_name(&files[i]) {
+            return Some(Misnamed::Input(&files[i]));
+        }
+        if let Some(k) = namesake(&files[i], &files[..i]) {
+            return Some(Misnamed::OneName(&files[k], &files[i]));
+        }
+    }
+    None
+}
+
+impl<'a> Display for Misnamed<'a> {
+    fn fmt<W: Write>(&self, f: &mut Formatter<W>) -> fmt::Result {
+        let (one, other) = match *self {
+            Misnamed::Input(file) => {
+                return write!(f, "`-` is standard input, which can't be {}", file.role());
+            }
+            Misnamed::OneName(one, other) => (one, other),
+        };
+        let clash = RoleClash {
+            first: one.role(),
+            later: other.role(),
+        };
+        if other.name.is_input() {
+            return write!(f, "`-` is standard input, which is read once: {clash}");
+        }
+        let name = Named {
+            name: other.name.as_str(),
+            text: &[],
+        };
+        write!(f, "{name}: {clash}")
+    }
 }
 
 /// Whether a client may have this name: it isn't empty, and stands in one line.
@@ -56,25 +103,6 @@ fn are_client_names(names: &[Text]) -> bool
     ensures { IsTrue result ↔ All IsClientName names.now }
 {
     names.iter().all(is_client_name)
-}
-
-/// Whether two of these names are one.
-fn are_twice(names: &[Text]) -> bool {
-    for i in 0..names.len() {
-        let name = names[i].as_str();
-        if names[..i].iter().any(|other| other.as_str() == name) {
-            return true;
-        }
-    }
-    false
-}
-
-/// Whether two of a job's clients have one name.
-pub(crate) fn names_one_client_twice(job: &Job) -> bool {
-    match job {
-        Job::Host { clients, .. } => are_twice(clients.as_slice()),
-        _ => false,
-    }
 }
 
 /// Whether each of a job's clients has a name that it may have.

@@ -10,15 +10,16 @@ use crate::faults::{Lack, fault_of};
 use crate::grammar::matches_of;
 use crate::jobs::{ArgumentsFault, Job, RecordFile, Request, SharedRack};
 use crate::limits::{LAST_MODULE, MAX_CLIENTS, MAX_NUMBER};
-use crate::outputs::{have_names, names_clients, names_one_client_twice};
+use crate::outputs::{first_misnamed, names_clients};
 use crate::text::Text;
 use crate::text_list::TextList;
-use crate::uses::{Access, FileUse, file_uses};
+use crate::uses::file_uses;
 use clap::ArgMatches;
 use clap::parser::ValueSource;
 use exchange_limits::{MAX_WORKERS, WorkerCount};
 use plan_answers::{Planning, Source};
 use std::alloc::{AllocError, Global};
+use std::fmt::Display;
 
 /// The text of an argument that has to be there.
 fn text_of(alloc: Global, matches: &ArgMatches<'_>, id: &str) -> Result<Text, Lack>
@@ -367,15 +368,10 @@ fn judge(alloc: Global, job: &Job) -> Result<(), Lack>
         return Err(Lack::Clients);
     }
     let files = file_uses(alloc, job)?;
-    if have_names(files.as_slice()) {
-        return Ok(());
+    match first_misnamed(files.as_slice()) {
+        None => Ok(()),
+        Some(why) => Err(Lack::Files(why.to_string(alloc)?)),
     }
-    if names_one_client_twice(job) {
-        return Err(Lack::OwnNames);
-    }
-    let reads_input = |file: &&FileUse| !file.access.excludes(Access::Read) && file.name.is_input();
-    let inputs = files.iter().filter(reads_input).count();
-    Err(if inputs > 1 { Lack::Input } else { Lack::Files })
 }
 
 /// Reads the program's arguments, the first of which is its own name.

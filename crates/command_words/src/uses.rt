@@ -5,6 +5,7 @@ ghost use Rattle.plan_answers.specs.Lent.{bytes_of};
 ghost use Rattle.command_words.specs.Jobs.{Exclude, client_files, file, files_beside, files_read, kept_files, port_files, file_uses as the_uses};
 
 use crate::jobs::{Job, SharedRack};
+use crate::role::{Role, ToldRole};
 use crate::text::Text;
 use std::alloc::{AllocError, Global};
 use std::marker::Model;
@@ -37,6 +38,14 @@ impl Access {
 pub struct FileUse {
     pub name: Text,
     pub access: Access,
+    pub(crate) role: ToldRole,
+}
+
+impl FileUse {
+    /// What it is used as.
+    pub fn role(&self) -> Role {
+        self.role.0
+    }
 }
 
 /// The files of a job, as far as they are gathered.
@@ -57,40 +66,53 @@ impl Model for Gathered {
 
 impl Gathered {
     /// A file of this name with an ending.
-    fn add_ending(&mut self, access: Access, name: &Text, ending: &str) -> Result<(), AllocError>
+    fn add_ending(
+        &mut self,
+        access: Access,
+        role: Role,
+        name: &Text,
+        ending: &str,
+    ) -> Result<(), AllocError>
         ensures { OnOk result (self.new ≡ self.old ++ file access (name.now ++ ending.now) ∷ []) }
     {
         let name = name.with_ending(self.alloc, ending)?;
-        self.uses.push(FileUse { name, access })?;
+        let role = ToldRole(role);
+        self.uses.push(FileUse { name, access, role })?;
         Ok(())
     }
 
     /// A file of this name.
-    fn add(&mut self, access: Access, name: &str) -> Result<(), AllocError>
+    fn add(&mut self, access: Access, role: Role, name: &str) -> Result<(), AllocError>
         ensures { OnOk result (self.new ≡ self.old ++ file access name.now ∷ []) }
     {
         let name = Text::of(self.alloc, name)?;
-        self.uses.push(FileUse { name, access })?;
+        let role = ToldRole(role);
+        self.uses.push(FileUse { name, access, role })?;
         Ok(())
     }
 
     /// A file of this name, where there is one.
-    fn add_option(&mut self, access: Access, name: Option<&Text>) -> Result<(), AllocError>
+    fn add_option(
+        &mut self,
+        access: Access,
+        role: Role,
+        name: Option<&Text>,
+    ) -> Result<(), AllocError>
         ensures { OnOk result
             (self.new ≡ self.old ++ map (file access) (option_to_list (bytes_of name.entry))) }
     {
         match name {
-            Some(name) => self.add(access, name.as_str()),
+            Some(name) => self.add(access, role, name.as_str()),
             None => Ok(()),
         }
     }
 
-    /// Files of these names, which are read.
+    /// Scripts of these names.
     fn read_all(&mut self, names: &[Text]) -> Result<(), AllocError>
         ensures { OnOk result (self.new ≡ self.old ++ map (file Access.Read) names.now) }
     {
         for name in names {
-            self.add(Access::Read, name.as_str())?;
+            self.add(Access::Read, Role::Script, name.as_str())?;
         }
         Ok(())
     }
@@ -100,23 +122,23 @@ impl Gathered {
         ensures { OnOk result (self.new ≡ self.old ++ map (file Access.Read) (files_read job.now)) }
     {
         let files = job.files();
-        self.add_option(Access::Read, files.image)?;
-        self.add_option(Access::Read, files.list)?;
-        self.add_option(Access::Read, files.other)?;
-        self.add_option(Access::Read, files.wiring)?;
+        self.add_option(Access::Read, Role::Image, files.image)?;
+        self.add_option(Access::Read, list_role(job), files.list)?;
+        self.add_option(Access::Read, other_role(job), files.other)?;
+        self.add_option(Access::Read, Role::Wiring, files.wiring)?;
         self.read_all(files.scripts)?;
         if !job.hears_input() {
             return Ok(());
         }
-        self.add(Access::Read, "-")
+        self.add(Access::Read, heard_role(job), "-")
     }
 
     /// The files for the record of sessions and for the image that they leave.
     fn add_kept(&mut self, rack: &SharedRack) -> Result<(), AllocError>
         ensures { OnOk result (self.new ≡ self.old ++ kept_files rack.now) }
     {
-        self.add_option(Access::Write, rack.record_name())?;
-        self.add_option(Access::Write, rack.image_out.as_ref())
+        self.add_option(Access::Write, Role::Record, rack.record_name())?;
+        self.add_option(Access::Write, Role::ImageLeft, rack.image_out.as_ref())
     }
 
     /// The files of clients.
@@ -124,8 +146,8 @@ impl Gathered {
         ensures { OnOk result (self.new ≡ self.old ++ flat_map client_files clients.now) }
     {
         for client in clients {
-            self.add_ending(Access::Read, client, ".in")?;
-            self.add_ending(Access::Write, client, ".out")?;
+            self.add_ending(Access::Read, Role::Said, client, ".in")?;
+            self.add_ending(Access::Write, Role::Told, client, ".out")?;
         }
         Ok(())
     }
@@ -138,9 +160,9 @@ impl Gathered {
         let Some(port) = port else {
             return Ok(());
         };
-        self.add(Access::Port, port.as_str())?;
-        self.add_ending(Access::Port, port, ".in")?;
-        self.add_ending(Access::Read, port, ".out")
+        self.add(Access::Port, Role::Port, port.as_str())?;
+        self.add_ending(Access::Port, Role::PortIn, port, ".in")?;
+        self.add_ending(Access::Read, Role::PortOut, port, ".out")
     }
 
     /// The files that a job reads or writes beside.
@@ -159,6 +181,31 @@ impl Gathered {
             }
             _ => Ok(()),
         }
+    }
+}
+
+/// What a job's batch, moves or record are.
+fn list_role(job: &Job) -> Role {
+    match job {
+        Job::Direct { .. } => Role::Moves,
+        Job::Replay { .. } => Role::Record,
+        _ => Role::Batch,
+    }
+}
+
+/// What a job reads behind them.
+fn other_role(job: &Job) -> Role {
+    match job {
+        Job::Apply { .. } => Role::Image,
+        _ => Role::Schedule,
+    }
+}
+
+/// What a job hears from standard input.
+fn heard_role(job: &Job) -> Role {
+    match job {
+        Job::Drive { .. } => Role::GoOn,
+        _ => Role::Talk,
     }
 }
 

@@ -8,6 +8,7 @@ use Rattle.std.specs.contracts.prelude.UsizeFromStr.TheImpl.{from_str_gives-valu
 use Rattle.command_words.specs.Jobs.{HasNumeral}
 use Rattle.command_words.proofs.ReadText.{read_text, read_number}
 use Rattle.command_words.proofs.reading.number_of.Goals as goal
+use Rattle.command_words.proofs.reading.number_of.Goals.{in_default-via-in-Some+else-number-last, in_default-via-in_default}
 
 -- what holds of the text that is there
 in_text : (P : Text → Type 0) (o : Option Text) → MatchOption o ⊥ P → (t : Text) × (o ≡ Some t) × P t
@@ -50,13 +51,13 @@ pub returns-in_default : goal.returns-in_default
 returns-in_default c = λ o has.
     let found = found_of c.args.matches.now in
     let given = numbered c.args.id.now c.args.last (rows_of found) (λ none. some_there (λ s. s.now) c.get_str.result c.if-is_none.ensures (c.get_str.ensures ∙ first_value-rows found c.args.id.now ∙ none)) o has in
-    let same : Some c.in-Some.number ≡ Some given.0 = sym c.in-Some.is ∙ read c.args.id.now c.args.last found c.get_one.result given.0 (omega arith) c.get_one.ensures.value given.1 in
-    let number : c.in-Some.number ≡ given.0 = cc in
-    absurd (omega (arith, number, given.2, c.if-number-last.false))
-
-pub returns-in_default-2 : goal.returns-in_default-2
-returns-in_default-2 c = λ o has.
-    let found = found_of c.args.matches.now in
-    let given = numbered c.args.id.now c.args.last (rows_of found) (λ none. some_there (λ s. s.now) c.get_str.result c.if-is_none.ensures (c.get_str.ensures ∙ first_value-rows found c.args.id.now ∙ none)) o has in
-    let bad : None ≡ Some given.0 = sym c.in_default.is ∙ read c.args.id.now c.args.last found c.get_one.result given.0 (omega arith) c.get_one.ensures.value given.1 in
-    cc
+    let is : c.get_one.result ≡ Some given.0 = read c.args.id.now c.args.last found c.get_one.result given.0 (omega arith) c.get_one.ensures.value given.1 in
+    elim c.in_default.branch [
+      | in_default-via-in-Some+else-number-last w ↦
+          let same : Some w.in-Some.number ≡ Some given.0 = sym w.in-Some.is ∙ is in
+          let number : w.in-Some.number ≡ given.0 = cc in
+          absurd (omega (arith, number, given.2, w.if-number-last.false))
+      | in_default-via-in_default w ↦
+          let bad : None ≡ Some given.0 = sym w.in_default.is ∙ is in
+          cc
+    ]
