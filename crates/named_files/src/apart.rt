@@ -10,7 +10,7 @@ ghost use Rattle.named_files.specs.Notes.{IsWholeLine, IsRefused};
 use crate::notes::NoAnswer;
 use crate::place::{FileKind, Place, Places, are_one_file};
 use crate::unanswered::Unanswered;
-use command_words::{Access, FileUse, Job, Text, file_uses};
+use command_words::{Access, FileUse, Job, RoleClash, Text, file_uses};
 use refusal_notes::{Named, file_line};
 use std::alloc::{AllocError, Global};
 
@@ -67,15 +67,19 @@ fn clash<S: Places>(system: &S, one: &FileUse, other: &FileUse) -> Result<bool, 
 }
 
 /// What is told of two names that lead to one file.
-fn one_file_line(alloc: Global, one: &Text, other: &Text) -> Option<String>
+fn one_file_line(alloc: Global, one: &FileUse, other: &FileUse) -> Option<String>
     ensures { IfSome result (λ line. IsWholeLine (string_bytes line)) }
 {
     let first = Named {
-        name: one.as_str(),
+        name: one.name.as_str(),
         text: &[],
     };
-    match format!(in alloc; "the same file as {first}, and one of the two is written") {
-        Ok(reason) => file_line(alloc, other.as_str(), reason.as_str()),
+    let clash = RoleClash {
+        first: one.role(),
+        later: other.role(),
+    };
+    match format!(in alloc; "the same file as {first}, and {clash}") {
+        Ok(reason) => file_line(alloc, other.name.as_str(), reason.as_str()),
         Err(_) => None,
     }
 }
@@ -84,7 +88,7 @@ fn one_file_line(alloc: Global, one: &Text, other: &Text) -> Option<String>
 fn refused(alloc: Global, one: &FileUse, other: &FileUse) -> NoAnswer
     ensures { IsRefused result }
 {
-    let note = one_file_line(alloc, &one.name, &other.name);
+    let note = one_file_line(alloc, one, other);
     NoAnswer::Refused {
         why: Unanswered::File,
         note,

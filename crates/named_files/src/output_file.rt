@@ -280,7 +280,7 @@ impl OutputFile {
         };
         let place = followed(rt, name)?;
         if is_of_new_file(place.as_str()) {
-            return Err(io::Error::other("names that end so are for new files"));
+            return Err(io::Error::other("names that end in .exchange-N are for new files"));
         }
         let (file, name) = make_beside(rt, apart, &place)?;
         if let Some(permissions) = permissions {
