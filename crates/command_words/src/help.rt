@@ -413,9 +413,10 @@ by one line:
   progress     says how far the last run is: progress run R done SETTINGS
   bye          ends the session: bye
 Batches and runs are numbered from 1, those of all sessions together: so let one
-script alone hand batches in. A batch is its session's own, and is run once. A
-and D are eight hexadecimal digits in lower case. Word j of block b is at
-address 80000800 + 4 (W b + j), in hexadecimal digits.
+script alone hand batches in. Before the first run, R is 0. A batch is answered
+after its last line, is its session's own, and is run once. A and D are eight
+hexadecimal digits in lower case. Word j of block b is at address
+80000800 + 4 (W b + j), in hexadecimal digits.
 
 The answer is, for each script in the order given, the line `session I`, with I
 from 0, and then the lines that answer its own. A line may be refused. Then
