@@ -14,6 +14,10 @@ pub open_both-requires-clause-image : goal.open_both-requires-clause-image
 open_both-requires-clause-image g c κs within =
     (kept_last c.args.apart.now.files.items (map (file Read) (files_read (Serve c.in-Serve.rack c.in-Serve.scripts c.in-Serve.workers))) c.in-Serve.rack (c.requires ∙ ap file_uses c.in-Serve.is)).1
 
+pub open_both-requires-in-Host-clause-recorded : goal.open_both-requires-in-Host-clause-recorded
+open_both-requires-in-Host-clause-recorded g c κs within =
+    (kept_written c.args.apart.now.files.items (map (file Read) (files_read (Host c.in-Host.rack c.in-Host.clients c.in-Host.workers))) (flat_map client_files c.in-Host.clients) c.in-Host.rack (c.requires ∙ ap file_uses c.in-Host.is)).0
+
 pub open_both-requires-in-Host-clause-image : goal.open_both-requires-in-Host-clause-image
 open_both-requires-in-Host-clause-image g c κs within =
     (kept_written c.args.apart.now.files.items (map (file Read) (files_read (Host c.in-Host.rack c.in-Host.clients c.in-Host.workers))) (flat_map client_files c.in-Host.clients) c.in-Host.rack (c.requires ∙ ap file_uses c.in-Host.is)).1
