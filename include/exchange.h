@@ -7,7 +7,8 @@
  * What a call gives back, and what it leaves in `out` and `*count`:
  *
  *   EXCHANGE_DONE       the answer is at the beginning of `out`, and `*count` is its number of bytes
- *   EXCHANGE_REFUSED    the same, and the answer is the line of a refusal, as `refused batch line 2`
+ *   EXCHANGE_REFUSED    the same, and the answer is the line of a refusal, as `refused batch line 2`, with its line
+ *                       feed: at most 100 bytes
  *   EXCHANGE_NO_ROOM    the answer has more than `room` bytes: `*count` says how many, and `out` is as it was
  *   EXCHANGE_NO_MEMORY  malloc or realloc gave no memory: `*count` is 0, and `out` is as it was
  *
@@ -145,8 +146,10 @@ uint8_t exchange_direct(const uint8_t *moves, size_t moves_bytes, uint8_t *out, 
 /* Why a text was refused: the line that `exchange` tells on standard error beside the refusal, with its line feed.
  *
  * The texts are those of the call, in the order of its arguments; of those that it doesn't have, give any, as of 0
- * bytes. `names` are what the line calls them, one a line: `batch.txt\nplan.txt`. An empty or missing name is the
- * text's kind: `batch`, `schedule`, `image`, `moves`, `wiring`. `exchange_plan_steady` refuses what `exchange_plan` does.
+ * bytes. `names` are what the line calls them, one a line, in the same order. A shape has a line too, and so has a
+ * schedule that isn't given: else the wrong file is named. For `exchange_apply` write `\nbatch.txt\nwords.img`, and
+ * for `exchange_switch_wired` without a schedule `batch.txt\n\nboard.txt`. An empty or missing name is the text's
+ * kind: `batch`, `schedule`, `image`, `moves`, `wiring`. `exchange_plan_steady` refuses what `exchange_plan` does.
  *
  * The answer is done, and has 0 bytes where the call refuses none of these texts. Where no call has the number, the
  * status is EXCHANGE_NO_CALL, `*count` is 0, and `out` is as it was. Takes the time of the call. */

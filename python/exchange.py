@@ -1,5 +1,19 @@
 """Plans block transfers between the modules of a transputer rack, and moves the blocks: the answers of the program `exchange` as calls.
 
+    plan(batch)                     a schedule with the fewest settings; with steady=True, one that also changes the switch seldom
+    check(batch, schedule)          how many settings a schedule has that is right and shortest
+    switch_bytes(batch, schedule)   the bytes that set the switch for each setting
+    orders(batch, schedule)         what each module does in each setting
+    apply(shape, batch, image)      the image that a run leaves of this one
+    draw(batch, schedule)           a picture of a schedule
+    changes(batch, schedule)        how often a schedule changes the switch
+    direct(moves)                   a batch that does the moves
+    batch_text(transfers)           the text of a batch
+    transfers(batch)                the transfers of a batch
+    settings(schedule)              the settings of a schedule
+
+`python3 -m pydoc exchange.plan` says more of one. Below, the classes come first.
+
 A text is given as `str` or as bytes, and is that of the program: README.md says what a batch and a schedule are, docs/GUIDE.md what moves
 are, and docs/MEMORY.md what a shape and an image are. These pages are installed in share/doc/exchange. Modules, blocks, transfers and
 settings are numbered from 0. There may be 32 modules of 64 blocks of 256 words of four bytes, and 4096 transfers.
@@ -14,6 +28,9 @@ use it.
 import ctypes
 import os
 from typing import Iterable, List, Mapping, NamedTuple, Optional, Sequence, Tuple, Union
+
+__all__ = ["plan", "check", "switch_bytes", "orders", "apply", "draw", "changes", "direct", "batch_text", "transfers", "settings"]
+__all__ += ["Transfer", "Order", "ModuleOrders", "Refused", "C004", "LinkEnd", "EndFailed"]
 
 Text = Union[str, bytes, bytearray, memoryview]
 
@@ -46,7 +63,7 @@ class Refused(ValueError):
         super().__init__("\n".join([line, why] if why else [line]))
         self.line, self.why, self._call, self._given = line, why, call, given
 
-    def named(self, **names: str) -> str:
+    def named(self, *, batch: str = "", schedule: str = "", wiring: str = "", image: str = "", moves: str = "") -> str:
         """`why`, where the names of files stand in place of `batch`, `schedule`, `wiring`, `image` or `moves`.
 
         >>> try:
@@ -55,6 +72,7 @@ class Refused(ValueError):
         ...     print(refused.named(batch="mine.txt"))
         exchange: mine.txt:1: "batch one": at byte 7 there is "o" instead of a number; expected "batch N", where N counts the transfers
         """
+        names = {"batch": batch, "schedule": schedule, "wiring": wiring, "image": image, "moves": moves}
         return _why(self._call, self._given, names) if self._call else self.why
 
 
@@ -92,23 +110,22 @@ def batch_text(transfers: Iterable[Transfer]) -> str:
     return "\n".join([f"batch {len(lines)}", *lines, ""])
 
 
-def transfers(batch: str) -> List[Transfer]:
+def transfers(batch: Text) -> List[Transfer]:
     r"""The transfers of a batch that a call took, or that `direct` made.
 
     >>> transfers("batch 1\npush 0 0 1 0\n")
     [Transfer(kind='push', initiator=0, own_block=0, responder=1, far_block=0)]
     """
-    return [Transfer(kind, *map(int, numbers)) for kind, *numbers in map(str.split, batch.splitlines()[1:])]
+    return [Transfer(kind, *map(int, numbers)) for kind, *numbers in _words_of(batch)[1:]]
 
 
-def settings(schedule: str) -> List[List[int]]:
+def settings(schedule: Text) -> List[List[int]]:
     r"""The transfers that move in each setting of a schedule that `check` took, or that `plan` made, by their numbers.
 
     >>> settings("settings 2\nsetting 0 2\nsetting 1\n")
     [[0, 2], [1]]
     """
-    lines = [line.split() for line in schedule.splitlines()]
-    return [[int(number) for number in numbers] for word, *numbers in lines if word == "setting"]
+    return [[int(number) for number in numbers] for word, *numbers in _words_of(schedule) if word == "setting"]
 
 
 def plan(batch: Text, steady: bool = False) -> str:
@@ -179,8 +196,8 @@ class ModuleOrders(NamedTuple):
 
 
 def orders(batch: Text, schedule: Optional[Text] = None, module: Optional[int] = None) -> List[ModuleOrders]:
-    r"""What each module does in the settings of a schedule of a batch, with a certificate or without, or what one module does. Where no
-    schedule is given, it is that of `plan`. A module without orders is left out. A batch in which two transfers write one block is refused.
+    r"""What each module does in the settings of a schedule of a batch, with a certificate or without, or what one module does, 0 to 31. Where
+    no schedule is given, it is that of `plan`. A module without orders is left out. A batch in which two transfers write one block is refused.
     docs/ORDERS.md says how modules obey.
 
     >>> for it in orders("batch 2\npush 0 0 1 0\npush 1 0 2 0\n", "settings 2\nsetting 0\nsetting 1\n"):
@@ -189,6 +206,8 @@ def orders(batch: Text, schedule: Optional[Text] = None, module: Optional[int] =
     1 [0] [['3 receive block 0'], ['0 send copy 0']]
     2 [] [[], ['3 receive block 0']]
     """
+    if module is not None and not 0 <= module < 32:
+        raise ValueError("a rack has the modules 0 to 31")
     head, *lines = _ask("orders", batch, _schedule_given(schedule)).decode().splitlines()
     count, found = int(head.split()[3]), []
     for line in lines:
@@ -423,6 +442,11 @@ def _bytes_of(text: Text) -> bytes:
     if isinstance(text, str):
         return text.encode("utf-8", "surrogatepass")
     return text if isinstance(text, bytes) else bytes(memoryview(text))
+
+
+def _words_of(text: Text) -> List[List[str]]:
+    """The words of each line of a text."""
+    return [line.split() for line in _bytes_of(text).decode().splitlines()]
 
 
 def _schedule_given(schedule: Optional[Text]) -> bytes:

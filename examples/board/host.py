@@ -3,10 +3,12 @@
 
     host.py CABLE BATCH [OPTION]..
 
-The options are those of `drive`: --steady, --schedule FILE, --wiring FILE, --from K. CABLE is a device, or the two named pipes CABLE.in,
-to the board, and CABLE.out, from it. Over the cable the number of its way goes before each byte: 0 the switch, 1 the modules, 2 switch B.
+The options are those of `drive`: --steady, --schedule FILE, --wiring FILE, --from K. With --pause it waits for the return key before the
+modules hear of a setting. CABLE is a device, or the two named pipes CABLE.in, to the board, and CABLE.out, from it. Over the cable the number
+of its way goes before each byte: 0 the switch, 1 the modules, 2 switch B.
 The modules are told the number of each setting in two bytes, the lower one first, and give it back once all of them are done. Before the
-first setting they are told -2, and after the last one -1. docs/BOARD.md says more. The program is `exchange` on the PATH, or the one that EXCHANGE names.
+first setting they are told -2, and after the last one -1. docs/BOARD.md says more. The program is the one that EXCHANGE names, or
+`exchange` on the PATH, or in this folder.
 """
 
 import contextlib
@@ -14,6 +16,7 @@ import os
 import queue
 import select
 import shutil
+import signal
 import stat
 import subprocess
 import sys
@@ -22,6 +25,7 @@ import threading
 
 SWITCH, MODULES, SWITCH_B = 0, 1, 2
 END, WAIT = -1, -2
+PAUSE = "--pause"
 PROGRAM = os.path.abspath(os.environ.get("EXCHANGE") or shutil.which("exchange") or "exchange")
 
 
@@ -134,13 +138,16 @@ def ways(batch):
 def main():
     if len(sys.argv) < 3 or sys.argv[1].startswith("-"):
         sys.exit(__doc__.split("\n\n")[1].strip())
+    options = [word for word in sys.argv[2:] if word != PAUSE]
     cable = Cable(sys.argv[1])
     cable.find_modules()
     with tempfile.TemporaryDirectory(prefix="host-") as folder:
-        drive = Drive(cable, folder, *sys.argv[2:])
+        drive = Drive(cable, folder, *options)
         try:
             for word, number, *_ in drive.lines():
                 if word == "setting":
+                    if PAUSE in sys.argv:
+                        sys.stdin.readline()
                     cable.move(int(number))
                     # All are done, and not before that the next setting may be set.
                     drive.go_on()
@@ -152,6 +159,8 @@ def main():
 
 
 if __name__ == "__main__":
+    # So that `drive` is ended, and no folder is left.
+    signal.signal(signal.SIGTERM, lambda *_: sys.exit(128 + signal.SIGTERM))
     try:
         main()
     except OSError as error:

@@ -5,8 +5,10 @@
 #define _XOPEN_SOURCE 700
 
 #include "exchange.h"
+#include <errno.h>
 #include <fcntl.h>
 #include <poll.h>
+#include <signal.h>
 #include <stdio.h>
 #include <stdlib.h>
 #include <string.h>
@@ -143,6 +145,18 @@ static void keep(const char *name, const char *text)
     must(file != NULL && fputs(text, file) >= 0 && fclose(file) == 0);
 }
 
+/* The folder of the pipes and files of `drive`. It is taken away when this program exits. */
+static char folder[] = "/tmp/emulator-XXXXXX";
+
+static void clean(void)
+{
+    static const char *const names[] = {"board.in", "board.out", "batch", "schedule"};
+
+    for (size_t i = 0; i < sizeof names / sizeof *names; i++)
+        unlink(names[i]);
+    rmdir(folder);
+}
+
 /* Starts `drive`, whose lines come from lines, and which waits for a line from go_on after each setting. */
 static pid_t start_drive(const char *program, int *go_on, int *lines)
 {
@@ -175,18 +189,20 @@ static int take(int in, int out)
     return count > 0;
 }
 
-/* At the other end of `drive`: looks at both of its pipes, since neither may wait for the other. */
-static void be_driven(const char *program, const char *plan, const char *orders)
+/* At the other end of `drive`: looks at both of its pipes, since neither may wait for the other. Gives the status with which it ends. */
+static int be_driven(const char *program, const char *plan, const char *orders)
 {
-    char folder[] = "/tmp/emulator-XXXXXX", line[4096] = "";
+    char line[4096] = "";
     int go_on, lines, status, setting;
 
     char *path = realpath(program, NULL);
-    must(path != NULL && mkdtemp(folder) != NULL && chdir(folder) == 0);
+    must(path != NULL && mkdtemp(folder) != NULL && chdir(folder) == 0 && atexit(clean) == 0);
     keep("batch", batch);
     keep("schedule", plan);
     pid_t drive = start_drive(path, &go_on, &lines);
     FILE *told = fdopen(lines, "r");
+    /* `drive` may end while it is written to. It was started before, so that it doesn't ignore the signal too. */
+    signal(SIGPIPE, SIG_IGN);
     /* Opened to read and to write, neither waits for `drive`, which opens none where it is refused. */
     int in = open("board.in", O_RDWR), out = open("board.out", O_RDWR);
     must(told != NULL && in >= 0 && out >= 0);
@@ -198,15 +214,17 @@ static void be_driven(const char *program, const char *plan, const char *orders)
         /* `drive` prints a line, and then waits for one: there is never a second line in the buffer. */
         if (ways[1].revents != 0 && fgets(line, sizeof line, told) != NULL && sscanf(line, "setting %d", &setting) == 1) {
             obey(orders, setting);
-            must(write(go_on, "\n", 1) == 1);
+            must(write(go_on, "\n", 1) == 1 || errno == EPIPE);
         }
     } while (!(ways[1].revents & POLLHUP));
+    /* One that waits for no line may have told more. */
+    while (fgets(line, sizeof line, told) != NULL) {
+    }
     must(waitpid(drive, &status, 0) == drive);
     fputs(line, stdout);
     free(path);
     must(fclose(told) == 0 && close(go_on) == 0 && close(in) == 0 && close(out) == 0);
-    must(unlink("board.in") == 0 && unlink("board.out") == 0 && unlink("batch") == 0 && unlink("schedule") == 0);
-    must(chdir("/") == 0 && rmdir(folder) == 0);
+    return WIFEXITED(status) ? WEXITSTATUS(status) : 128 + WTERMSIG(status);
 }
 
 int main(int words, char **word)
@@ -221,13 +239,18 @@ int main(int words, char **word)
 
     char *plan = ask(steady_plan, ""), *bytes = ask(exchange_switch, plan), *orders = ask(exchange_orders, plan);
     copy(orders);
+    int ended = 0;
     if (words > 1)
-        be_driven(word[1], plan, orders);
+        ended = be_driven(word[1], plan, orders);
     else
         go(bytes, orders);
     free(plan);
     free(bytes);
     free(orders);
+    if (ended != 0) {
+        printf("drive has ended with status %d, so nothing is compared\n", ended);
+        return ended;
+    }
 
     for (int m = 0; m < MODULES; m++)
         printf("module %d: %.8s %.8s\n", m, (char *)memory[m][0], (char *)memory[m][1]);

@@ -7,6 +7,7 @@ those of a setting once it is told that the setting stands. In the end the memor
 names the program `exchange`, its `drive` sets the switch, over two named pipes. docs/EMULATORS.md says how to run it.
 """
 
+import contextlib
 import os
 import queue
 import select
@@ -90,10 +91,15 @@ def set_by(program):
                 if not line.startswith("setting"):
                     break
                 yield int(line.split()[1])
-                drive.stdin.write(b"\n")
+                # It may have ended meanwhile.
+                with contextlib.suppress(BrokenPipeError):
+                    drive.stdin.write(b"\n")
             print(line, end="")
             os.close(sent)
             os.close(replies)
+    if drive.returncode:
+        print(f"drive has ended with status {drive.returncode}, so nothing is compared")
+        sys.exit(drive.returncode)
 
 
 modules = [Module(m, [bytes([16 * m + b]) * BYTES for b in range(MODULES)]) for m in range(MODULES)]

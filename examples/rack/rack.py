@@ -9,14 +9,15 @@ Without an option all go by the plan, and this program starts host.py too. With 
 With --slot-0 the cable ends at slot 0, whose relay parts the bytes, and a second relay passes those of the switch on. In the end the words of
 all modules are compared with those that `apply` leaves. Where a process fails, or is killed, the rack says which, and ends all. With
 --modules the program of module M is FOLDER/M, which has the words and the links of module.py. With --in-turn each module does what it is told
-for link 0, and then what it is told for link 3: that hangs in a ring. docs/BOARD.md says how to run it. The program is `exchange` on the PATH,
-or the one that EXCHANGE names.
+for link 0, and then what it is told for link 3: that hangs in a ring. docs/BOARD.md says how to run it. The program is the one that EXCHANGE
+names, or `exchange` on the PATH, or in this folder.
 """
 
 import argparse
 import contextlib
 import os
 import queue
+import shutil
 import signal
 import socket
 import subprocess
@@ -32,6 +33,9 @@ except ImportError:
 HERE = os.path.dirname(os.path.realpath(__file__))
 BOARD = os.path.join(os.path.dirname(HERE), "board")
 HOST = "host.py"
+
+# What to look at where other words are left.
+HINT = "host.py needs the same batch, wiring and schedule, and a new rack needs setting 0 first, so no --from"
 
 # Seconds that a host has to end in, once its cable has ended.
 PATIENCE = 10
@@ -162,8 +166,8 @@ def words_of(arguments):
 
 def main():
     given = words_of(sys.argv[1:])
-    if os.environ.get("EXCHANGE"):
-        os.environ["EXCHANGE"] = os.path.abspath(os.environ["EXCHANGE"])
+    # As host.py looks for it, but from this folder.
+    os.environ["EXCHANGE"] = os.path.abspath(os.environ.get("EXCHANGE") or shutil.which("exchange") or "exchange")
     batch, image = read(given.batch), read(given.image)
     wiring = given.wiring and read(given.wiring)
     out, cable, module = given.image_out and os.path.abspath(given.image_out), os.path.abspath(given.cable or ""), module_words(given)
@@ -203,12 +207,16 @@ def main():
         keep(out, left)
     print("as exchange apply" if left == wanted else "WRONG")
     if left != wanted and given.cable:
-        sys.exit("rack.py: these aren't the words of exchange apply; has host.py the same batch, wiring and schedule?")
+        sys.exit(f"rack.py: these aren't the words of exchange apply; {HINT}")
     sys.exit(0 if left == wanted else 1)
 
 
 if __name__ == "__main__":
+    # So that all is ended, and no folder is left.
+    signal.signal(signal.SIGTERM, lambda *_: sys.exit(128 + signal.SIGTERM))
     try:
         main()
     except OSError as error:
         sys.exit(f"rack.py: {error}")
+    except KeyboardInterrupt:
+        sys.exit(128 + signal.SIGINT)

@@ -106,8 +106,8 @@ class Calls:
         return int(line[0]), self.process.stdout.read(int(line[1]))
 
     def why(self, name, given):
-        """What is told beside the refusal of these texts. Their names are those that it gives them where it is told none."""
-        names = "\n".join(CALLS[name]).encode() if len(given[0]) % 2 else b""
+        """What is told beside the refusal of these texts. Their names are those that it gives them where it is told none. A shape has an empty one."""
+        names = "\n".join("" if file == "shape" else file for file in CALLS[name]).encode() if len(given[0]) % 2 else b""
         return self.ask(f"why{NUMBERS[name]}", [*(given + [b"x", b""])[:3], names])
 
     def end(self):

@@ -1,7 +1,8 @@
 #!/usr/bin/env python3
 """The numbers of include/exchange.h, against those of the library's sources, of python/exchange.py and of these tools.
 
-Statuses stand in crates/exchange_c/src/status.rt, and the numbers by which `exchange_why` knows the calls in why.rt. It needs no program.
+Statuses stand in crates/exchange_c/src/status.rt, the numbers by which `exchange_why` knows the calls in why.rt, and how many bytes a refusal has
+at most in crates/refusals/src/refusal.rt. It needs no program.
 """
 
 import ast
@@ -44,8 +45,10 @@ def main():
     named = {name_of_call(variant): number for variant, number in asked.items()}
     python, numbers = of_python()
     of_states = {name: getattr(states, name) for name in statuses if hasattr(states, name)}
+    room = numbers_in("crates/refusals/src/refusal.rt", r"^pub const (?P<name>\w+): usize = (?P<number>\d+);$")["REFUSAL_ROOM"]
     well = {
-        "include/exchange.h": header == {**statuses, **named},
+        "include/exchange.h": header == {**statuses, **named} and f"feed: at most {room} bytes\n" in read("include/exchange.h"),
+        "tools/c/try.c": f"REFUSAL_ROOM = {room} " in read("tools/c/try.c"),
         "python/exchange.py": len(python) == 8 and python.items() <= statuses.items() and numbers == calls.NUMBERS,
         "tools/c/calls.py": {name_of_call(name): number for name, number in calls.NUMBERS.items() if name != "plan_steady"} == named,
         "tools/c/states.py": len(of_states) == 10 and of_states.items() <= statuses.items(),

@@ -1,7 +1,8 @@
 #!/usr/bin/env bash
 # Tries the calls for programs in C: tools/c/run.sh [COUNT]
 #
-#   emulator   the program of examples/emulator, built with warnings and sanitizers, prints what it is to print, also at the other end of `drive`
+#   emulator   the program of examples/emulator, built with warnings and sanitizers, prints what it is to print, also at the other end of `drive`,
+#              and of one that is refused, or ends before its line feed comes
 #   try        each call with no room, too little, just enough and more, of accepted and refused texts, and without memory
 #   texts      COUNT spoilt texts, 10000 where it isn't said, byte for byte against the built program, with what is told of refusals
 #   states     twice as many streams and states of a switch, and of an end that waits to boot, by the built program and by plain Python
@@ -24,10 +25,23 @@ checks=(-std=c11 -Wall -Wextra -Werror -g -fsanitize=address,undefined -fno-sani
 
 program=$top/crates/exchange/out/exchange
 failed=
+
+# Whether the emulator ends with a status and says so, whose `drive` has this last line and is this script, and no folder is left.
+ends() {
+    local status=0
+    printf '#!/bin/sh\npwd >%s\n%s\n' "$work/where" "$3" >"$work/drive"
+    chmod +x "$work/drive"
+    "$work/emulator" "$work/drive" >"$work/printed" || status=$?
+    printf '%s\ndrive has ended with status %d, so nothing is compared\n' "$2" "$1" >"$work/wanted"
+    cmp "$work/printed" "$work/wanted" && [ $status = "$1" ] && [ ! -e "$(cat "$work/where")" ] || failed+=" ended"
+}
+
 cc "${checks[@]}" -o "$work/emulator" "$top/examples/emulator/emulator.c" "$library" "$kit"
 "$work/emulator" >"$work/printed" && cmp "$work/printed" "$top/examples/emulator/printed.txt" || failed+=" emulator"
 { echo "driven settings 4" && tail -n +2 "$top/examples/emulator/printed.txt"; } >"$work/wanted"
 "$work/emulator" "$program" >"$work/printed" && cmp "$work/printed" "$work/wanted" || failed+=" driven"
+ends 5 'refused no memory' 'echo refused no memory; exit 5'
+ends 1 'left setting 0' "exec '$program' \"\$@\" </dev/null"
 cc "${checks[@]}" -Wl,--wrap=malloc,--wrap=realloc -o "$work/try" "$here/try.c" "$library" "$kit"
 python3 "$here/calls.py" "$work/try" --examples || failed+=" try"
 python3 "$here/calls.py" "$work/try" "${1:-10000}" || failed+=" texts"

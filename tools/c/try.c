@@ -11,7 +11,8 @@
 #include <stdlib.h>
 #include <string.h>
 
-enum { TEXTS = 4, FILL = 0xa5, BEHIND = 32 };
+/* The last is the most bytes that exchange.h gives a refusal. */
+enum { TEXTS = 4, FILL = 0xa5, BEHIND = 32, REFUSAL_ROOM = 100 };
 
 struct text {
     uint8_t *bytes;
@@ -165,6 +166,8 @@ int main(int words, char **word)
         uint8_t status = in_room(name, texts, wanted, wanted, answer);
         if (in_room(name, texts, wanted + BEHIND, wanted, again) != status || memcmp(answer, again, wanted) != 0)
             end(name, "another answer");
+        if (status == EXCHANGE_REFUSED && (wanted > REFUSAL_ROOM || memchr(answer, '\n', wanted) != answer + wanted - 1))
+            end(name, "a refusal is no line, or a longer one than exchange.h says");
         printf("%d %zu\n", status, wanted);
         fwrite(answer, 1, wanted, stdout);
         fflush(stdout);

@@ -32,7 +32,7 @@ sys.path.insert(0, f"{TOP}/tools/c")
 
 import calls
 import states
-from program import ask
+from program import EXCHANGE, ask
 
 EXAMPLES = f"{TOP}/examples"
 
@@ -291,14 +291,35 @@ def try_python(module):
     printed = Path(EXAMPLES, "emulator/printed-python.txt").read_text()
     expect_run("the emulator in Python", printed, sys.executable, f"{EXAMPLES}/emulator/emulator.py", env=env)
     printed = Path(EXAMPLES, "emulator/printed-links.txt").read_text()
-    expect_run("the emulator of threads and queues", printed, sys.executable, f"{EXAMPLES}/emulator/links.py", env=env)
+    links = [sys.executable, f"{EXAMPLES}/emulator/links.py"]
+    expect_run("the emulator of threads and queues", printed, *links, env=env)
+    expect_run("the same, driven", f"driven settings 7\n{printed}", *links, EXCHANGE, env=env)
+    for status, last, script in (5, "refused no memory", "echo refused no memory; exit 5"), (1, "left setting 0", f'exec {EXCHANGE} "$@" </dev/null'):
+        drive = Path(os.path.dirname(module), "drive")
+        drive.write_text(f"#!/bin/sh\n{script}\n")
+        drive.chmod(0o755)
+        ended = status, f"{last}\ndrive has ended with status {status}, so nothing is compared\n"
+        expect(f"the same, with a drive that ends: {last}", (told := run(*links, drive, env=env)) == ended, told)
+        drive.unlink()
     expect_run("want of memory", "exchange_apply was given no memory\nTrue\n", sys.executable, "-c", WITHOUT_MEMORY, env=env)
     sys.path.insert(0, os.path.dirname(module))
+    try_help(run(sys.executable, "-m", "pydoc", "exchange", env=env)[1])
     picture = FromPython().ask("draw", [calls.read("all-to-all.txt"), calls.read("all-to-all.plan.txt")])
     expect("an answer that needs more room", picture == (0, calls.read("all-to-all.svg")), picture)
     try_no_schedule()
     try_settings()
     try_calls()
+
+
+def try_help(told):
+    """What pydoc shows names each call before the classes, and `__all__` has all calls and classes."""
+    import exchange
+
+    public = [name for name, it in vars(exchange).items() if getattr(it, "__module__", "") == "exchange" and name[0] != "_"]
+    expect("all that is public is in __all__", sorted(exchange.__all__) == sorted(public), public)
+    front = told.partition("\nCLASSES\n")[0]
+    missing = [name for name in public if name.islower() and f"    {name}(" not in front]
+    expect("pydoc names each call first", "\nCLASSES\n" in told and not missing, f"{missing}\n{front}")
 
 
 class Counted:
@@ -332,7 +353,9 @@ def try_settings():
     import exchange
 
     batch, schedule = "batch 4096\n" + "push 0 0 1 0\n" * 4096, "settings 4096\n" + "".join(f"setting {t}\n" for t in range(4096))
-    expect("4096 settings", exchange.settings(schedule) == [[t] for t in range(4096)])
+    for kind in (str, str.encode, lambda it: memoryview(it.encode())):
+        expect("4096 settings", exchange.settings(kind(schedule)) == [[t] for t in range(4096)])
+        expect("4096 transfers", exchange.transfers(kind(batch)) == [exchange.Transfer("push", 0, 0, 1, 0)] * 4096)
     sent = [(bytes.fromhex("0401001103"),), *[(b"\3",)] * 4095]
     expect("the bytes of 4096 settings", exchange.switch_bytes(batch, schedule) == sent)
 
@@ -365,7 +388,7 @@ def settings_of(batch, schedule):
     import exchange
 
     text = exchange.plan(batch) if schedule is None else schedule
-    return len(exchange.settings(text if isinstance(text, str) else bytes(text).decode()))
+    return len(exchange.settings(text))
 
 
 def orders_text(told, settings, alone):
@@ -530,7 +553,8 @@ def try_held():
 
 
 def try_ranges():
-    """The first and the last port and address that there are, and those beside them; and bytes that are refused in several calls."""
+    """The first and the last port, address and module that there are, and those beside them; a name of no text; and bytes that are refused in
+    several calls."""
     import exchange
 
     switch = exchange.C004()
@@ -543,6 +567,11 @@ def try_ranges():
     asked = {0: None, 0xFFFFFFFF: None, -1: ValueError, 1 << 32: ValueError}
     found = {base: error_of(exchange.LinkEnd, bytearray(4), base) for base in asked}
     expect("the addresses of a memory", found == asked, found)
+    asked = {0: None, 31: None, -1: ValueError, 32: ValueError, 40: ValueError}
+    found = {module: error_of(exchange.orders, "batch 1\npush 0 0 1 0\n", None, module) for module in asked}
+    expect("the modules of a rack", found == asked, found)
+    found = {name: error_of(lambda name=name: exchange.Refused("refused count").named(**{name: "mine.txt"})) for name in ("moves", "foo")}
+    expect("the names of texts", found == {"moves": None, "foo": TypeError}, found)
     counts = []
     for sent in (b"\7", b"\2\40\2", b"\37\4", b"\x20\1\x20"):
         switch.take(sent)

@@ -11,8 +11,9 @@
     tables    those of each module of each pattern, in occam and in C, are made into its orders again
     boards    modules are on other links of the switch, as a wiring says; and the cable ends at slot 0, behind which a second relay is
     ends      a cable may be a terminal; a switch alone and a module alone are handed words in parts, and the switch words that come before it
-              has settled; the two loops of the relay carry the bytes of `drive` and `c004`; a cable that ends ends the host; and a module that is
-              killed, or a host of another wiring, ends the rack, which says so, and its host
+              has settled; the two loops of the relay carry the bytes of `drive` and `c004`; a cable that ends ends the host; a module that is
+              killed, or a host of another wiring, ends the rack, which says so, and its host; one that is told to end leaves nothing; and where a
+              host is killed the next one goes on
 
 What isn't built yet is proved and built first, and all is installed in a folder for the while. Another one is tried where RACK names it.
 """
@@ -158,8 +159,9 @@ class Racks:
             schedule = ["--schedule", "schedule"]
         return [f"{EXAMPLES}/rack/rack.py", shape, "batch", "image", *schedule]
 
-    def start(self, words):
-        return subprocess.Popen([sys.executable, *words], stdout=subprocess.PIPE, stderr=subprocess.STDOUT, start_new_session=True, env=self.env)
+    def start(self, words, **settings):
+        settings = {"env": self.env, "stdout": subprocess.PIPE, "stderr": subprocess.STDOUT, "start_new_session": True, **settings}
+        return subprocess.Popen([sys.executable, *words], **settings)
 
     def is_moved(self, what, *case):
         """Notes whether the rack leaves what the program says."""
@@ -253,7 +255,8 @@ class Racks:
                 drive.process.wait()
             cable.move(host.END)
         told = run.communicate(timeout=LIMIT)[0].decode()
-        expect(what, told == "as exchange apply\n" if is_well else told.startswith("WRONG\nrack.py: "), told)
+        is_hinted = told.startswith("WRONG\nrack.py: ") and told.endswith("a new rack needs setting 0 first, so no --from\n")
+        expect(what, told == "as exchange apply\n" if is_well else is_hinted, told)
         for name in "cable.in", "cable.out", "left":
             Path(name).unlink(missing_ok=True)
 
@@ -330,6 +333,50 @@ class Racks:
         for name in "cable.in", "cable.out":
             os.unlink(name)
 
+    def finds_the_program(self, what):
+        """Notes whether a rack finds the program in the folder that it is started in, where nothing else says where it is."""
+        os.symlink(self.program, "exchange")
+        env = {**{name: text for name, text in self.env.items() if name != "EXCHANGE"}, "PATH": os.defpath}
+        run = self.start(self.write(what, *CASES[0][1:]), env=env)
+        told = run.communicate(timeout=LIMIT)[0].decode()
+        expect(what, told.endswith("as exchange apply\n"), told)
+        os.unlink("exchange")
+
+    def is_ended(self, what):
+        """Notes whether a rack, and a host, that are told to end leave no folder."""
+        words = [*self.write(what, *CASES[0][1:]), "--cable", "cable"]
+        for name in "cable.in", "cable.out":
+            os.mkfifo(name)
+        before = folders()
+        both = [self.start(words), self.start([f"{EXAMPLES}/board/host.py", "cable", "batch", "--pause"], stdin=subprocess.PIPE)]
+        told, made = both[1].stdout.readline(), len(folders() - before)
+        for it in both:
+            it.terminate()
+        texts = [it.communicate(timeout=LIMIT)[0] for it in both]
+        found = told, made, folders() - before, [it.returncode for it in both]
+        expect(what, found == (b"setting 0 0 2\n", 2, set(), [128 + signal.SIGTERM] * 2) and b"Traceback" not in b"".join(texts), f"{found} {texts}")
+        for name in "cable.in", "cable.out":
+            os.unlink(name)
+
+    def goes_on(self, what):
+        """Notes whether a rack goes on whose host was killed in its pause before setting 1, and one follows that begins there."""
+        words = [*self.write(what, *CASES[0][1:]), "--cable", "cable"]
+        for name in "cable.in", "cable.out":
+            os.mkfifo(name)
+        run, host_words = self.start(words), [f"{EXAMPLES}/board/host.py", "cable", "batch"]
+        paused = self.start([*host_words, "--pause"], stdin=subprocess.PIPE)
+        told = [paused.stdout.readline()]
+        is_silent = not select.select([paused.stdout], [], [], SILENCE)[0]
+        paused.stdin.write(b"\n")
+        paused.stdin.flush()
+        told.append(paused.stdout.readline())
+        stop(paused)
+        told += [it.communicate(timeout=LIMIT)[0] for it in (self.start([*host_words, "--from", "1"]), run)]
+        wanted = [b"setting 0 0 2\n", b"setting 1 1\n", b"setting 1 1\ndriven settings 2\n", b"as exchange apply\n"]
+        expect(what, is_silent and told == wanted, told)
+        for name in "cable.in", "cable.out":
+            os.unlink(name)
+
     def says_what_differs(self, what):
         """Notes whether a rack says which link isn't joined, where its host has another wiring, and ends, and the host too."""
         words = [*self.write(what, "3x2x2", read("three-transfers.txt"), ["--wiring", "wiring"]), "--cable", "cable"]
@@ -401,6 +448,11 @@ def take(link, count):
     return taken
 
 
+def folders():
+    """The folders of racks and hosts that are there."""
+    return {it.name for name in ("rack-*", "host-*") for it in Path().glob(name)}
+
+
 def stop(run):
     """Ends a rack with all its processes."""
     os.killpg(run.pid, signal.SIGKILL)
@@ -446,9 +498,10 @@ def try_board(racks):
     back = "2x2x1", "batch 2\npush 1 0 0 0\npush 0 1 1 0\n", "settings 2\nsetting 0\nsetting 1\n"
     racks.goes("forth", *back, lambda settings: settings, True)
     racks.goes("forth and back", *back, lambda settings: [*settings, 0, 1], False)
+    racks.goes("a new rack, and not from setting 0 on", *back, lambda settings: settings[1:], False)
     for case in IN_C:
         racks.is_moved_in_c(*case)
-    return 2 * twice + len(IN_C) + 4
+    return 2 * twice + len(IN_C) + 5
 
 
 def try_all(racks, count):
@@ -473,7 +526,10 @@ def try_all(racks, count):
     racks.ends("a cable that ends")
     racks.says_who_is_killed("a module is killed")
     racks.says_who_is_killed("a module is killed, with a host apart", "--cable", "cable")
-    tried = len(CASES) + len(RINGS) + 13 + count + try_board(racks)
+    racks.finds_the_program("the program, where nothing says where it is")
+    racks.is_ended("a rack that is told to end, and its host")
+    racks.goes_on("a host that is killed in its pause")
+    tried = len(CASES) + len(RINGS) + 16 + count + try_board(racks)
     print(f"rack of processes: {tried} tried, {len(wrong)} wrong")
 
 
