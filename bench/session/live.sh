@@ -1,70 +1,80 @@
 #!/usr/bin/env bash
-# Measures how many `peek` lines a second live clients of `host` are answered: live.sh [CLIENTS [LINES]]
+# Measures how many `peek` lines a second live clients of `host` are answered: live.sh [ROUNDS [PROGRAM..]]
 #
-# There are CLIENTS, 16 where it isn't said, each a process with LINES, 20,000. A client says a line once it has heard the reply to the one
-# before; or else all lines at once, in a burst. So it is without a record, with one, and with one whose entries are waited for (--sync, by a
-# hundredth of the lines). A record lies in the folder that TMPDIR names.
+# One client and sixteen, in processes of their own (client.c), say a line once they have heard the reply to the one before, or 16 or 64 lines at
+# once: without a record, with one, and with one whose entries are waited for (--sync). Each PROGRAM, as an older build, is measured beside the
+# built one, and where there is a redis-server, so are clients that set eight bytes, with its record (appendonly), each second or always on the
+# disk. All are measured in turn, in ROUNDS rounds, five unless given, and the medians are printed. Records lie in the folder that TMPDIR names.
 #
-# Needs python3. Build the program first: ./exchange prove
+# Needs python3 and a C compiler. Build the program first: ./exchange prove
 set -eu
 here=$(cd "$(dirname "${BASH_SOURCE[0]}")" && pwd)
-exec python3 - "$here/../../crates/exchange/out/exchange" "${1-16}" "${2-20000}" <<'END'
-import os, subprocess, sys, tempfile, threading, time
+exec python3 - "$here" "$@" <<'END'
+import os, shutil, statistics, subprocess, sys, tempfile, time
 
-program, clients, lines = sys.argv[1], int(sys.argv[2]), int(sys.argv[3])
-LINE, REPLY = b"peek 0 80000800\n", b"word 00000000\n"
-
-
-def converse(said, heard, count):
-    """One line at a time."""
-    return all(os.write(said, LINE) and os.read(heard, 100) == REPLY for _ in range(count))
+here, rounds = sys.argv[1], int(sys.argv[2]) if len(sys.argv) > 2 else 5
+programs = [f"{here}/../../crates/exchange/out/exchange", *map(os.path.abspath, sys.argv[3:])]
+RECORDS = {"no record": [], "a record": ["--record", "record"], "--sync": ["--record", "record", "--sync"]}
+PACES = {1: 10_000, 16: 40_000, 64: 80_000}  # Lines of a client, by how many it says at once.
 
 
-def burst(said, heard, count):
-    """All lines at once."""
-    teller = threading.Thread(target=lambda: open(said, "wb", closefd=False).write(LINE * count))
-    teller.start()
-    with open(heard, "rb", closefd=False) as replies:
-        well = replies.read(len(REPLY) * count) == REPLY * count
-    teller.join()
-    return well
-
-
-def client(name, way, count, begin):
-    """A client, which says its first line once it may begin."""
-    said, heard = os.open(f"{name}.in", os.O_WRONLY), os.open(f"{name}.out", os.O_RDONLY)
-    os.read(begin, 1)
-    os._exit(0 if way(said, heard, count) else 1)
-
-
-def live(way, count, *options):
-    """The lines a second of a host that is asked so many by each client."""
-    with tempfile.TemporaryDirectory() as room:
-        os.chdir(room)
-        names = [f"c{k}" for k in range(clients)]
-        for name in names:
-            os.mkfifo(f"{name}.in")
-            os.mkfifo(f"{name}.out")
-        (waits, begins), found = os.pipe(), []
-        for name in names:
-            found.append(os.fork())
-            if not found[-1]:
-                client(name, way, count, waits)
-        host = subprocess.Popen([program, "host", "1x1x1", *names, *options], stdout=subprocess.DEVNULL)
-        time.sleep(0.3)
-        begun = time.monotonic()
-        os.write(begins, b"." * clients)
-        well = all([os.waitpid(it, 0)[1] == 0 for it in found]) and host.wait() == 0
-        took = time.monotonic() - begun
-        os.chdir("/")
-    if not well:
+def heard(clients, lines, burst, *files):
+    """The lines a second that these clients are answered."""
+    said = subprocess.run(["./client", str(clients), str(lines), str(burst), *files], capture_output=True, text=True)
+    if said.returncode:
         sys.exit("live: a client isn't answered each line")
-    return round(clients * count / took)
+    return int(said.stdout)
 
 
-for way in converse, burst:
-    kind = "lines a second, one at a time" if way is converse else "lines a second, in bursts"
-    print(f"{kind}: {live(way, lines)}")
-    print(f"{kind}, with a record: {live(way, lines, '--record', 'record')}")
-    print(f"{kind}, with a record and --sync: {live(way, lines // 100, '--record', 'record', '--sync')}")
+def lines_of(clients, burst, waits):
+    return PACES[burst] // (1 if clients == 1 else 4) // (20 if waits else 1)
+
+
+def of_host(program, clients, burst, record):
+    names = [f"c{k}" for k in range(clients)]
+    files = [f"{name}.{end}" for name in names for end in ("in", "out")]
+    for file in files:
+        os.mkfifo(file)
+    host = subprocess.Popen([program, "host", "1x1x1", *names, *RECORDS[record]], stdout=subprocess.DEVNULL)
+    answered = heard(clients, lines_of(clients, burst, record == "--sync"), burst, *files)
+    if host.wait():
+        sys.exit("live: the host fails")
+    for file in {*files, "record"} & {*os.listdir(".")}:
+        os.remove(file)
+    return answered
+
+
+def of_redis(clients, burst, how):
+    words = ["--port", "0", "--unixsocket", "socket", "--save", "", "--appendonly", "yes", "--appendfsync", how]
+    server = subprocess.Popen(["redis-server", *words], stdout=subprocess.DEVNULL)
+    while not os.path.exists("socket"):
+        time.sleep(0.01)
+    answered = heard(clients, lines_of(clients, burst, how == "always"), burst, "socket")
+    server.terminate()
+    server.wait()
+    shutil.rmtree("appendonlydir")
+    return answered
+
+
+with tempfile.TemporaryDirectory() as room:
+    os.chdir(room)
+    subprocess.run([os.environ.get("CC", "cc"), "-O2", "-o", "client", f"{here}/client.c"], check=True)
+    forms = {}
+    for clients in 1, 16:
+        for burst in PACES:
+            at_once = "one at a time" if burst == 1 else f"{burst} at once"
+            for record in RECORDS:
+                for program in programs:
+                    whose = "" if program == programs[0] else f", {program}"
+                    forms[f"{clients} clients, {at_once}, {record}{whose}"] = of_host, program, clients, burst, record
+            if shutil.which("redis-server"):
+                for how in "everysec", "always":
+                    forms[f"{clients} clients, {at_once}, redis-server, {how}"] = of_redis, clients, burst, how
+    found = {form: [] for form in forms}
+    for _ in range(rounds):
+        for form, (way, *words) in forms.items():
+            found[form].append(way(*words))
+    for form, all_found in found.items():
+        print(f"{form}: {statistics.median(all_found):.0f} ({min(all_found)} to {max(all_found)})")
+    os.chdir("/")
 END

@@ -5,7 +5,8 @@ Clients say many lines together. CALLS.SO, which calls.c is built to, notes each
 record a second time, and each case is judged by both. Before a byte of a reply is written, the entries of its command stand in the record, and with
 `--sync` a sync has ended behind them. What comes before a plan, a run, or a batch that isn't all there is told before that is done. Where a write or a
 sync of the record fails once, and would work then, nothing of that group is told, and nothing more is written there; a host that resumes goes on. In
-bursts of 64 lines an entry takes at most MOST writes, and as many syncs.
+bursts of 64 lines an entry takes at most MOST writes, and as many syncs. Where sixteen clients hear each reply before they say the next line, and a
+sync takes its time, an entry takes at most MOST_BY_TURNS syncs.
 """
 
 import os
@@ -20,6 +21,7 @@ from kept import Record, Wrong, calls_of, judge_client
 from moments import EXCHANGE, LIMIT, read, resume, shown, try_all
 
 MOST = 0.05
+MOST_BY_TURNS = 0.35
 SHAPE = (2, 2, 1)
 
 # A call of the system: whether it begins or ends, what it does, with which file, and how many bytes it has; less than 0 where it failed.
@@ -242,6 +244,18 @@ def try_counts():
     return looked
 
 
+def try_turns():
+    """Sixteen clients who hear each reply before they say the next line: while one syncs, the entries of the others come together."""
+    draw = random.Random("turns")
+    texts = [[pokes(draw, 1) for _ in range(50)] for _ in range(16)]
+    day = in_room(lambda room: Day(room, texts, "--sync", CALLS_SLOW="20000"))
+    looked, entries, syncs = day.judge(), len(day.record.entries), day.on_record("sync")
+    print(f"bursts: 16 clients by turns, {entries} entries, {syncs / entries:.4f} syncs an entry", flush=True)
+    if entries != 800 or syncs > MOST_BY_TURNS * entries:
+        raise Wrong(f"{entries} entries, {syncs} syncs")
+    return looked
+
+
 def try_failures():
     """A write or a sync of the record fails once, or half of a group is written first."""
     looked = 0
@@ -275,7 +289,7 @@ def try_failures():
 
 
 def main():
-    failed = try_all([try_order, try_parts, try_counts, try_failures], "bursts")
+    failed = try_all([try_order, try_parts, try_counts, try_turns, try_failures], "bursts")
     print(f"bursts: {failed} wrong")
     sys.exit(1 if failed else 0)
 

@@ -4,6 +4,7 @@
 //                   name, and how many bytes; -1 where it failed
 // CALLS_FAIL=WHAT:NAME:N     the Nth call `write`, or `sync`, on the file of that name fails, counted from 1, and no other
 // CALLS_HALF=NAME:N          the Nth write there takes half of its bytes
+// CALLS_SLOW=COUNT           each sync takes so many microseconds more
 #define _GNU_SOURCE
 #include <dlfcn.h>
 #include <errno.h>
@@ -18,12 +19,14 @@
 static int log_file = -1;
 static atomic_long writes, syncs;
 static char fails[256], half[256];
+static useconds_t slow;
 
 __attribute__((constructor)) static void begin(void) {
-    const char *log = getenv("CALLS_LOG"), *which = getenv("CALLS_FAIL"), *what = getenv("CALLS_HALF");
+    const char *log = getenv("CALLS_LOG"), *which = getenv("CALLS_FAIL"), *what = getenv("CALLS_HALF"), *how = getenv("CALLS_SLOW");
     if (log) log_file = open(log, O_CREAT | O_WRONLY | O_APPEND, 0644);
     if (which) snprintf(fails, sizeof fails, "%s", which);
     if (what) snprintf(half, sizeof half, "%s", what);
+    if (how) slow = atoi(how);
 }
 
 // The last part of the name of an open file.
@@ -76,7 +79,10 @@ static int sync_so(int (*real)(int), int file) {
     note("begin", "sync", name, 0);
     int done = -1;
     if (number && is_at(fails, "sync", name, number)) errno = EIO;
-    else done = real(file);
+    else {
+        if (slow) usleep(slow);
+        done = real(file);
+    }
     note("end", "sync", name, done);
     return done;
 }

@@ -1,5 +1,5 @@
 -- A history that grows.
-use Rattle.std.proofs.Common.{◌≡◌, ℕ, ◌+◌, List, [], ◌∷◌, ◌++◌, Bool, true, true≢false, ◌⊎◌, inl, inr, length, refl, sym, ap, ◌∙◌, subst, arith, length-append}
+use Rattle.std.proofs.Common.{◌≡◌, ℕ, ◌+◌, List, [], ◌∷◌, ◌++◌, Bool, true, false, true≢false, ◌⊎◌, inl, inr, length, refl, sym, ap, ◌∙◌, subst, arith, length-append}
 use Rattle.batch_book.specs.declared.entry.Entry.{Entry}
 use Rattle.batch_book.specs.declared.reply.Reply.{Reply}
 use Rattle.batch_book.specs.declared.call.Call.{Call}
@@ -52,3 +52,33 @@ grown limited loses a session c r es stands n whole kept room is stood step same
 -- an answer that can be told
 pub is_answered : (old new : Account) (session : ℕ) (c : Call) (r : Reply) → old.whole ≡ true → new.whole ≡ true → is_logged r ≡ true → IsGrown old session c r new → IsAnswered old session c r new
 is_answered old new session c r was is logged more = record { was_whole = was; whole = is; grown = λ _. more; unlogged = λ un. absurd (true≢false (sym logged ∙ un)) }
+
+-- ---- a recorder that is lent, and that comes back
+
+pub lent_kept : (limited loses : Bool) (a : Account) (es handed : List Entry) → IsKeptBook limited loses a → es ≡ a.history → handed ≡ a.history → IsKeptBook false true (account a.opening es handed a.machine true)
+lent_kept limited loses a es handed kept same all = record {
+  replay = subst (λ (x : List Entry). IsReplay (opened a.opening) x a.machine) (sym same) kept.replay;
+  few = tt;
+  given = let longer = ap length same in let given = kept.given in omega (arith, longer, given);
+  runs = let longer = ap length same in let runs = kept.runs in omega (arith, longer, runs);
+  few_given = kept.few_given;
+  few_runs = kept.few_runs;
+  front = starts_same handed es (all ∙ sym same);
+  lost = λ never. absurd (true≢false never);
+}
+
+within_any : (limited : Bool) (n : ℕ) → limited ≡ false → IsWithin limited n
+within_any limited n is = subst (λ (b : Bool). IsWithin b n) (sym is) tt
+
+pub back_kept : (limited loses : Bool) (a : Account) (es stands recorded tried : List Entry) (whole : Bool) → IsKeptBook false true a → es ≡ a.history → stands ≡ recorded → Starts recorded tried → Starts tried a.stands → limited ≡ false → loses ≡ true
+    → IsKeptBook limited loses (account a.opening es stands a.machine whole)
+back_kept limited loses a es stands recorded tried whole kept same are first further free lost = record {
+  replay = subst (λ (x : List Entry). IsReplay (opened a.opening) x a.machine) (sym same) kept.replay;
+  few = within_any limited (length es) free;
+  given = let longer = ap length same in let given = kept.given in omega (arith, longer, given);
+  runs = let longer = ap length same in let runs = kept.runs in omega (arith, longer, runs);
+  few_given = kept.few_given;
+  few_runs = kept.few_runs;
+  front = subst (Starts stands) (sym same) (starts_then stands tried a.history (subst (λ (l : List Entry). Starts l tried) (sym are) first) (starts_then tried a.stands a.history further kept.front));
+  lost = λ never. lost;
+}

@@ -11,5 +11,7 @@ pub mod Unstopped
 pub mod Answering
 pub mod Seats
 pub mod Noting
+pub mod Places
+pub mod Sides
 pub mod Dealing
 pub mod Crossing

@@ -8,7 +8,6 @@ use Rattle.batch.specs.Extent.{Extent}
 use Rattle.setting_runner.specs.Plants.{LeavesPlant, Scheduled}
 use Rattle.setting_runner.specs.Runs.{TellsOutcome}
 use Rattle.setting_runner.specs.declared.plant.Plant.{Plant}
-use Rattle.own_lists.specs.Lists.{own_of}
 use Rattle.progress_word.specs.Watchers.{WatcherView}
 use Rattle.batch_book.specs.declared.call.Call.{Call}
 use Rattle.batch_book.specs.declared.entry.Entry.{Entry}
@@ -16,6 +15,7 @@ use Rattle.batch_book.specs.declared.reply.Reply.{Reply}
 use Rattle.batch_book.specs.declared.unrecorded.Unrecorded.{Unrecorded}
 use Rattle.batch_book.specs.Answering.{IsReplyTo}
 use Rattle.batch_book.specs.History.{Account, AreUnstopped, IsSound, Starts, entry}
+use Rattle.batch_book.specs.Places.{LogAgrees, notes_of}
 use Rattle.batch_book.specs.Recording.{Applies, IsAnswered, Noted, asked_by, entry_if, entry_of, has_mark, made_by, made_in, mark, marks, note, noted, told_in, value_made}
 use Rattle.batch_book.specs.Replies.{NeverFail, is_logged, outcome_in}
 use Rattle.batch_book.specs.Seats.{IsAsked, IsRecorded, Reaches, SeatState, open_seat, own}
@@ -30,13 +30,13 @@ use Rattle.batch_book.proofs.Unstopped.{stay_unstopped}
 pub made_append : (xs ys : List Noted) → made_in (xs ++ ys) ≡ made_in xs ++ made_in ys
 made_append xs ys = flat_map-append made_by xs ys
 
-made_noted_if : (b : Bool) (session : ℕ) (c : Call) (r : Reply) → made_in (if b then note session c r ∷ [] else []) ≡ entry_if b (entry session c r)
-made_noted_if true session c r = refl
-made_noted_if false session c r = refl
+made_noted_if : (b : Bool) (session place : ℕ) (c : Call) (r : Reply) → made_in (if b then note session place c r ∷ [] else []) ≡ entry_if b (entry session c r)
+made_noted_if true session place c r = refl
+made_noted_if false session place c r = refl
 
-pub made_noted : (session : ℕ) (c : Call) (r : Result Reply Unrecorded) → made_in (noted session c r) ≡ asked_by session c r
-made_noted session c (Ok reply) = made_noted_if (is_logged reply) session c reply
-made_noted session c (Err lost) = refl
+pub made_noted : (session place : ℕ) (c : Call) (r : Result Reply Unrecorded) → made_in (noted session place c r) ≡ asked_by session c r
+made_noted session place c (Ok reply) = made_noted_if (is_logged reply) session place c reply
+made_noted session place c (Err lost) = refl
 
 pub made_mark : (ns : List Noted) (session : ℕ) → made_in (ns ++ mark session ∷ []) ≡ made_in ns
 made_mark ns session = made_append ns (mark session ∷ []) ∙ append-nil (made_in ns)
@@ -45,11 +45,12 @@ made_mark ns session = made_append ns (mark session ∷ []) ∙ append-nil (made
 
 mark_has : (ns : List Noted) (session : ℕ) → has_mark (ns ++ mark session ∷ []) ≡ true
 mark_has [] session = refl
-mark_has (n ∷ ns) session = or_right (marks n.made) (has_mark (ns ++ mark session ∷ [])) (mark_has ns session)
+mark_has (n ∷ ns) session = or_right (marks n) (has_mark (ns ++ mark session ∷ [])) (mark_has ns session)
 
-note_has : (ns : List Noted) (session : ℕ) (c : Call) (r : Reply) → has_mark (ns ++ note session c r ∷ []) ≡ has_mark ns
-note_has [] session c r = refl
-note_has (n ∷ ns) session c r = ap (λ (b : Bool). marks n.made || b) (note_has ns session c r)
+-- behind what is no mark
+plain_has : (ns : List Noted) (m : Noted) → marks m ≡ false → has_mark (ns ++ m ∷ []) ≡ has_mark ns
+plain_has [] m plain = ap (λ (b : Bool). b || false) plain
+plain_has (n ∷ ns) m plain = ap (λ (b : Bool). marks n || b) (plain_has ns m plain)
 
 -- behind a mark all could be told that was made
 pub told_mark : (ns : List Noted) (session : ℕ) → told_in (ns ++ mark session ∷ []) ≡ made_in ns
@@ -57,23 +58,23 @@ told_mark [] session = refl
 told_mark (n ∷ ns) session =
     ap (λ (b : Bool). if b then made_by n ++ told_in (ns ++ mark session ∷ []) else []) (mark_has (n ∷ ns) session) ∙ ap (λ (l : List Entry). made_by n ++ l) (told_mark ns session)
 
--- behind a call no more could be told than before
-told_note : (ns : List Noted) (session : ℕ) (c : Call) (r : Reply) → told_in (ns ++ note session c r ∷ []) ≡ told_in ns
-told_note [] session c r = refl
-told_note (n ∷ ns) session c r =
-    ap (λ (b : Bool). if b then made_by n ++ told_in (ns ++ note session c r ∷ []) else []) (note_has (n ∷ ns) session c r)
-    ∙ ap (λ (l : List Entry). if has_mark (n ∷ ns) then made_by n ++ l else []) (told_note ns session c r)
+-- behind what is no mark no more could be told than before
+pub told_plain : (ns : List Noted) (m : Noted) → marks m ≡ false → told_in (ns ++ m ∷ []) ≡ told_in ns
+told_plain [] m plain = ap (λ (b : Bool). if b || false then made_by m ++ [] else []) plain
+told_plain (n ∷ ns) m plain =
+    ap (λ (b : Bool). if b then made_by n ++ told_in (ns ++ m ∷ []) else []) (plain_has (n ∷ ns) m plain)
+    ∙ ap (λ (l : List Entry). if has_mark (n ∷ ns) then made_by n ++ l else []) (told_plain ns m plain)
 
-told_if : (ns : List Noted) (session : ℕ) (c : Call) (r : Reply) (b : Bool) → told_in (ns ++ (if b then note session c r ∷ [] else [])) ≡ told_in ns
-told_if ns session c r true = told_note ns session c r
-told_if ns session c r false = ap told_in (append-nil ns)
+told_if : (ns : List Noted) (session place : ℕ) (c : Call) (r : Reply) (b : Bool) → told_in (ns ++ (if b then note session place c r ∷ [] else [])) ≡ told_in ns
+told_if ns session place c r true = told_plain ns (note session place c r) refl
+told_if ns session place c r false = ap told_in (append-nil ns)
 
-pub told_noted : (ns : List Noted) (session : ℕ) (c : Call) (r : Result Reply Unrecorded) → told_in (ns ++ noted session c r) ≡ told_in ns
-told_noted ns session c (Ok reply) = told_if ns session c reply (is_logged reply)
-told_noted ns session c (Err lost) = ap told_in (append-nil ns)
+pub told_noted : (ns : List Noted) (session place : ℕ) (c : Call) (r : Result Reply Unrecorded) → told_in (ns ++ noted session place c r) ≡ told_in ns
+told_noted ns session place c (Ok reply) = told_if ns session place c reply (is_logged reply)
+told_noted ns session place c (Err lost) = ap told_in (append-nil ns)
 
 -- what could be told are the first that were made
-told_front : (ns : List Noted) → IsFront (told_in ns) (made_in ns)
+pub told_front : (ns : List Noted) → IsFront (told_in ns) (made_in ns)
 told_front [] = ([], refl)
 told_front (n ∷ ns) = by (has_mark (n ∷ ns)) refl (told_front ns)
   where
@@ -91,16 +92,16 @@ grown_if : (old new : Account) (session : ℕ) (c : Call) (r : Reply) (b : Bool)
 grown_if old new session c r true is answered = (answered.grown is).history
 grown_if old new session c r false is answered = ap (λ (a : Account). a.history) (answered.unlogged is) ∙ sym (append-nil old.history)
 
-grown_by : (old new : Account) (session : ℕ) (c : Call) (r : Result Reply Unrecorded) → Applies old session c r new → new.history ≡ old.history ++ made_in (noted session c r)
-grown_by old new session c (Ok reply) is =
-    grown_if old new session c reply (is_logged reply) refl is ∙ ap (λ (es : List Entry). old.history ++ es) (sym (made_noted_if (is_logged reply) session c reply))
-grown_by old new session c (Err lost) is = ap (λ (a : Account). a.history) is.1 ∙ sym (append-nil old.history)
+pub grown_by : (old new : Account) (session place : ℕ) (c : Call) (r : Result Reply Unrecorded) → Applies old session c r new → new.history ≡ old.history ++ made_in (noted session place c r)
+grown_by old new session place c (Ok reply) is =
+    grown_if old new session c reply (is_logged reply) refl is ∙ ap (λ (es : List Entry). old.history ++ es) (sym (made_noted_if (is_logged reply) session place c reply))
+grown_by old new session place c (Err lost) is = ap (λ (a : Account). a.history) is.1 ∙ sym (append-nil old.history)
 
-pub kept_more : (earlier : List Entry) (notes : List Noted) (old new : Account) (session : ℕ) (c : Call) (r : Result Reply Unrecorded)
-    → Applies old session c r new → old.history ≡ earlier ++ made_in notes → new.history ≡ earlier ++ made_in (notes ++ noted session c r)
-kept_more earlier notes old new session c r is kept =
-    grown_by old new session c r is ∙ (ap (λ (es : List Entry). es ++ made_in (noted session c r)) kept
-    ∙ (append_assoc earlier (made_in notes) (made_in (noted session c r)) ∙ ap (λ (es : List Entry). earlier ++ es) (sym (made_append notes (noted session c r)))))
+pub kept_more : (earlier : List Entry) (notes : List Noted) (old new : Account) (session place : ℕ) (c : Call) (r : Result Reply Unrecorded)
+    → Applies old session c r new → old.history ≡ earlier ++ made_in notes → new.history ≡ earlier ++ made_in (notes ++ noted session place c r)
+kept_more earlier notes old new session place c r is kept =
+    grown_by old new session place c r is ∙ (ap (λ (es : List Entry). es ++ made_in (noted session place c r)) kept
+    ∙ (append_assoc earlier (made_in notes) (made_in (noted session place c r)) ∙ ap (λ (es : List Entry). earlier ++ es) (sym (made_append notes (noted session place c r)))))
 
 -- what stood where it belongs still does
 stand_if : (old new : Account) (session : ℕ) (c : Call) (r : Reply) (b : Bool) → is_logged r ≡ b → IsAnswered old session c r new → Starts old.stands new.stands
@@ -111,10 +112,10 @@ still_stand : (old new : Account) (session : ℕ) (c : Call) (r : Result Reply U
 still_stand old new session c (Ok reply) is = stand_if old new session c reply (is_logged reply) refl is
 still_stand old new session c (Err lost) is = starts_same old.stands new.stands (ap (λ (a : Account). a.stands) (sym is.1))
 
-pub told_more : (earlier : List Entry) (notes : List Noted) (old new : Account) (session : ℕ) (c : Call) (r : Result Reply Unrecorded)
-    → Applies old session c r new → Starts (earlier ++ told_in notes) old.stands → Starts (earlier ++ told_in (notes ++ noted session c r)) new.stands
-told_more earlier notes old new session c r is told =
-    subst (λ (es : List Entry). Starts (earlier ++ es) new.stands) (sym (told_noted notes session c r)) (starts_then (earlier ++ told_in notes) old.stands new.stands told (still_stand old new session c r is))
+pub told_more : (earlier : List Entry) (notes : List Noted) (old new : Account) (session place : ℕ) (c : Call) (r : Result Reply Unrecorded)
+    → Applies old session c r new → Starts (earlier ++ told_in notes) old.stands → Starts (earlier ++ told_in (notes ++ noted session place c r)) new.stands
+told_more earlier notes old new session place c r is told =
+    subst (λ (es : List Entry). Starts (earlier ++ es) new.stands) (sym (told_noted notes session place c r)) (starts_then (earlier ++ told_in notes) old.stands new.stands told (still_stand old new session c r is))
 
 -- behind a mark where all entries stand
 pub told_all : (earlier stands history : List Entry) (notes : List Noted) (session : ℕ) → stands ≡ history → history ≡ earlier ++ made_in notes → Starts (earlier ++ told_in (notes ++ mark session ∷ [])) stands
@@ -122,17 +123,17 @@ told_all earlier stands history notes session all kept = starts_same _ stands (a
 
 -- ---- values
 
-one_more : (notes : List Noted) (session : ℕ) (c : Call) (r : Reply) → greatest (made_in (notes ++ note session c r ∷ [])) ≡ max (greatest (made_in notes)) (value_of r)
-one_more notes session c r = ap greatest (made_append notes (note session c r ∷ [])) ∙ greatest_push (made_in notes) (entry session c r)
+one_more : (notes : List Noted) (session place : ℕ) (c : Call) (r : Reply) → greatest (made_in (notes ++ note session place c r ∷ [])) ≡ max (greatest (made_in notes)) (value_of r)
+one_more notes session place c r = ap greatest (made_append notes (note session place c r ∷ [])) ∙ greatest_push (made_in notes) (entry session c r)
 
-greatest_if : (notes : List Noted) (session : ℕ) (c : Call) (r : Reply) (b : Bool) → is_logged r ≡ b → greatest (made_in (notes ++ (if b then note session c r ∷ [] else []))) ≡ max (greatest (made_in notes)) (value_of r)
-greatest_if notes session c r true is = one_more notes session c r
-greatest_if notes session c r false is =
+greatest_if : (notes : List Noted) (session place : ℕ) (c : Call) (r : Reply) (b : Bool) → is_logged r ≡ b → greatest (made_in (notes ++ (if b then note session place c r ∷ [] else []))) ≡ max (greatest (made_in notes)) (value_of r)
+greatest_if notes session place c r true is = one_more notes session place c r
+greatest_if notes session place c r false is =
     let none = unlogged_value r is in let same = ap (λ (ns : List Noted). greatest (made_in ns)) (append-nil notes) in omega (arith, none, same)
 
-pub greatest_more : (notes : List Noted) (session : ℕ) (c : Call) (r : Result Reply Unrecorded) → greatest (made_in (notes ++ noted session c r)) ≡ max (greatest (made_in notes)) (value_made r)
-greatest_more notes session c (Ok reply) = greatest_if notes session c reply (is_logged reply) refl
-greatest_more notes session c (Err lost) = let same = ap (λ (ns : List Noted). greatest (made_in ns)) (append-nil notes) in omega (arith, same)
+pub greatest_more : (notes : List Noted) (session place : ℕ) (c : Call) (r : Result Reply Unrecorded) → greatest (made_in (notes ++ noted session place c r)) ≡ max (greatest (made_in notes)) (value_made r)
+greatest_more notes session place c (Ok reply) = greatest_if notes session place c reply (is_logged reply) refl
+greatest_more notes session place c (Err lost) = let same = ap (λ (ns : List Noted). greatest (made_in ns)) (append-nil notes) in omega (arith, same)
 
 pub greatest_append : (earlier es : List Entry) → greatest (earlier ++ es) ≡ max (greatest earlier) (greatest es)
 greatest_append [] es = omega arith
@@ -140,18 +141,15 @@ greatest_append (x ∷ earlier) es = let rest = greatest_append earlier es in om
 
 -- ---- a session's own
 
-abbrev pub own_notes : ℕ → List Noted → List Noted
-own_notes session notes = own_of (λ (n : Noted). n.session) session notes
-
-own_append : (session : ℕ) (xs ys : List Entry) → own session (xs ++ ys) ≡ own session xs ++ own session ys
+pub own_append : (session : ℕ) (xs ys : List Entry) → own session (xs ++ ys) ≡ own session xs ++ own session ys
 own_append session xs ys = filter-append (λ (e : Entry). nat_eq e.session session) xs ys
 
 -- the entry of a note that is the session's, and of one that isn't
-own_made : (session by : ℕ) (m : Option (Call × Reply)) → nat_eq by session ≡ true → own session (entry_of by m) ≡ entry_of by m
+pub own_made : (session by : ℕ) (m : Option (Call × Reply)) → nat_eq by session ≡ true → own session (entry_of by m) ≡ entry_of by m
 own_made session by None is = refl
 own_made session by (Some m) is = ap (λ (b : Bool). cond b (entry by m.0 m.1 ∷ []) []) is
 
-others_made : (session by : ℕ) (m : Option (Call × Reply)) → nat_eq by session ≡ false → own session (entry_of by m) ≡ []
+pub others_made : (session by : ℕ) (m : Option (Call × Reply)) → nat_eq by session ≡ false → own session (entry_of by m) ≡ []
 others_made session by None is = refl
 others_made session by (Some m) is = ap (λ (b : Bool). cond b (entry by m.0 m.1 ∷ []) []) is
 
@@ -163,14 +161,14 @@ own_past : (session : ℕ) (n : Noted) (es : List Entry) → nat_eq n.session se
 own_past session n es is = own_append session (made_by n) es ∙ ap (λ (l : List Entry). l ++ own session es) (others_made session n.session n.made is)
 
 -- what its notes made is its own of what all made
-pub own_asked : (session : ℕ) (notes : List Noted) → made_in (own_notes session notes) ≡ own session (made_in notes)
+pub own_asked : (session : ℕ) (notes : List Noted) → made_in (notes_of session notes) ≡ own session (made_in notes)
 own_asked session [] = refl
 own_asked session (n ∷ ns) = by (nat_eq n.session session) refl (own_asked session ns)
   where
     N : List Noted
-    N = own_notes session ns
+    N = notes_of session ns
 
-    by : (b : Bool) → nat_eq n.session session ≡ b → made_in N ≡ own session (made_in ns) → made_in (own_notes session (n ∷ ns)) ≡ own session (made_in (n ∷ ns))
+    by : (b : Bool) → nat_eq n.session session ≡ b → made_in N ≡ own session (made_in ns) → made_in (notes_of session (n ∷ ns)) ≡ own session (made_in (n ∷ ns))
     by true is rest = ap (λ (b : Bool). made_in (cond b (n ∷ N) N)) is ∙ ap (λ (l : List Entry). made_by n ++ l) rest ∙ sym (own_behind session n (made_in ns) is)
     by false is rest = ap (λ (b : Bool). made_in (cond b (n ∷ N) N)) is ∙ rest ∙ sym (own_past session n (made_in ns) is)
 
@@ -179,31 +177,31 @@ none_told [] none = refl
 none_told (n ∷ ns) none = ap (λ (b : Bool). if b then made_by n ++ told_in ns else []) none
 
 -- a mark of the session is one of all
-own_mark : (session : ℕ) (ns : List Noted) → has_mark (own_notes session ns) ≡ true → has_mark ns ≡ true
+own_mark : (session : ℕ) (ns : List Noted) → has_mark (notes_of session ns) ≡ true → has_mark ns ≡ true
 own_mark session [] some = some
 own_mark session (n ∷ ns) some = by (nat_eq n.session session) refl (own_mark session ns)
   where
     N : List Noted
-    N = own_notes session ns
+    N = notes_of session ns
 
     by : (b : Bool) → nat_eq n.session session ≡ b → (has_mark N ≡ true → has_mark ns ≡ true) → has_mark (n ∷ ns) ≡ true
-    by true is further = two (marks n.made) refl
+    by true is further = two (marks n) refl
       where
-        two : (m : Bool) → marks n.made ≡ m → has_mark (n ∷ ns) ≡ true
-        two true its = or_left (marks n.made) (has_mark ns) its
-        two false its = or_right (marks n.made) (has_mark ns) (further (ap (λ (b : Bool). b || has_mark N) (sym its) ∙ ap (λ (b : Bool). has_mark (cond b (n ∷ N) N)) (sym is) ∙ some))
-    by false is further = or_right (marks n.made) (has_mark ns) (further (ap (λ (b : Bool). has_mark (cond b (n ∷ N) N)) (sym is) ∙ some))
+        two : (m : Bool) → marks n ≡ m → has_mark (n ∷ ns) ≡ true
+        two true its = or_left (marks n) (has_mark ns) its
+        two false its = or_right (marks n) (has_mark ns) (further (ap (λ (b : Bool). b || has_mark N) (sym its) ∙ ap (λ (b : Bool). has_mark (cond b (n ∷ N) N)) (sym is) ∙ some))
+    by false is further = or_right (marks n) (has_mark ns) (further (ap (λ (b : Bool). has_mark (cond b (n ∷ N) N)) (sym is) ∙ some))
 
 -- what could be told by its notes are the first of its own of what could be told by all
-own_told : (session : ℕ) (ns : List Noted) → IsFront (told_in (own_notes session ns)) (own session (told_in ns))
+own_told : (session : ℕ) (ns : List Noted) → IsFront (told_in (notes_of session ns)) (own session (told_in ns))
 own_told session [] = ([], refl)
 own_told session (n ∷ ns) = by (nat_eq n.session session) refl (own_told session ns)
   where
     N : List Noted
-    N = own_notes session ns
+    N = notes_of session ns
 
     mine : List Noted
-    mine = own_notes session (n ∷ ns)
+    mine = notes_of session (n ∷ ns)
 
     all : List Entry
     all = own session (told_in (n ∷ ns))
@@ -242,17 +240,17 @@ own_told session (n ∷ ns) = by (nat_eq n.session session) refl (own_told sessi
           ap (own session) (told_some some) ∙ own_past session n (told_in ns) is ∙ rest.1 ∙ ap (λ (l : List Entry). l ++ rest.0) (sym (ap told_in own_is)),
         )
 
-pub recorded : (s : SeatState) (list notes : List Noted) → s.log ≡ told_in list → list ≡ own_notes s.session notes → IsRecorded (told_in notes) s
-recorded s list notes told its =
+recorded : (s : SeatState) (notes : List Noted) → LogAgrees notes s → IsRecorded (told_in notes) s
+recorded s notes told =
     let f = own_told s.session notes in
-    starts s.log _ f.0 (f.1 ∙ ap (λ (l : List Entry). l ++ f.0) (sym (told ∙ ap told_in its)))
+    starts s.log _ f.0 (f.1 ∙ ap (λ (l : List Entry). l ++ f.0) (sym told))
 
 -- and so of what stands
-recorded_more : (told more : List Entry) (s : SeatState) → IsRecorded told s → IsRecorded (told ++ more) s
+pub recorded_more : (told more : List Entry) (s : SeatState) → IsRecorded told s → IsRecorded (told ++ more) s
 recorded_more told more s is = starts_then s.log (own s.session told) _ is (starts (own s.session told) _ (own s.session more) (own_append s.session told more))
 
-pub all_recorded : (told more : List Entry) (seats : List SeatState) → All (IsRecorded told) seats → All (IsRecorded (told ++ more)) seats
-all_recorded told more seats all = λ k d less. recorded_more told more (get_or seats k d) (all k d less)
+pub all_recorded : (notes : List Noted) (more : List Entry) (seats : List SeatState) → All (LogAgrees notes) seats → All (IsRecorded (told_in notes ++ more)) seats
+all_recorded notes more seats all = λ k d less. recorded_more (told_in notes) more (get_or seats k d) (recorded (get_or seats k d) notes (all k d less))
 
 greatest_cond : (e : Entry) (es xs : List Entry) → greatest xs ≤ greatest es → (b : Bool) → greatest (cond b (e ∷ xs) xs) ≤ greatest (e ∷ es)
 greatest_cond e es xs le true = omega (arith, le)
@@ -281,13 +279,13 @@ pub unheard_made : {N : Type 0} (watcher : N → WatcherView) (run : N → ℕ) 
 unheard_made watcher run a b old new session c (Ok reply) sound is h none = unheard watcher run a b old session c reply new sound is.grown h none
 unheard_made watcher run a b old new session c (Err lost) sound is h none = ap watcher h
 
-pub asked : (o p : WatcherView) (session parts after : ℕ) (broken breaks : Bool) (notes list : List Noted) (c : Call) (r : Result Reply Unrecorded)
-    → Reaches o (value_made r) p → (value_made r ≡ 0 → p ≡ o) → after ≡ parts → list ≡ notes ++ noted session c r → breaks ≡ is_err r || broken
+pub asked : (o p : WatcherView) (session place parts after : ℕ) (broken breaks : Bool) (notes list : List Noted) (c : Call) (r : Result Reply Unrecorded)
+    → Reaches o (value_made r) p → (value_made r ≡ 0 → p ≡ o) → after ≡ parts → list ≡ notes ++ noted session place c r → breaks ≡ is_err r || broken
     → IsAsked (open_seat o session (made_in notes) (told_in notes) parts broken) c r (open_seat p session (made_in list) (told_in list) after breaks)
-asked o p session parts after broken breaks notes list c r reaches quiet same are is = record {
+asked o p session place parts after broken breaks notes list c r reaches quiet same are is = record {
   seat = record { exchange = ap Some reaches.word; session = refl; parts = same };
-  asked = ap made_in are ∙ (made_append notes (noted session c r) ∙ ap (λ (es : List Entry). made_in notes ++ es) (made_noted session c r));
-  log = starts_same (told_in notes) (told_in list) (sym (ap told_in are ∙ told_noted notes session c r));
+  asked = ap made_in are ∙ (made_append notes (noted session place c r) ∙ ap (λ (es : List Entry). made_in notes ++ es) (made_noted session place c r));
+  log = starts_same (told_in notes) (told_in list) (sym (ap told_in are ∙ told_noted notes session place c r));
   later = reaches.later;
   seen = reaches.seen;
   quiet = λ none. ap (λ (w : WatcherView). w.seen) (quiet none);

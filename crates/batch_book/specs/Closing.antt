@@ -32,9 +32,10 @@ pub record AreClosed {P W : Type 0} (seen : Ghosts P) (sure : W → ℕ → Type
   pub unstopped : NeverFail seen sure → AreUnstopped book.history
 
 -- A seat is missing just where the seats hold fewer than all parts; then nothing has changed. Else
--- the exchange is closed. `Line` are the wires that a `W` makes.
-abbrev pub Closes : {L P W G H Line : Type 0} → Ghosts P → (W → ℕ → Type 0) → Store → List Entry
-    → Exchange → List SeatState → Result (Closed P W G H) (SeatMissing L P W G H Line) → Type 0
+-- the exchange is closed. `Line` are the wires that a `W` makes, `E` and `Q` what an `H` parts into.
+abbrev pub Closes : {L P W G H Line E Q : Type 0} → Ghosts P → (W → ℕ → Type 0) → Store → List Entry
+    → Exchange → List SeatState → Result (Closed P W G H E Q) (SeatMissing L P W G H Line E Q)
+    → Type 0
 Closes seen sure opening earlier x seats (Ok c) =
     AreClosed seen sure opening earlier seats c.book
 Closes seen sure opening earlier x seats (Err missing) =

@@ -8,6 +8,8 @@ pub mod Recording
 pub mod Answering
 pub mod Values
 pub mod Seats
+pub mod Places
+pub mod Sides
 pub mod Exchanges
 pub mod Closing
 pub mod Laws

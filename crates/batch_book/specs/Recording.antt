@@ -1,6 +1,6 @@
 -- What becomes of a call: its entry is made, and where that stands where it belongs the reply can be
 -- told.
-use Rattle.std.specs.Prelude.{◌≡◌, ℕ, ◌||◌, if◌then◌else◌, Bool, true, false, List, [], ◌∷◌, ◌++◌, Option, Some, None, Result, Ok, Err}
+use Rattle.std.specs.Prelude.{◌≡◌, ℕ, ◌||◌, ◌&&◌, if◌then◌else◌, Bool, true, false, List, [], ◌∷◌, ◌++◌, Option, Some, None, Result, Ok, Err}
 use Rattle.std.specs.List.{flat_map}
 use Rattle.batch_book.specs.declared.call.Call.{Call}
 use Rattle.batch_book.specs.declared.entry.Entry.{Entry}
@@ -37,16 +37,25 @@ value_made (Err lost) = 0
 
 -- ---- what is noted of calls
 
--- a call that was made, and its reply; or a mark: all that the session has asked can be told
+-- A call that was made, its reply and the place of its entry. Or a mark: all that the session has
+-- asked can be told. Or the lists of a side that has a lock of its own: what is known there of all
+-- entries, and of those that were handed on, and up to which place they stand where they belong.
 pub record Noted : Type 0 where
   pub session : ℕ
   pub made : Option (Call × Reply)
+  pub place : ℕ
+  pub lists : Option (List Entry × List Entry)
 
-abbrev pub note : ℕ → Call → Reply → Noted
-note session call reply = record { session = session; made = Some (call, reply) }
+abbrev pub note : ℕ → ℕ → Call → Reply → Noted
+note session place call reply =
+    record { session = session; made = Some (call, reply); place = place; lists = None }
 
 abbrev pub mark : ℕ → Noted
-mark session = record { session = session; made = None }
+mark session = record { session = session; made = None; place = 0; lists = None }
+
+abbrev pub side_note : ℕ → ℕ → (all handed : List Entry) → Noted
+side_note session place all handed =
+    record { session = session; made = None; place = place; lists = Some (all, handed) }
 
 abbrev pub entry_of : ℕ → Option (Call × Reply) → List Entry
 entry_of session None = []
@@ -59,23 +68,27 @@ made_by n = entry_of n.session n.made
 abbrev pub made_in : List Noted → List Entry
 made_in notes = flat_map made_by notes
 
-abbrev pub marks : Option (Call × Reply) → Bool
-marks None = true
-marks (Some m) = false
+abbrev pub is_none : {A : Type 0} → Option A → Bool
+is_none None = true
+is_none (Some a) = false
+
+abbrev pub marks : Noted → Bool
+marks n = is_none n.made && is_none n.lists
 
 abbrev pub has_mark : List Noted → Bool
 has_mark [] = false
-has_mark (n ∷ ns) = marks n.made || has_mark ns
+has_mark (n ∷ ns) = marks n || has_mark ns
 
 -- those that were made before the last mark
 abbrev pub told_in : List Noted → List Entry
 told_in [] = []
 told_in (n ∷ ns) = if has_mark (n ∷ ns) then made_by n ++ told_in ns else []
 
--- what is noted of a call
-abbrev pub noted : ℕ → Call → Result Reply Unrecorded → List Noted
-noted session call (Ok reply) = if is_logged reply then note session call reply ∷ [] else []
-noted session call (Err lost) = []
+-- what is noted of a call whose entry has this place
+abbrev pub noted : ℕ → ℕ → Call → Result Reply Unrecorded → List Noted
+noted session place call (Ok reply) =
+    if is_logged reply then note session place call reply ∷ [] else []
+noted session place call (Err lost) = []
 
 abbrev pub entry_if : Bool → Entry → List Entry
 entry_if made e = if made then e ∷ [] else []

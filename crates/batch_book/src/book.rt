@@ -1,14 +1,15 @@
 //! The book.
 
 ghost use Rattle.std.specs.Option.{option_copied};
-ghost use Rattle.std.specs.Prelude.{◌+◌, ◌≡◌, ◌↔◌, ◌≤◌, [], true, false, IfOk, IfErr, OnErr, length};
+ghost use Rattle.std.specs.Prelude.{◌+◌, ◌≡◌, ◌↔◌, ◌≤◌, [], true, false, List, IfOk, IfErr, OnOk, OnErr, length};
 ghost use Rattle.setting_runner.specs.Plants.{LeavesPlant};
 ghost use Rattle.setting_runner.specs.Runs.{TellsOutcome};
 ghost use Rattle.batch_book.specs.Holdings.{batch_in};
 ghost use Rattle.batch_book.specs.Machine.{opened, batch_of};
 ghost use Rattle.batch_book.specs.Running.{plan_to_run};
 ghost use Rattle.batch_book.specs.Replies.{is_logged, outcome_of, outcome_in};
-ghost use Rattle.batch_book.specs.History.{new_account, IsReplay, IsLegal, IsFull, IsGrown, IsSound, IsKeptBook, account, has_book_room};
+ghost use Rattle.batch_book.specs.History.{new_account, IsReplay, IsLegal, IsFull, IsGrown, IsSound, IsKeptBook, Starts, account, has_book_room};
+ghost use Rattle.batch_book.specs.declared.entry.Entry.{Entry};
 ghost use Rattle.batch_book.specs.Recording.{Applies, Flushes, IsAnswered};
 ghost use Rattle.batch_book.specs.Values.{greatest};
 
@@ -17,11 +18,15 @@ use crate::entry::Entry;
 use crate::history::History;
 use crate::holdings::Holdings;
 use crate::kept_history::Kept;
+use crate::lent::Lent;
 use crate::limits::{MAX_ENTRIES, MAX_NUMBER};
 use crate::logged::{LoggedCall, LoggedReply};
+use crate::past::PastEntries;
+use crate::recorder::Recorder;
 use crate::refusal::BookRefusal;
 use crate::reply::Reply;
 use crate::unrecorded::Unrecorded;
+use crate::waiting_entries::WaitingEntries;
 use batch::Batch;
 use crossbar::ConfigPort;
 use module_memory::Rack;
@@ -288,6 +293,7 @@ impl<H: History> Book<H> {
 
         // One step of the machine, and one entry more.
         ensures step { Applies self.old session call result self.new }
+        ensures waits { H.waits ≡ true → self.new.stands ≡ self.old.stands }
         ensures opening { self.new.opening ≡ self.old.opening }
         ensures full { IfOk result (λ reply.
             (reply ≡ Reply.Refused BookRefusal.HistoryFull) ↔ IsFull H.limited self.old) }
@@ -326,6 +332,7 @@ impl<H: History> Book<H> {
 
         ensures step { IfOk result (λ reply. IsAnswered self.old session call reply self.new) }
         ensures logged { IfOk result (λ reply. is_logged reply ≡ true) }
+        ensures waits { H.waits ≡ true → self.new.stands ≡ self.old.stands }
         ensures opening { self.new.opening ≡ self.old.opening }
         ensures unchanged { OnErr result (self.new ≡ self.old) }
 
@@ -393,4 +400,81 @@ impl<H: History> Book<H> {
             Err(_) => unreachable!(),
         }
     }
+}
+
+impl<E: WaitingEntries> Book<Lent<E>> {
+    /// The entries of the history, for contracts alone.
+    pub(crate) fn past(&self) -> Snapshot<PastEntries>
+        ensures { result.value ≡ self.now.history }
+    {
+        self.history.entries.past()
+    }
+
+    /// Hands on what waits: puts its text behind this one. Where there is no memory for it nothing
+    /// changes.
+    pub(crate) fn hand_on(&mut self, text: &mut Vec<u8>) -> Result<(), AllocError>
+        ensures all { OnOk result (self.new ≡ record self.old { stands = self.old.history }) }
+        ensures text { OnOk result ((taken : List Entry) → Starts taken self.old.stands
+            → text.old.items ≡ E.texts taken self.old.stands
+            → text.new.items ≡ E.texts taken self.old.history) }
+        ensures none { OnErr result (self.new ≡ self.old) }
+        ensures same { OnErr result (text.new.items ≡ text.old.items) }
+    {
+        self.history.entries.hand_on(text)
+    }
+}
+
+/// A book whose recorder is lent, and that; or the book as it was, where its history writes all
+/// itself.
+pub(crate) fn lend<H: History>(
+    book: Book<H>,
+) -> Result<(Book<Lent<H::Waiting>>, H::Recorder), Book<H>>
+    requires whole { book.whole ≡ true }
+    requires all { book.stands ≡ book.history }
+    ensures book { IfOk result (λ parts. parts.0 ≡ book) }
+    ensures stands { IfOk result (λ parts. H.Recorder.stands parts.1 ≡ book.history) }
+    ensures tried { IfOk result (λ parts. H.Recorder.tried parts.1 ≡ book.history) }
+    ensures texts { OnOk result ((taken all : List Entry)
+        → H.Waiting.texts taken all ≡ H.Recorder.texts taken all) }
+    ensures loses { OnOk result (H.loses ≡ true) }
+    ensures limited { OnOk result (H.limited ≡ false) }
+    ensures lends { OnOk result (H.lends ≡ true) }
+    ensures back { IfErr result (λ back. back ≡ book) }
+{
+    let (bare, history) = book.part();
+    match history.lend() {
+        Ok((entries, recorder)) => {
+            let lent = Lent {
+                entries,
+                is_whole: true,
+            };
+            Ok((Book::go_on(bare, lent), recorder))
+        }
+        Err(history) => Err(Book::go_on(bare, history)),
+    }
+}
+
+/// The book whose recorder is back, to which all was taken over that was handed on; or a writing
+/// failed.
+pub(crate) fn take_back<H: History>(book: Book<Lent<H::Waiting>>, recorder: H::Recorder) -> Book<H>
+    requires loses { H.loses ≡ true }
+    requires limited { H.limited ≡ false }
+    requires lends { H.lends ≡ true }
+    requires all { H.Recorder.whole recorder ≡ true → H.Recorder.tried recorder ≡ book.stands }
+    requires first { Starts (H.Recorder.tried recorder) book.stands }
+    requires stands { Starts (H.Recorder.stands recorder) (H.Recorder.tried recorder) }
+    ensures { result ≡ record book {
+      stands = H.Recorder.stands recorder;
+      whole = H.Recorder.whole recorder;
+    } }
+{
+    let (bare, lent) = book.part();
+    let Lent {
+        entries,
+        is_whole: _,
+    } = lent;
+    let Some(history) = H::take_back(entries, recorder) else {
+        unreachable!()
+    };
+    Book::go_on(bare, history)
 }

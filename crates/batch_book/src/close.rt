@@ -1,20 +1,25 @@
 //! How an exchange is closed.
 
 ghost use Rattle.std.specs.Prelude.{◌≡◌, ◌≤◌, max, true, false, length, All, Some, IsSome};
-ghost use Rattle.batch_book.specs.Recording.{made_in, told_in};
-ghost use Rattle.batch_book.specs.Seats.{parts_of, entries_of, AskedAgrees, IsRecorded};
+ghost use Rattle.batch_book.specs.Recording.{made_in};
+ghost use Rattle.batch_book.specs.Closing.{AreClosed};
+ghost use Rattle.batch_book.specs.Places.{LogAgrees};
+ghost use Rattle.batch_book.specs.Seats.{parts_of, entries_of, AskedAgrees};
 ghost use Rattle.batch_book.specs.Values.{greatest};
 
 use crate::access::ExchangeAccess;
-use crate::book::Book;
+use crate::book::{Book, take_back};
+use crate::book_side::BookSide;
 use crate::history::History;
 use crate::kept_history::Kept;
 use crate::lists::have_all_parts;
 use crate::locked::Locked;
 use crate::naming::ExchangeName;
 use crate::noted::NotedEntry;
+use crate::record_side::RecordSide;
 use crate::seat::{Place, Seat};
-use crate::shared::Shared;
+use crate::shared::{Shared, Sides};
+use crate::waiting::Waiting;
 use crossbar::ConfigPort;
 use own_lists::Keeper;
 use peek_poke::WireMaker;
@@ -57,18 +62,95 @@ impl<L: ExchangeName, P: ConfigPort, W: WireMaker, G, H: History> Shared<L, P, W
                 seats,
             });
         }
-        let (locked, word) = self.into_parts();
-        let Locked {
-            book,
-            plant,
-            mut entries,
-            mut keeper,
-        } = locked;
-        let mut all = gather(&word, &mut keeper, seats);
-        entries.audit(&mut all.share);
-        word.load(&mut all.watcher);
-        Ok(Closed { book, plant })
+        let (sides, word) = self.into_parts();
+        match sides {
+            Sides::One(locked) => Ok(close_one(locked.into_inner(), &word, seats)),
+            Sides::Each {
+                book,
+                waiting,
+                record,
+            } => Ok(close_each(
+                book.into_inner(),
+                waiting.into_inner(),
+                record.into_inner(),
+                &word,
+                seats,
+            )),
+        }
     }
+}
+
+// What is left of an exchange with one lock.
+fn close_one<L: ExchangeName, P: ConfigPort, W: WireMaker, G, H: History>(
+    locked: Locked<L, P, W, G, H>,
+    word: &ProgressWord,
+    seats: Vec<Seat<L>>,
+) -> Closed<P, W, G, H>
+    requires parts { L.parts ≡ ALL_PARTS }
+    requires all { ALL_PARTS ≤ parts_of seats.items }
+    requires seats { All (λ s. s.exchange ≡ Some word.now) seats.items }
+    ensures { AreClosed P.ConfigPort W.is_sure L.opening L.earlier seats.items result.book }
+{
+    let Locked {
+        book,
+        plant,
+        mut entries,
+        mut keeper,
+    } = locked;
+    let mut all = gather(word, &mut keeper, seats);
+    entries.audit(&mut all.share);
+    word.load(&mut all.watcher);
+    Closed { book, plant }
+}
+
+// What is left of an exchange whose recorder was lent: all that waits is written, if none of it was
+// lost.
+fn close_each<L: ExchangeName, P: ConfigPort, W: WireMaker, G, H: History>(
+    book: BookSide<L, P, W, G, H>,
+    waiting: Waiting<L, H>,
+    record: RecordSide<L, H>,
+    word: &ProgressWord,
+    seats: Vec<Seat<L>>,
+) -> Closed<P, W, G, H>
+    requires parts { L.parts ≡ ALL_PARTS }
+    requires all { ALL_PARTS ≤ parts_of seats.items }
+    requires seats { All (λ s. s.exchange ≡ Some word.now) seats.items }
+    ensures { AreClosed P.ConfigPort W.is_sure L.opening L.earlier seats.items result.book }
+{
+    let mut waiting = waiting;
+    let mut record = record;
+    record.flush_last(&mut waiting);
+    let BookSide {
+        book,
+        plant,
+        own,
+        pushed: _,
+    } = book;
+    let Waiting {
+        text: _,
+        count: _,
+        lost: _,
+        handed: _,
+        mut entries,
+        mut keeper,
+        of: _,
+    } = waiting;
+    let RecordSide {
+        recorder,
+        front: _,
+        taken: _,
+        own: its,
+        spare: _,
+    } = record;
+    let Some(own) = own else { unreachable!() };
+    let Some(its) = its else { unreachable!() };
+    keeper.compare(own);
+    keeper.compare(its);
+    let mut all = gather(word, &mut keeper, seats);
+    entries.audit(&mut all.share);
+    word.load(&mut all.watcher);
+    let book = take_back::<H>(book, recorder);
+    Closed { book, plant }
 }
 
 // What a seat has of its exchange, without its list, which is what its session made, and of which
@@ -77,7 +159,7 @@ fn compared<L: ExchangeName>(keeper: &mut Keeper<NotedEntry, L>, seat: Seat<L>) 
     requires { IsSome seat.exchange }
     ensures keeper { keeper.new.history ≡ keeper.old.history }
     ensures asked { AskedAgrees (made_in keeper.old.history) seat }
-    ensures told { IsRecorded (told_in keeper.old.history) seat }
+    ensures told { LogAgrees keeper.old.history seat }
     ensures word { Some result.watcher.word ≡ seat.exchange }
     ensures seen { result.watcher.seen ≡ seat.seen }
     ensures raised { result.watcher.raised
@@ -88,6 +170,7 @@ fn compared<L: ExchangeName>(keeper: &mut Keeper<NotedEntry, L>, seat: Seat<L>) 
     let Place {
         access,
         own,
+        last: _,
         waits: _,
         broken: _,
     } = seat.into_place();
@@ -106,7 +189,7 @@ fn gather<L: ExchangeName>(
     requires all { ALL_PARTS ≤ parts_of seats.items }
     requires seats { All (λ s. s.exchange ≡ Some word.now) seats.items }
     ensures asked { All (AskedAgrees (made_in keeper.old.history)) seats.items }
-    ensures told { All (IsRecorded (told_in keeper.old.history)) seats.items }
+    ensures told { All (LogAgrees keeper.old.history) seats.items }
     ensures word { result.watcher.word ≡ word.now }
     ensures parts { result.parts ≡ ALL_PARTS }
     ensures total { parts_of seats.items ≡ ALL_PARTS }

@@ -6,7 +6,9 @@ use crate::call::Call;
 use crate::entry::Entry;
 use crate::history::History;
 use crate::limits::MAX_ENTRIES;
+use crate::recorder::NoRecorder;
 use crate::unrecorded::Unrecorded;
+use crate::waiting_entries::NoneWait;
 use std::alloc::{AllocError, Global};
 
 /// The entries in memory, at most [`MAX_ENTRIES`] of them.
@@ -33,6 +35,10 @@ impl Kept {
 }
 
 impl History for Kept {
+    type Waiting = NoneWait;
+
+    type Recorder = NoRecorder;
+
     ghost pushed = { λ k. k.entries.items };
 
     ghost stands = { λ k. k.entries.items };
@@ -42,6 +48,10 @@ impl History for Kept {
     ghost limited = { true };
 
     ghost loses = { false };
+
+    ghost waits = { false };
+
+    ghost lends = { false };
 
     ghost drafted = { λ k _ _. vec_len k.entries < vec_capacity k.entries };
 
@@ -71,5 +81,13 @@ impl History for Kept {
 
     fn flush(&mut self) -> Result<(), Unrecorded> {
         Ok(())
+    }
+
+    fn lend(self) -> Result<(NoneWait, NoRecorder), Kept> {
+        Err(self)
+    }
+
+    fn take_back(_waiting: NoneWait, _recorder: NoRecorder) -> Option<Kept> {
+        None
     }
 }

@@ -18,11 +18,17 @@
 //! that stood where they belong as [`Shared::settle`] was called. Where all seats are given back and
 //! the exchange closes, what each asked is the history filtered to its session, and what could be
 //! told to it stands where it belongs (`AreClosed` of `specs/Closing.antt`).
+//!
+//! A history may lend its [`Recorder`] ([`History::lend`]), as one does that writes. Then the
+//! recorder has a lock of its own, and [`Shared::settle`] doesn't take that of the book: so it waits
+//! for no run. Contracts say the same of both forms.
 #![tactic(auto)]
 
 mod access;
 mod book;
+mod book_side;
 mod call;
+mod calling;
 mod close;
 mod entry;
 mod history;
@@ -30,6 +36,7 @@ mod holdings;
 mod kept;
 mod kept_history;
 pub mod laws;
+mod lent;
 mod limits;
 mod lists;
 mod locked;
@@ -40,6 +47,8 @@ mod open;
 mod past;
 mod raise;
 mod reading;
+mod record_side;
+mod recorder;
 mod refusal;
 mod reply;
 mod seat;
@@ -48,6 +57,8 @@ mod shared_batch;
 mod silent;
 mod told_call;
 mod unrecorded;
+mod waiting;
+mod waiting_entries;
 
 pub use book::{BareBook, Book};
 pub use call::Call;
@@ -61,9 +72,10 @@ pub use logged::{LoggedCall, LoggedReply};
 pub use naming::{ExchangeBlank, ExchangeName};
 pub use noted::NotedEntry;
 pub use open::SharedFault;
-pub use past::PastEntries;
+pub use past::{PastEntries, SeenEntries};
 pub use progress_word::ALL_PARTS;
 pub use reading::Reading;
+pub use recorder::{NoRecorder, Recorder};
 pub use refusal::BookRefusal;
 pub use reply::Reply;
 pub use seat::Seat;
@@ -72,3 +84,4 @@ pub use shared_batch::SharedBatch;
 pub use silent::Silent;
 pub use told_call::ToldCall;
 pub use unrecorded::Unrecorded;
+pub use waiting_entries::{NoneWait, WaitingEntries};

@@ -1,6 +1,6 @@
-//! What lies under the lock of an exchange.
+//! What lies under the lock of an exchange whose history writes all itself.
 
-ghost use Rattle.std.specs.Prelude.{◌≡◌, ◌+◌, ◌++◌, ◌≤◌, ◌⊎◌, [], ◌∷◌, ◌||◌, length, true, false, Some, IsSome, IfOk, OnErr, is_err};
+ghost use Rattle.std.specs.Prelude.{◌≡◌, ◌+◌, ◌++◌, [], ◌∷◌, length, true, false, Some, IsSome, IfOk, OnErr};
 ghost use Rattle.batch_book.specs.Answering.{IsReplyTo};
 ghost use Rattle.batch_book.specs.History.{AreUnstopped, Starts};
 ghost use Rattle.batch_book.specs.Recording.{Applies, Flushes, made_in, mark, told_in};
@@ -10,10 +10,10 @@ ghost use Rattle.batch_book.specs.Seats.{IsAsked, IsSettled, open_seat};
 use crate::access::ExchangeAccess;
 use crate::book::Book;
 use crate::call::Call;
+use crate::calling::{apply, is_broken};
 use crate::history::History;
 use crate::naming::ExchangeName;
 use crate::noted::{NotedEntry, note_call};
-use crate::raise::Raise;
 use crate::reply::Reply;
 use crate::seat::{Place, Seat};
 use crate::unrecorded::Unrecorded;
@@ -156,6 +156,7 @@ impl<L: ExchangeName, P: ConfigPort, W: WireMaker + Sync, G: Gate + Sync, H: His
         let Place {
             access,
             own,
+            last,
             waits: _,
             broken,
         } = place;
@@ -164,15 +165,16 @@ impl<L: ExchangeName, P: ConfigPort, W: WireMaker + Sync, G: Gate + Sync, H: His
             watcher,
             parts,
         } = access;
-        let mut raise = Raise {
+        let asked = Snapshot::of(&call);
+        let (made, watcher) = apply(
+            rt,
+            &mut self.book,
+            &mut self.plant,
             word,
             watcher,
-            run: self.book.next_run(),
-        };
-        let asked = Snapshot::of(&call);
-        let made = self
-            .book
-            .try_apply(rt, session, call, &mut self.plant, &mut raise);
+            session,
+            call,
+        );
         let own = note_call(
             &mut self.keeper,
             &mut self.entries,
@@ -181,12 +183,8 @@ impl<L: ExchangeName, P: ConfigPort, W: WireMaker + Sync, G: Gate + Sync, H: His
             asked,
             &made,
             session,
+            0,
         );
-        let Raise {
-            word: _,
-            watcher,
-            run: _,
-        } = raise;
         let access = ExchangeAccess {
             share,
             watcher,
@@ -198,6 +196,7 @@ impl<L: ExchangeName, P: ConfigPort, W: WireMaker + Sync, G: Gate + Sync, H: His
             Place {
                 access,
                 own,
+                last,
                 waits: true,
                 broken,
             },
@@ -205,8 +204,8 @@ impl<L: ExchangeName, P: ConfigPort, W: WireMaker + Sync, G: Gate + Sync, H: His
     }
 }
 
-// Notes that all that a session has asked can be told.
-fn mark<L: ExchangeName>(
+/// Notes that all that a session has asked can be told.
+pub(crate) fn mark<L: ExchangeName>(
     keeper: &mut Keeper<NotedEntry, L>,
     session: usize,
     place: Place<L>,
@@ -222,6 +221,7 @@ fn mark<L: ExchangeName>(
     let Place {
         access,
         own,
+        last,
         waits: _,
         broken,
     } = place;
@@ -229,14 +229,8 @@ fn mark<L: ExchangeName>(
     Place {
         access,
         own,
+        last,
         waits: false,
         broken,
     }
-}
-
-// Whether a record is broken that was broken before, or behind such a call.
-fn is_broken(made: &Result<Reply, Unrecorded>, before: bool) -> bool
-    ensures { result ≡ is_err made.now || before }
-{
-    made.is_err() || before
 }

@@ -1,10 +1,11 @@
 //! What is noted of calls, for the lists of sessions.
 
 ghost use Rattle.std.specs.Prelude.{◌≡◌, ◌++◌, ◌+◌, ◌<◌, length};
-ghost use Rattle.batch_book.specs.Recording.{note, mark, noted, made_in};
+ghost use Rattle.batch_book.specs.Recording.{note, mark, side_note, noted, made_in};
 
 use crate::call::Call;
 use crate::naming::ExchangeName;
+use crate::past::SeenEntries;
 use crate::reply::Reply;
 use crate::unrecorded::Unrecorded;
 use own_lists::{Keeper, OfSession, OwnList};
@@ -13,12 +14,15 @@ use std::snapshot::Snapshot;
 use std::sync::ledger;
 use std::sync::ledger::Share;
 
-/// A call that a session made, and its reply; or a mark, that all which the session has asked can
-/// be told. Contracts alone see it; it takes no memory.
+/// A call that a session made, its reply and the place of its entry; or a mark, that all which the
+/// session has asked can be told; or what a side that has a lock of its own knows of the entries.
+/// Contracts alone see it; it takes no memory.
 #[derive(Drop)]
 pub struct NotedEntry {
     session: Snapshot<usize>,
     made: Option<(Snapshot<Call>, Snapshot<Reply>)>,
+    place: Snapshot<u64>,
+    lists: Option<(Snapshot<SeenEntries>, Snapshot<SeenEntries>)>,
 }
 
 impl Model for NotedEntry {
@@ -30,6 +34,8 @@ impl Model for NotedEntry {
     ghost view = { λ n. record {
       session = n.session.value;
       made = option_map (λ m. (m.0.value, m.1.value)) n.made;
+      place = n.place.value;
+      lists = option_map (λ l. (l.0.value.value.value, l.1.value.value.value)) n.lists;
     } };
 }
 
@@ -38,13 +44,15 @@ impl OfSession for NotedEntry {
 }
 
 impl NotedEntry {
-    /// A call and its reply.
-    fn of(session: usize, call: Snapshot<Call>, reply: &Reply) -> NotedEntry
-        ensures { result ≡ note session call.value reply.now }
+    /// A call, its reply, and the place of its entry.
+    pub(crate) fn of(session: usize, place: u64, call: Snapshot<Call>, reply: &Reply) -> NotedEntry
+        ensures { result ≡ note session place call.value reply.now }
     {
         NotedEntry {
             session: Snapshot::of(&session),
             made: Some((call, Snapshot::of(reply))),
+            place: Snapshot::of(&place),
+            lists: None,
         }
     }
 
@@ -55,12 +63,32 @@ impl NotedEntry {
         NotedEntry {
             session: Snapshot::of(&session),
             made: None,
+            place: Snapshot::of(&0),
+            lists: None,
+        }
+    }
+
+    /// What a side knows of all entries, and of those that were handed on, and up to which place
+    /// they stand where they belong.
+    pub(crate) fn side(
+        side: usize,
+        place: u64,
+        all: &SeenEntries,
+        handed: &SeenEntries,
+    ) -> NotedEntry
+        ensures { result ≡ side_note side place all.now.value.value handed.now.value.value }
+    {
+        NotedEntry {
+            session: Snapshot::of(&side),
+            made: None,
+            place: Snapshot::of(&place),
+            lists: Some((Snapshot::of(all), Snapshot::of(handed))),
         }
     }
 }
 
 /// Notes a call in the history of an exchange, and in the list of its session. The ledger counts
-/// its entry.
+/// its entry, which has this place.
 pub(crate) fn note_call<L: ExchangeName>(
     keeper: &mut Keeper<NotedEntry, L>,
     entries: &mut ledger::Book<L>,
@@ -69,16 +97,17 @@ pub(crate) fn note_call<L: ExchangeName>(
     call: Snapshot<Call>,
     made: &Result<Reply, Unrecorded>,
     session: usize,
+    place: u64,
 ) -> OwnList<NotedEntry, L>
     requires session { own.session ≡ session }
     requires parts { 0 < share.old.parts }
-    ensures history { keeper.new.history ≡ keeper.old.history ++ noted session call.value made.now }
-    ensures list { result.list ≡ own.list ++ noted session call.value made.now }
+    ensures history { keeper.new.history ≡ keeper.old.history ++ noted session place call.value made.now }
+    ensures list { result.list ≡ own.list ++ noted session place call.value made.now }
     ensures session { result.session ≡ session }
     ensures total { entries.new.total
-        ≡ entries.old.total + length (made_in (noted session call.value made.now)) }
+        ≡ entries.old.total + length (made_in (noted session place call.value made.now)) }
     ensures amount { share.new.amount
-        ≡ share.old.amount + length (made_in (noted session call.value made.now)) }
+        ≡ share.old.amount + length (made_in (noted session place call.value made.now)) }
     ensures parts { share.new.parts ≡ share.old.parts }
 {
     match made {
@@ -87,7 +116,7 @@ pub(crate) fn note_call<L: ExchangeName>(
                 return own;
             }
             entries.add(share, 1);
-            keeper.add(own, &NotedEntry::of(session, call, reply))
+            keeper.add(own, &NotedEntry::of(session, place, call, reply))
         }
         Err(_) => own,
     }

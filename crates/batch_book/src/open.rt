@@ -1,32 +1,40 @@
 //! How an exchange is made.
 
-ghost use Rattle.std.specs.Prelude.{◌≡◌, ◌↔◌, ◌≤◌, ◌<◌, ◌⊎◌, [], vec_capacity, Ok, IfOk, IfErr, OnOk};
+ghost use Rattle.std.specs.Prelude.{◌≡◌, ◌↔◌, ◌≤◌, ◌<◌, ◌⊎◌, [], true, vec_capacity, Ok, IfOk, IfErr, OnOk};
 ghost use Rattle.exchange_limits.specs.declared.limits.TheConstants.{MAX_SESSIONS};
 ghost use Rattle.progress_word.specs.declared.limits.TheConstants.{ALL_PARTS};
 ghost use Rattle.progress_word.specs.Watchers.{watcher_view};
 ghost use Rattle.batch_book.specs.Exchanges.{AreNew};
 ghost use Rattle.batch_book.specs.History.{AreUnstopped, new_account};
+ghost use Rattle.batch_book.specs.declared.limits.TheConstants.{BOOK_SIDE, RECORD_SIDE};
 ghost use Rattle.batch_book.specs.Naming.{IsNamed};
 ghost use Rattle.batch_book.specs.Replies.{NeverFail};
 ghost use Rattle.batch_book.specs.Values.{greatest};
 
 use crate::access::ExchangeAccess;
-use crate::book::Book;
+use crate::book::{Book, lend};
+use crate::book_side::BookSide;
 use crate::history::History;
 use crate::kept_history::Kept;
 use crate::locked::Locked;
 use crate::naming::{ExchangeBlank, ExchangeName};
 use crate::noted::NotedEntry;
+use crate::record_side::RecordSide;
+use crate::recorder::Recorder;
 use crate::seat::Seat;
-use crate::shared::Shared;
+use crate::shared::{Shared, Sides};
+use crate::waiting::Waiting;
 use crossbar::ConfigPort;
 use exchange_limits::MAX_SESSIONS;
 use module_memory::Rack;
-use own_lists::Keeper;
+use own_lists::{Keeper, OwnList};
 use peek_poke::WireMaker;
 use progress_word::{ALL_PARTS, ProgressWord, Watcher};
 use setting_runner::Plant;
 use std::alloc::Global;
+use std::marker::PhantomData;
+use std::snapshot::Snapshot;
+use std::sync::{Mutex, ledger};
 use thiserror::Error;
 
 /// Why an exchange can't be made. The causes are tested in this order.
@@ -111,7 +119,7 @@ impl<L: ExchangeName, P: ConfigPort, W: WireMaker, G> Shared<L, P, W, G, Kept> {
             Err(fault) => return Err((blank, rack, plant, fault)),
         };
         match Book::new(alloc, rack) {
-            Ok(book) => Ok(assemble(blank, book, plant, places)),
+            Ok(book) => Ok(assemble(alloc, blank, book, plant, places)),
             Err((rack, _)) => Err((blank, rack, plant, SharedFault::NoMemory)),
         }
     }
@@ -142,7 +150,7 @@ impl<L: ExchangeName, P: ConfigPort, W: WireMaker, G, H: History> Shared<L, P, W
             (back.3 ≡ SharedFault.BadSessions) ↔ ((sessions ≡ 0) ⊎ (MAX_SESSIONS < sessions))) }
     {
         match Places::new(alloc, sessions) {
-            Ok(places) => Ok(assemble(blank, book, plant, places)),
+            Ok(places) => Ok(assemble(alloc, blank, book, plant, places)),
             Err(fault) => Err((blank, book, plant, fault)),
         }
     }
@@ -150,6 +158,7 @@ impl<L: ExchangeName, P: ConfigPort, W: WireMaker, G, H: History> Shared<L, P, W
 
 // The exchange and its seats, which takes no memory.
 fn assemble<L: ExchangeName, P: ConfigPort, W: WireMaker, G, H: History>(
+    alloc: Global,
     blank: ExchangeBlank,
     book: Book<H>,
     plant: Plant<P, W, G>,
@@ -178,13 +187,89 @@ fn assemble<L: ExchangeName, P: ConfigPort, W: WireMaker, G, H: History>(
         parts: ALL_PARTS,
     };
     let seats = deal(&word, &mut keeper, seats, all, sessions);
-    let locked = Locked {
-        book,
-        plant,
-        entries,
-        keeper,
+    let sides = part(alloc, book, plant, entries, keeper, sessions);
+    (Shared::of(sides, word, shape), seats)
+}
+
+// What lies under one lock, or under three where the history lends its recorder.
+fn part<L: ExchangeName, P: ConfigPort, W: WireMaker, G, H: History>(
+    alloc: Global,
+    book: Book<H>,
+    plant: Plant<P, W, G>,
+    entries: ledger::Book<L>,
+    keeper: Keeper<NotedEntry, L>,
+    sessions: usize,
+) -> Sides<L, P, W, G, H>
+    requires opening { book.opening ≡ L.opening }
+    requires earlier { book.history ≡ L.earlier }
+    requires stand { book.stands ≡ L.earlier }
+    requires whole { book.whole ≡ true }
+    requires unstopped { NeverFail P.ConfigPort W.is_sure → AreUnstopped book.history }
+    requires none { entries.total ≡ 0 }
+    requires history { keeper.history ≡ [] }
+    requires dealt { keeper.dealt ≡ sessions }
+    requires few { sessions ≤ MAX_SESSIONS }
+{
+    let (book, recorder) = match lend(book) {
+        Ok(parts) => parts,
+        Err(book) => {
+            return Sides::One(Mutex::new(Locked {
+                book,
+                plant,
+                entries,
+                keeper,
+            }));
+        }
     };
-    (Shared::of(locked, word, shape), seats)
+    let mut keeper = keeper;
+    let (own, its) = deal_sides(&mut keeper, sessions);
+    let handed = book.past();
+    let taken = Snapshot::of(&book.past());
+    // Asked for only for its contract, which says that no text is behind all entries.
+    recorder.is_whole();
+    Sides::Each {
+        book: Mutex::new(BookSide {
+            book,
+            plant,
+            own: Some(own),
+            pushed: 0,
+        }),
+        waiting: Mutex::new(Waiting {
+            text: Vec::new(alloc),
+            count: 0,
+            lost: false,
+            handed,
+            entries,
+            keeper,
+            of: PhantomData,
+        }),
+        record: Mutex::new(RecordSide {
+            recorder,
+            front: 0,
+            taken,
+            own: Some(its),
+            spare: Vec::new(alloc),
+        }),
+    }
+}
+
+// The lists of the book's side and of the record's, behind those of all sessions that there may be.
+fn deal_sides<L: ExchangeName>(
+    keeper: &mut Keeper<NotedEntry, L>,
+    sessions: usize,
+) -> (OwnList<NotedEntry, L>, OwnList<NotedEntry, L>)
+    requires history { keeper.old.history ≡ [] }
+    requires dealt { keeper.old.dealt ≡ sessions }
+    requires few { sessions ≤ MAX_SESSIONS }
+    ensures history { keeper.new.history ≡ [] }
+    ensures sides { (result.0.session ≡ BOOK_SIDE) × (result.1.session ≡ RECORD_SIDE) }
+    ensures lists { (result.0.list ≡ []) × (result.1.list ≡ []) }
+{
+    for _list in sessions..MAX_SESSIONS {
+        keeper.deal();
+    }
+    let own = keeper.deal();
+    (own, keeper.deal())
 }
 
 // Deals the parts to the seats, which takes no memory: each gets one, and the first keeps those
@@ -208,6 +293,7 @@ fn deal<L: ExchangeName>(
     requires history { keeper.old.history ≡ [] }
     ensures seats { AreNew word.now first.watcher.seen sessions result.items }
     ensures history { keeper.new.history ≡ [] }
+    ensures dealt { keeper.new.dealt ≡ sessions }
 {
     let own = keeper.deal();
     for session in 1..sessions {

@@ -46,3 +46,6 @@ impl PastEntries {
         self.last = Some((before, Snapshot::of(entry)));
     }
 }
+
+/// Entries that had passed at some time. Contracts alone see them.
+pub type SeenEntries = Snapshot<Snapshot<PastEntries>>;

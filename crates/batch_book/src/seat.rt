@@ -1,6 +1,7 @@
 //! A session's seat at an exchange.
 
 ghost use Rattle.std.specs.Prelude.{◌≡◌, ◌≤◌, max, [], true, false, length, Some, IsSome};
+ghost use Rattle.batch_book.specs.Places.{are_up_to};
 ghost use Rattle.batch_book.specs.Recording.{made_in, told_in};
 ghost use Rattle.progress_word.specs.declared.limits.TheConstants.{ALL_PARTS};
 ghost use Rattle.batch_book.specs.Values.{greatest};
@@ -13,17 +14,20 @@ use own_lists::OwnList;
 use progress_word::ALL_PARTS;
 use std::marker::Model;
 
-/// What a seat has of its exchange: its access, its session's list, whether it may have asked
-/// something that can't be told yet, and whether the record of its calls is broken.
+/// What a seat has of its exchange: its access, its session's list, behind which place it has no
+/// entry, whether it may have asked something that can't be told yet, and whether the record of its
+/// calls is broken.
 #[derive(Drop)]
 pub(crate) struct Place<L: ExchangeName> {
     pub(crate) access: ExchangeAccess<L>,
     pub(crate) own: OwnList<NotedEntry, L>,
+    pub(crate) last: u64,
     pub(crate) waits: bool,
     pub(crate) broken: bool,
     pub(crate) ghost counted: { access.share.amount ≡ length (made_in own.list) },
     pub(crate) ghost highest: { access.watcher.raised
         ≤ max (greatest L.earlier) (greatest (made_in own.list)) },
+    pub(crate) ghost low: { are_up_to last own.list ≡ true },
     pub(crate) ghost settled: { waits ≡ false → told_in own.list ≡ made_in own.list },
 }
 
@@ -37,12 +41,14 @@ impl<L: ExchangeName> Place<L> {
         let Place {
             access,
             own,
+            last,
             waits,
             broken: _,
         } = self;
         Place {
             access,
             own,
+            last,
             waits,
             broken: true,
         }
@@ -106,6 +112,7 @@ impl<L: ExchangeName> Seat<L> {
             place: Some(Place {
                 access,
                 own,
+                last: 0,
                 waits: false,
                 broken: false,
             }),

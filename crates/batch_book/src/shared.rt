@@ -5,6 +5,7 @@ ghost use Rattle.batch_book.specs.Answering.{IsReplyTo};
 ghost use Rattle.batch_book.specs.Seats.{IsSameSeat, IsAsked, IsSettled};
 ghost use Rattle.batch_book.specs.Values.{value_at};
 
+use crate::book_side::BookSide;
 use crate::call::Call;
 use crate::history::History;
 use crate::kept_history::Kept;
@@ -12,9 +13,11 @@ use crate::limits::RUN_STEP;
 use crate::locked::Locked;
 use crate::naming::ExchangeName;
 use crate::reading::Reading;
+use crate::record_side::RecordSide;
 use crate::reply::Reply;
 use crate::seat::Seat;
 use crate::unrecorded::Unrecorded;
+use crate::waiting::Waiting;
 use batch::Shape;
 use crossbar::ConfigPort;
 use peek_poke::WireMaker;
@@ -43,14 +46,52 @@ fn pause() {
     }
 }
 
-/// One exchange for many sessions: a book and its plant behind a lock, and beside the lock a word
-/// that says how far the runs have come. Each session calls from a [`Seat`] of its own. Contracts
-/// see which exchange it is, and the shape of its rack.
+// What is under the lock, if it comes free within some looks.
+fn look<T>(lock: &Mutex<T>) -> Option<MutexGuard<'_, T>> {
+    for _ in 0..LOOKS {
+        if let Some(guard) = lock.try_lock() {
+            return Some(guard);
+        }
+        pause();
+    }
+    None
+}
+
+// What is under the lock, once it is free. Who sleeps for it is woken by a call of the system, which
+// takes longer than most calls of a book. So a thread lets others run some times first.
+fn take<'b, T, R: Wait>(rt: &R, lock: &'b Mutex<T>) -> MutexGuard<'b, T> {
+    for _ in 0..TURNS {
+        if let Some(guard) = look(lock) {
+            return guard;
+        }
+        thread::yield_now();
+    }
+    lock.lock(rt)
+}
+
+/// One exchange for many sessions: a book and its plant behind a lock, a recorder that is lent behind
+/// another, and beside them a word that says how far the runs have come. Each session calls from a
+/// [`Seat`] of its own. Contracts see which exchange it is, and the shape of its rack.
 #[derive(Drop)]
 pub struct Shared<L: ExchangeName, P: ConfigPort, W: WireMaker, G, H: History = Kept> {
-    locked: Mutex<Locked<L, P, W, G, H>>,
+    sides: Sides<L, P, W, G, H>,
     word: ProgressWord,
     shape: Shape,
+}
+
+/// What lies under the locks of an exchange.
+#[derive(Drop)]
+pub(crate) enum Sides<L: ExchangeName, P: ConfigPort, W: WireMaker, G, H: History> {
+    /// All under one, where the history writes all itself.
+    One(Mutex<Locked<L, P, W, G, H>>),
+    /// The book, what waits, and the record. Who has the book's lock or the record's may wait for
+    /// that of what waits. Nobody waits for one of those two who has the other, or that of what
+    /// waits.
+    Each {
+        book: Mutex<BookSide<L, P, W, G, H>>,
+        waiting: Mutex<Waiting<L, H>>,
+        record: Mutex<RecordSide<L, H>>,
+    },
 }
 
 impl<L: ExchangeName, P: ConfigPort, W: WireMaker, G, H: History> Model for Shared<L, P, W, G, H> {
@@ -65,28 +106,24 @@ impl<L: ExchangeName, P: ConfigPort, W: WireMaker, G, H: History> Model for Shar
 
 impl<L: ExchangeName, P: ConfigPort, W: WireMaker, G, H: History> Shared<L, P, W, G, H> {
     pub(crate) fn of(
-        locked: Locked<L, P, W, G, H>,
+        sides: Sides<L, P, W, G, H>,
         word: ProgressWord,
         shape: Shape,
     ) -> Shared<L, P, W, G, H>
         ensures { (result.word ≡ word) × (result.shape ≡ shape) }
     {
-        Shared {
-            locked: Mutex::new(locked),
-            word,
-            shape,
-        }
+        Shared { sides, word, shape }
     }
 
-    pub(crate) fn into_parts(self) -> (Locked<L, P, W, G, H>, ProgressWord)
+    pub(crate) fn into_parts(self) -> (Sides<L, P, W, G, H>, ProgressWord)
         ensures { result.1 ≡ self.word }
     {
         let Shared {
-            locked,
+            sides,
             word,
             shape: _,
         } = self;
-        (locked.into_inner(), word)
+        (sides, word)
     }
 
     /// The shape of the rack. It takes no lock.
@@ -126,29 +163,6 @@ impl<L: ExchangeName, P: ConfigPort, W: WireMaker + Sync, G: Gate + Sync, H: His
     G,
     H,
 > {
-    // The lock, if it comes free within some looks.
-    fn look(&self) -> Option<MutexGuard<'_, Locked<L, P, W, G, H>>> {
-        for _ in 0..LOOKS {
-            if let Some(guard) = self.locked.try_lock() {
-                return Some(guard);
-            }
-            pause();
-        }
-        None
-    }
-
-    // The lock, once it is free. Who sleeps for it is woken by a call of the system, which takes
-    // longer than most calls of a book. So a thread lets others run some times first.
-    fn take<R: Wait>(&self, rt: &R) -> MutexGuard<'_, Locked<L, P, W, G, H>> {
-        for _ in 0..TURNS {
-            if let Some(guard) = self.look() {
-                return guard;
-            }
-            thread::yield_now();
-        }
-        self.locked.lock(rt)
-    }
-
     /// One call of the seat's session, and its reply: it takes the lock, and applies the call to the
     /// book. Call and reply are added to what the seat asked, where they are in the history. The
     /// seat has then seen what the reply tells of a run, and nothing new where it tells of none.
@@ -157,7 +171,7 @@ impl<L: ExchangeName, P: ConfigPort, W: WireMaker + Sync, G: Gate + Sync, H: His
     /// be lost. Where entries were lost before, the call isn't made.
     ///
     /// It waits until the calls of other seats that go before it are done, runs included. It takes
-    /// the memory that the book takes.
+    /// the memory that the book takes, and for a recorder that is lent that of the text that waits.
     pub fn try_call<R: Threads + Wait + Sync>(
         &self,
         rt: &R,
@@ -170,7 +184,14 @@ impl<L: ExchangeName, P: ConfigPort, W: WireMaker + Sync, G: Gate + Sync, H: His
         ensures told { H.loses ≡ false → seat.new.log ≡ seat.new.asked }
         ensures loses { OnErr result (H.loses ≡ true) }
     {
-        self.take(rt).call(rt, &self.word, seat, call)
+        match &self.sides {
+            Sides::One(locked) => take(rt, locked).call(rt, &self.word, seat, call),
+            Sides::Each {
+                book,
+                waiting,
+                record: _,
+            } => take(rt, book).call(rt, waiting, &self.word, seat, call),
+        }
     }
 
     /// The same where no entry can be lost. The reply may be told at once.
@@ -187,9 +208,14 @@ impl<L: ExchangeName, P: ConfigPort, W: WireMaker + Sync, G: Gate + Sync, H: His
         }
     }
 
-    /// Sees to it that all that the seat has asked can be told: it takes the lock, and puts all
-    /// entries that wait where they belong, whoever's they are. Where nothing waits it takes no
-    /// lock. Where an entry is lost, no more can be told to the seat than before.
+    /// Sees to it that all that the seat has asked can be told: where its last entry waits, all
+    /// entries that wait are put where they belong, whoever's they are. Where nothing of it waits it
+    /// takes no lock. Where an entry is lost, or the text that waits found no memory, no more can be
+    /// told to the seat than before.
+    ///
+    /// Where the history lends its recorder that has a lock of its own. Who has it writes, and others
+    /// make calls meanwhile, runs included; who waits for it sleeps, and then may find that its
+    /// entries stand there.
     pub fn settle<R: Wait>(&self, rt: &R, seat: &mut Seat<L>) -> Result<(), Unrecorded>
         requires { seat.old.exchange ≡ Some self.now.word }
         ensures settled { IsSettled seat.old result seat.new }
@@ -198,6 +224,13 @@ impl<L: ExchangeName, P: ConfigPort, W: WireMaker + Sync, G: Gate + Sync, H: His
         if !seat.waits() {
             return Ok(());
         }
-        self.take(rt).settle(seat)
+        match &self.sides {
+            Sides::One(locked) => take(rt, locked).settle(seat),
+            Sides::Each {
+                book: _,
+                waiting,
+                record,
+            } => record.lock(rt).settle(rt, waiting, seat),
+        }
     }
 }

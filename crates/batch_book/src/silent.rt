@@ -6,7 +6,9 @@ use crate::call::Call;
 use crate::entry::Entry;
 use crate::history::History;
 use crate::past::PastEntries;
+use crate::recorder::NoRecorder;
 use crate::unrecorded::Unrecorded;
+use crate::waiting_entries::NoneWait;
 use std::alloc::AllocError;
 
 /// Entries that go nowhere. They take no memory, and there may be any number of them.
@@ -28,6 +30,10 @@ impl Silent {
 }
 
 impl History for Silent {
+    type Waiting = NoneWait;
+
+    type Recorder = NoRecorder;
+
     ghost pushed = { λ s. s.past };
 
     ghost stands = { λ s. s.past };
@@ -37,6 +43,10 @@ impl History for Silent {
     ghost limited = { false };
 
     ghost loses = { false };
+
+    ghost waits = { false };
+
+    ghost lends = { false };
 
     ghost drafted = { λ _ _ _. Unit {0} };
 
@@ -66,5 +76,13 @@ impl History for Silent {
 
     fn flush(&mut self) -> Result<(), Unrecorded> {
         Ok(())
+    }
+
+    fn lend(self) -> Result<(NoneWait, NoRecorder), Silent> {
+        Err(self)
+    }
+
+    fn take_back(_waiting: NoneWait, _recorder: NoRecorder) -> Option<Silent> {
+        None
     }
 }

@@ -19,3 +19,4 @@ pub mod OneReading
 pub mod Heads
 pub mod Sums
 mod Streams
+pub mod Crossing

@@ -12,7 +12,7 @@ use std::io::Write;
 
 /// The book goes on from its entries: the next ones go to this writer. What the writer holds, and
 /// the entries, are those that the stream is named by.
-pub fn stream_on<W: Write, N: StreamName>(
+pub fn stream_on<W: Write + Send, N: StreamName + Send>(
     alloc: Global,
     book: Book<Silent>,
     writer: W,
@@ -29,7 +29,9 @@ pub fn stream_on<W: Write, N: StreamName>(
 /// The book without its history, and the writer, which has got the text of the entries that were
 /// flushed since the stream began; where the history isn't whole, maybe a front of that of the
 /// others too.
-pub fn stream_off<W: Write, N: StreamName>(book: Book<Streamed<W, N>>) -> (BareBook, W)
+pub fn stream_off<W: Write + Send, N: StreamName + Send>(
+    book: Book<Streamed<W, N>>,
+) -> (BareBook, W)
     ensures opening { result.0.opening ≡ book.opening }
     ensures machine { result.0.machine ≡ book.machine }
     ensures written { IsWritten N.held (W.contents result.1) N.earlier book.stands book.history

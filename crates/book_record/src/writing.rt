@@ -1,17 +1,18 @@
 //! The writer of a record.
 
-ghost use Rattle.std.specs.Prelude.{◌≡◌, ◌≤◌, ◌+◌, ◌++◌, All, OnOk, IsOk, length, vec_len, vec_capacity};
+ghost use Rattle.std.specs.Prelude.{◌≡◌, ◌≤◌, ◌+◌, ◌++◌, All, OnOk, OnErr, IsOk, length, vec_len, vec_capacity};
 ghost use Rattle.line_words.specs.declared.limits.TheConstants.{LINE_ROOM};
 ghost use Rattle.std.specs.List.{flat_map};
-ghost use Rattle.batch.specs.Text.{number, space};
+ghost use Rattle.batch.specs.Text.{batch_text, number, space};
 ghost use Rattle.batch_book.specs.Told.{told};
 ghost use Rattle.client_session.specs.Replies.{with_feed};
 ghost use Rattle.book_record.specs.RecordText.{CanBePut, id_of, call_text, reply_text, entry_text};
 
+use batch::Batch;
 use batch_book::{Book, Call, Entry, LoggedReply, Reply, SharedBatch, ToldCall};
 use client_session::SessionCommand;
 use client_session::reply_line::ReplyLine;
-use line_words::Line;
+use line_words::{LINE_ROOM, Line};
 use std::alloc::AllocError;
 
 /// Puts words and a line feed.
@@ -48,24 +49,64 @@ fn push_call(text: &mut Vec<u8>, call: &ToldCall<SharedBatch>) -> Result<(), All
     push_line(text, line.as_bytes())
 }
 
-/// Puts the lines of a call that isn't made yet.
-pub fn push_asked(text: &mut Vec<u8>, call: &Call) -> Result<(), AllocError>
-    ensures { OnOk result (text.new.items ≡ text.old.items ++ call_text (told call.now)) }
+/// Puts words and the text of a batch, and takes the room for the lines of a reply.
+fn push_batch(text: &mut Vec<u8>, words: &[u8], batch: &Batch) -> Result<(), AllocError>
+    requires { length words.now ≤ LINE_ROOM }
+    ensures put { OnOk result
+        (text.new.items ≡ text.old.items ++ (words.now ++ batch_text batch.now)) }
+    ensures room { OnOk result (vec_len text.new + LINE_ROOM ≤ vec_capacity text.new) }
+    ensures none { OnErr result (text.new.items ≡ text.old.items) }
 {
-    let mut line = Line::new();
+    let lines = batch.write()?;
+    text.reserve(words.len() + lines.len() + LINE_ROOM)?;
+    text.extend_from_slice(words).unwrap();
+    text.extend_from_slice(lines.as_slice()).unwrap();
+    Ok(())
+}
+
+/// Puts words, and takes the room for the lines of a reply.
+fn push_words(text: &mut Vec<u8>, words: &[u8]) -> Result<(), AllocError>
+    requires { length words.now ≤ LINE_ROOM }
+    ensures put { OnOk result (text.new.items ≡ text.old.items ++ words.now) }
+    ensures room { OnOk result (vec_len text.new + LINE_ROOM ≤ vec_capacity text.new) }
+    ensures none { OnErr result (text.new.items ≡ text.old.items) }
+{
+    text.reserve(words.len() + LINE_ROOM)?;
+    text.extend_from_slice(words).unwrap();
+    Ok(())
+}
+
+/// Puts the session's number, a space, and the lines of a call that isn't made yet, and takes the
+/// room for the line of its reply. They are put together in a line that the caller lends. Where there
+/// is no memory nothing is put.
+pub fn push_asked(
+    text: &mut Vec<u8>,
+    line: &mut Line,
+    session: usize,
+    call: &Call,
+) -> Result<(), AllocError>
+    ensures put { OnOk result (text.new.items
+        ≡ text.old.items ++ (number session space ++ call_text (told call.now))) }
+    ensures room { OnOk result (vec_len text.new + LINE_ROOM ≤ vec_capacity text.new) }
+    ensures none { OnErr result (text.new.items ≡ text.old.items) }
+{
+    line.clear();
+    line.put_number(session as u64);
+    line.put(b" ");
     match call {
-        Call::Submit(batch) => return text.extend_from_slice(batch.write()?.as_slice()),
+        Call::Submit(batch) => return push_batch(text, line.as_bytes(), batch),
         Call::Fetch(id) => line.put_numbered(b"fetch ", *id),
         Call::Settle(id, _) => line.put_numbered(b"settle ", *id),
-        Call::Run(id) => SessionCommand::Run(*id).put(&mut line),
-        Call::Show(id) => SessionCommand::Show(*id).put(&mut line),
-        Call::Discard(id) => SessionCommand::Drop(*id).put(&mut line),
-        Call::Peek(module, address) => SessionCommand::Peek(*module, *address).put(&mut line),
+        Call::Run(id) => SessionCommand::Run(*id).put(line),
+        Call::Show(id) => SessionCommand::Show(*id).put(line),
+        Call::Discard(id) => SessionCommand::Drop(*id).put(line),
+        Call::Peek(module, address) => SessionCommand::Peek(*module, *address).put(line),
         Call::Poke(module, address, word) => {
-            SessionCommand::Poke(*module, *address, *word).put(&mut line);
+            SessionCommand::Poke(*module, *address, *word).put(line);
         }
     }
-    push_line(text, line.as_bytes())
+    line.put(b"\n");
+    push_words(text, line.as_bytes())
 }
 
 /// The batch that a call names, or 0.
@@ -79,8 +120,14 @@ pub fn id_of<B: Drop>(call: &ToldCall<B>) -> usize
     }
 }
 
-/// Puts the line of a reply to a call that names this batch.
-pub fn push_reply(text: &mut Vec<u8>, id: usize, reply: &Reply) -> Result<(), AllocError>
+/// Puts the line of a reply to a call that names this batch. It is put together in a line that the
+/// caller lends.
+pub fn push_reply(
+    text: &mut Vec<u8>,
+    line: &mut ReplyLine,
+    id: usize,
+    reply: &Reply,
+) -> Result<(), AllocError>
     requires { CanBePut reply.now }
     ensures put { OnOk result (text.new.items ≡ text.old.items ++ reply_text id reply.now) }
     ensures room { vec_len text.old + LINE_ROOM ≤ vec_capacity text.old → IsOk result }
@@ -88,25 +135,30 @@ pub fn push_reply(text: &mut Vec<u8>, id: usize, reply: &Reply) -> Result<(), Al
     if let Reply::Fetched(_) = reply {
         return push_line(text, b"fetched");
     }
-    let mut line = ReplyLine::new();
+    line.clear();
     line.tell(id, reply);
     text.extend_from_slice(line.as_bytes())
 }
 
-/// Puts the line of a reply of the history.
-pub fn push_logged(text: &mut Vec<u8>, id: usize, reply: &LoggedReply) -> Result<(), AllocError>
+/// Puts the line of a reply of the history. It is put together in a line that the caller lends.
+pub fn push_logged(
+    text: &mut Vec<u8>,
+    line: &mut ReplyLine,
+    id: usize,
+    reply: &LoggedReply,
+) -> Result<(), AllocError>
     requires { CanBePut reply.now }
     ensures put { OnOk result (text.new.items ≡ text.old.items ++ reply_text id reply.now) }
     ensures room { vec_len text.old + LINE_ROOM ≤ vec_capacity text.old → IsOk result }
 {
     match reply.kept() {
-        Some(reply) => push_reply(text, id, reply),
+        Some(reply) => push_reply(text, line, id, reply),
         None => push_line(text, b"fetched"),
     }
 }
 
 /// Puts the session's number, and a space.
-pub fn push_session(text: &mut Vec<u8>, session: usize) -> Result<(), AllocError>
+fn push_session(text: &mut Vec<u8>, session: usize) -> Result<(), AllocError>
     ensures { OnOk result (text.new.items ≡ text.old.items ++ number session space) }
 {
     let mut line = Line::new();
@@ -116,14 +168,14 @@ pub fn push_session(text: &mut Vec<u8>, session: usize) -> Result<(), AllocError
 }
 
 /// Puts the lines of an entry.
-fn push_entry(text: &mut Vec<u8>, entry: &Entry) -> Result<(), AllocError>
+fn push_entry(text: &mut Vec<u8>, line: &mut ReplyLine, entry: &Entry) -> Result<(), AllocError>
     requires { CanBePut entry.now.reply }
     ensures { OnOk result (text.new.items ≡ text.old.items ++ entry_text entry.now) }
 {
     push_session(text, entry.session)?;
     let call = entry.call.told();
     push_call(text, call)?;
-    push_logged(text, id_of(call), &entry.reply)
+    push_logged(text, line, id_of(call), &entry.reply)
 }
 
 /// Puts the lines of these entries.
@@ -131,8 +183,9 @@ fn push_all(text: &mut Vec<u8>, history: &[Entry]) -> Result<(), AllocError>
     requires { All (λ e. CanBePut e.reply) history.now }
     ensures { OnOk result (text.new.items ≡ text.old.items ++ flat_map entry_text history.now) }
 {
+    let mut line = ReplyLine::new();
     for entry in history {
-        push_entry(text, entry)?;
+        push_entry(text, &mut line, entry)?;
     }
     Ok(())
 }

@@ -17,7 +17,7 @@ use Rattle.client_session.specs.Bytes.{PendingInput, TakesIn}
 use Rattle.client_session.specs.Faults.{IsFaultAt}
 use Rattle.client_session.specs.Seats.{SeatView, GoesOnFrom, seat_view}
 use Rattle.client_session.specs.Turns.{Turn, IsTurn, LostTurn, IsLostTurn, SessionGoesOn, lost_text, turn_text}
-use Rattle.client_session.specs.Sessions.{IsSession, IsPartialCommand, IsAllTold, IsBroken, IsCutOff, IsEndOfLastLine, IsHolding, IsWholeSession, RestAt, GoOn, MayEnd, HasEnded, HoldsAtEnd, GoesThrough, cuts_off, lines_of, lost_entries, lost_texts}
+use Rattle.client_session.specs.Sessions.{IsSession, IsPartialCommand, IsAllRecorded, IsBroken, IsCutOff, IsEndOfLastLine, IsHolding, IsWholeSession, RestAt, GoOn, MayEnd, HasEnded, HoldsAtEnd, GoesThrough, cuts_off, lines_of, lost_entries, lost_texts}
 use Rattle.client_session.specs.Steps.{AreTold, AreUntold, MayTell, TurnFails, TurnLost, TurnTaken, TurnStopped, of_input}
 use Rattle.client_session.proofs.Known.{Consumes-nil, Consumes-more, Appends-nil, Appends-more}
 use Rattle.client_session.proofs.Lists.{every-push}
@@ -116,10 +116,10 @@ abbrev told_seat : SeatView → SeatView
 told_seat p = record p { log = p.asked }
 
 -- where nothing waited as the session began, what could be told goes on from that
-all_asked : (from to : SeatView) (entries : List Entry) → IsAllTold from → to.asked ≡ from.asked ++ entries → from.log ++ entries ≡ to.asked
+all_asked : (from to : SeatView) (entries : List Entry) → IsAllRecorded from → to.asked ≡ from.asked ++ entries → from.log ++ entries ≡ to.asked
 all_asked from to entries was asked = ap (λ l. l ++ entries) was ∙ sym asked
 
-session_told : (from to : SeatView) (turns : List Turn) (bytes rest : List ℕ) (entries : List Entry) (text : List ℕ) → IsAllTold from → to.asked ≡ from.asked ++ entries → IsSession false from to turns bytes rest entries text → IsSession false from (told_seat to) turns bytes rest entries text
+session_told : (from to : SeatView) (turns : List Turn) (bytes rest : List ℕ) (entries : List Entry) (text : List ℕ) → IsAllRecorded from → to.asked ≡ from.asked ++ entries → IsSession false from to turns bytes rest entries text → IsSession false from (told_seat to) turns bytes rest entries text
 session_told from to turns bytes rest entries text was asked s = record {
   each = s.each;
   bytes_are = s.bytes_are;
@@ -138,7 +138,7 @@ session_told from to turns bytes rest entries text was asked s = record {
   };
 }
 
-abbrev holding_told : (from to : SeatView) (bytes rest : List ℕ) (entries : List Entry) (written held : List ℕ) → IsAllTold from → to.asked ≡ from.asked ++ entries → IsHolding from to bytes rest entries written held → IsHolding from (told_seat to) bytes rest entries (written ++ held) []
+abbrev holding_told : (from to : SeatView) (bytes rest : List ℕ) (entries : List Entry) (written held : List ℕ) → IsAllRecorded from → to.asked ≡ from.asked ++ entries → IsHolding from to bytes rest entries written held → IsHolding from (told_seat to) bytes rest entries (written ++ held) []
 holding_told from to bytes rest entries written held was asked h =
     let s = session_told from to h.all bytes rest entries (written ++ held) was asked h.session in record {
       all = h.all;
@@ -151,7 +151,7 @@ holding_told from to bytes rest entries written held was asked h =
       one = λ all. omega arith;
     }
 
-pub Serving-told : (a b w v u : Option (List ℕ)) (from to next : SeatView) (h : PendingInput) (held : List ℕ) → IsAllTold from → Serving 1 a b w v from to h held → AreTold to next v u held → Serving 0 a b w u from next h []
+pub Serving-told : (a b w v u : Option (List ℕ)) (from to next : SeatView) (h : PendingInput) (held : List ℕ) → IsAllRecorded from → Serving 1 a b w v from to h held → AreTold to next v u held → Serving 0 a b w u from next h []
 Serving-told a b w v u from to next h held was p t = subst (λ (q : SeatView). Serving 0 a b w u from q h []) (sym t.seat) record {
   bytes = p.bytes;
   entries = p.entries;
@@ -186,7 +186,7 @@ Serving-held a b w v from to h held p loses = record {
   };
 }
 
-pub Serving-first : (a b w v u : Option (List ℕ)) (from to next : SeatView) (h : PendingInput) (held still : List ℕ) → IsAllTold from → Serving 1 a b w v from to h held → MayTell to next v u held still → Serving 0 a b w u from next h still
+pub Serving-first : (a b w v u : Option (List ℕ)) (from to next : SeatView) (h : PendingInput) (held still : List ℕ) → IsAllRecorded from → Serving 1 a b w v from to h held → MayTell to next v u held still → Serving 0 a b w u from next h still
 Serving-first a b w v u from to next h held still was p (inl t) = subst (Serving 0 a b w u from next h) (sym t.1) (Serving-told a b w v u from to next h held was p t.0)
 Serving-first a b w v u from to next h held still was p (inr t) =
     subst (Serving 0 a b w u from next h) (sym t.3) (subst (λ (o : Option (List ℕ)). Serving 0 a b w o from next h held) (sym t.2) (subst (λ (q : SeatView). Serving 0 a b w v from q h held) (sym t.1) (Serving-held a b w v from to h held p t.0)))
@@ -408,7 +408,7 @@ last_line turns (t ∷ []) all written held front missing are told text few some
     (turns, t, are, front, sym (append_cancel_left written held t.did.line line) ∙ cut)
 last_line turns (t ∷ u ∷ more) all written held front missing are told text few some cut = absurd (omega arith)
 
-cut_off : (from to : SeatView) (bytes rest : List ℕ) (entries : List Entry) (written held front missing : List ℕ) → IsAllTold from → to.asked ≡ from.asked ++ entries → held ≡ front ++ missing → 0 < length held → length held ≤ HELD_BYTES → (h : IsHolding from to bytes rest entries written held) → MayEnd h.all → IsCutOff from (told_seat to) bytes entries (written ++ front)
+cut_off : (from to : SeatView) (bytes rest : List ℕ) (entries : List Entry) (written held front missing : List ℕ) → IsAllRecorded from → to.asked ≡ from.asked ++ entries → held ≡ front ++ missing → 0 < length held → length held ≤ HELD_BYTES → (h : IsHolding from to bytes rest entries written held) → MayEnd h.all → IsCutOff from (told_seat to) bytes entries (written ++ front)
 cut_off from to bytes rest entries written held front missing was asked cut some few h may = record {
   turns = h.all;
   rest = rest;
@@ -422,7 +422,7 @@ cut_off from to bytes rest entries written held front missing was asked cut some
 
 -- what is held where the session goes on, or has ended
 pub untold : (e : ServeFault) (a b w v u : Option (List ℕ)) (from to next : SeatView) (held : List ℕ) (p : GoesThrough a b w v from to (λ bytes entries written. (rest : List ℕ) × (h : IsHolding from to bytes rest entries written held) × MayEnd h.all))
-    → IsAllTold from → AreUntold e to next v u held → GoesThrough a b w u from next (HasEnded (Some e) b from next)
+    → IsAllRecorded from → AreUntold e to next v u held → GoesThrough a b w u from next (HasEnded (Some e) b from next)
 untold Write a b w v u from to next held p was t =
     let cut = t.2 in
     let h = p.is_so.1 in
@@ -468,7 +468,7 @@ serving_holds most a b w v from to h held p = record {
 }
 
 -- they couldn't be told before more is done
-pub untold_first : (e : ServeFault) (a b w v u : Option (List ℕ)) (from to next : SeatView) (h : PendingInput) (held still : List ℕ) → IsAllTold from → Serving 1 a b w v from to h held → AreUntold e to next v u held → Holds a b w u from next still (Some e)
+pub untold_first : (e : ServeFault) (a b w v u : Option (List ℕ)) (from to next : SeatView) (h : PendingInput) (held still : List ℕ) → IsAllRecorded from → Serving 1 a b w v from to h held → AreUntold e to next v u held → Holds a b w u from next still (Some e)
 untold_first Write a b w v u from to next h held still was p t = untold Write a b w v u from to next held (serving_holds 1 a b w v from to h held p) was t
 untold_first Record a b w v u from to next h held still was p t = untold Record a b w v u from to next held (serving_holds 1 a b w v from to h held p) was t
 untold_first Read a b w v u from to next h held still was p t = absurd t
@@ -504,7 +504,7 @@ ends_holding (Some NoMemory) known from to held bytes entries written is e = (e.
 ends_holding (Some Write) known from to held bytes entries written is e = absurd (true≢false is)
 ends_holding (Some Record) known from to held bytes entries written is e = absurd (true≢false is)
 
-pub untold_last : (fault : Option ServeFault) (e : ServeFault) (a b w v u : Option (List ℕ)) (from to next : SeatView) (held : List ℕ) → cuts_off fault ≡ false → IsAllTold from → Holds a b w v from to held fault → AreUntold e to next v u held → Ends a b w u from next (Some e)
+pub untold_last : (fault : Option ServeFault) (e : ServeFault) (a b w v u : Option (List ℕ)) (from to next : SeatView) (held : List ℕ) → cuts_off fault ≡ false → IsAllRecorded from → Holds a b w v from to held fault → AreUntold e to next v u held → Ends a b w u from next (Some e)
 untold_last fault e a b w v u from to next held is was p t = untold e a b w v u from to next held record {
   bytes = p.bytes;
   entries = p.entries;
@@ -516,7 +516,7 @@ untold_last fault e a b w v u from to next held is was p t = untold e a b w v u 
 } was t
 
 -- all was told
-ended_so : (fault : Option ServeFault) (known : Option (List ℕ)) (from to : SeatView) (held bytes : List ℕ) (entries : List Entry) (written : List ℕ) → cuts_off fault ≡ false → IsAllTold from → to.asked ≡ from.asked ++ entries → HoldsAtEnd fault known held from to bytes entries written → HasEnded fault known from (told_seat to) bytes entries (written ++ held)
+ended_so : (fault : Option ServeFault) (known : Option (List ℕ)) (from to : SeatView) (held bytes : List ℕ) (entries : List Entry) (written : List ℕ) → cuts_off fault ≡ false → IsAllRecorded from → to.asked ≡ from.asked ++ entries → HoldsAtEnd fault known held from to bytes entries written → HasEnded fault known from (told_seat to) bytes entries (written ++ held)
 ended_so None known from to held bytes entries written is was asked e = (e.1.all, e.0, session_told from to e.1.all bytes e.0 entries (written ++ held) was asked e.1.session, e.2, refl)
 ended_so (Some Read) known from to held bytes entries written is was asked e = (e.1.all, e.0, session_told from to e.1.all bytes e.0 entries (written ++ held) was asked e.1.session, e.2, e.3, refl)
 ended_so (Some LineTooLong) known from to held bytes entries written is was asked e = (e.1.all, e.0, session_told from to e.1.all bytes e.0 entries (written ++ held) was asked e.1.session, e.2, e.3, refl)
@@ -526,7 +526,7 @@ ended_so (Some NoMemory) known from to held bytes entries written is was asked e
 ended_so (Some Write) known from to held bytes entries written is was asked e = absurd (true≢false is)
 ended_so (Some Record) known from to held bytes entries written is was asked e = absurd (true≢false is)
 
-pub told_last : (fault : Option ServeFault) (a b w v u : Option (List ℕ)) (from to next : SeatView) (held : List ℕ) → cuts_off fault ≡ false → IsAllTold from → Holds a b w v from to held fault → AreTold to next v u held → Ends a b w u from next fault
+pub told_last : (fault : Option ServeFault) (a b w v u : Option (List ℕ)) (from to next : SeatView) (held : List ℕ) → cuts_off fault ≡ false → IsAllRecorded from → Holds a b w v from to held fault → AreTold to next v u held → Ends a b w u from next fault
 told_last fault a b w v u from to next held is was p t = subst (λ (q : SeatView). Ends a b w u from q fault) (sym t.seat) record {
   bytes = p.bytes;
   entries = p.entries;
@@ -570,7 +570,7 @@ session_kept a b w v loses shape seat back from to fault was is ends =
     subst (λ (x : SeatView). Ends a b w v (seat_view loses shape seat) x fault) same (subst (λ (x : SeatView). Ends a b w v x to fault) was ends)
 
 -- all is told, where the record isn't broken
-all_told : (fault : Option ServeFault) (known : Option (List ℕ)) (from to : SeatView) (bytes : List ℕ) (entries : List Entry) (written : List ℕ) → (fault ≡ Some Record → ⊥) → HasEnded fault known from to bytes entries written → IsAllTold to
+all_told : (fault : Option ServeFault) (known : Option (List ℕ)) (from to : SeatView) (bytes : List ℕ) (entries : List Entry) (written : List ℕ) → (fault ≡ Some Record → ⊥) → HasEnded fault known from to bytes entries written → IsAllRecorded to
 all_told None known from to bytes entries written whole h = h.4
 all_told (Some Write) known from to bytes entries written whole h = h.recorded
 all_told (Some Record) known from to bytes entries written whole h = absurd (whole refl)
@@ -583,7 +583,7 @@ all_told (Some NoMemory) known from to bytes entries written whole h = h.5
 pub told_behind : (a b w v : Option (List ℕ)) (loses : Bool) (back : SeatState) (from to : SeatView) (fault : Option ServeFault) → seat_view to.loses to.shape back ≡ to → (fault ≡ Some Record → loses ≡ true) → loses ≡ false → Ends a b w v from to fault → back.log ≡ back.asked
 told_behind a b w v loses back from to fault is lost none ends =
     let whole : fault ≡ Some Record → ⊥ = λ broken. true≢false (sym (lost broken) ∙ none) in
-    subst IsAllTold (sym is) (all_told fault b from to ends.bytes ends.entries ends.written whole ends.is_so)
+    subst IsAllRecorded (sym is) (all_told fault b from to ends.bytes ends.entries ends.written whole ends.is_so)
 
-pub told_at_first : (loses : Bool) (shape : Extent) (seat : SeatState) (from : SeatView) → from ≡ seat_view loses shape seat → seat.log ≡ seat.asked → IsAllTold from
-told_at_first loses shape seat from is told = subst IsAllTold (sym is) told
+pub told_at_first : (loses : Bool) (shape : Extent) (seat : SeatState) (from : SeatView) → from ≡ seat_view loses shape seat → seat.log ≡ seat.asked → IsAllRecorded from
+told_at_first loses shape seat from is told = subst IsAllRecorded (sym is) told

@@ -102,8 +102,8 @@ RestAt Write known read rest = ⊥
 RestAt Record known read rest = ⊥
 
 -- all that the session asked could be told to it
-abbrev pub IsAllTold : SeatView → Type 0
-IsAllTold seat = seat.log ≡ seat.asked
+abbrev pub IsAllRecorded : SeatView → Type 0
+IsAllRecorded seat = seat.log ≡ seat.asked
 
 -- an end of the last command's line
 abbrev pub IsEndOfLastLine : List Turn → List ℕ → Type 0
@@ -121,7 +121,7 @@ pub record IsCutOff (old new : SeatView) (bytes : List ℕ) (entries : List Entr
   pub session : IsSession false old new turns bytes rest entries (written ++ missing)
   pub may_end : MayEnd turns
   pub few : length missing ≤ HELD_BYTES
-  pub recorded : IsAllTold new
+  pub recorded : IsAllRecorded new
   pub last : old.loses ≡ false → IsEndOfLastLine turns missing
 
 -- the texts of these commands, and the entries that they added
@@ -157,13 +157,13 @@ abbrev pub HasEnded : Option ServeFault → Option (List ℕ) → SeatView → S
 HasEnded None known old new bytes entries written =
     (turns : List Turn) × (rest : List ℕ)
     × IsSession false old new turns bytes rest entries written
-    × IsWholeSession turns known rest × IsAllTold new
+    × IsWholeSession turns known rest × IsAllRecorded new
 HasEnded (Some Write) known old new bytes entries written = IsCutOff old new bytes entries written
 HasEnded (Some Record) known old new bytes entries written = IsBroken old new bytes entries written
 HasEnded (Some fault) known old new bytes entries written =
     (turns : List Turn) × (rest : List ℕ)
     × IsSession false old new turns bytes rest entries written
-    × GoOn turns × RestAt fault known (length bytes) rest × IsAllTold new
+    × GoOn turns × RestAt fault known (length bytes) rest × IsAllRecorded new
 
 -- A session whose reply lines were told but for those that are held. Where no entry can be lost,
 -- that is one line at most.

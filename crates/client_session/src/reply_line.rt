@@ -138,7 +138,7 @@ impl ReplyLine {
     }
 
     /// Says nothing again.
-    pub(crate) fn clear(&mut self)
+    pub fn clear(&mut self)
         ensures { self.new ≡ [] }
     {
         self.line.clear();

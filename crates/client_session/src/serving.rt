@@ -9,7 +9,7 @@ ghost use Rattle.client_session.specs.Asking.{AsksWithinLimit};
 ghost use Rattle.client_session.specs.Bytes.{HasLine};
 ghost use Rattle.client_session.specs.Listening.{TellsOfRefusals};
 ghost use Rattle.client_session.specs.Seats.{seat_view};
-ghost use Rattle.client_session.specs.Sessions.{HasEnded, HoldsAtEnd, GoesThrough, IsAllTold, IsServed, cuts_off, fault_in, seat_back, fault_back};
+ghost use Rattle.client_session.specs.Sessions.{HasEnded, HoldsAtEnd, GoesThrough, IsAllRecorded, IsServed, cuts_off, fault_in, seat_back, fault_back};
 ghost use Rattle.client_session.specs.Steps.{AreTold, AreUntold, MayTell};
 ghost use Rattle.client_session.specs.declared.limits.TheConstants.{HELD_BYTES, LINE_BYTES};
 
@@ -178,7 +178,7 @@ fn serve_lines<
     held: &mut HeldLines,
 ) -> Result<(), ServeFault>
     requires { held.old ≡ [] }
-    ensures session { IsAllTold seat.old → GoesThrough (I.remaining reader.old)
+    ensures session { IsAllRecorded seat.old → GoesThrough (I.remaining reader.old)
         (I.remaining reader.new) (O.contents writer.old) (O.contents writer.new) seat.old seat.new
         (HoldsAtEnd (fault_in result) (I.remaining reader.new) held.new seat.old seat.new) }
     ensures asks { AsksWithinLimit (I.asked reader.old) (I.asked reader.new) (fault_in result) }
@@ -233,7 +233,7 @@ fn serve_seat<
     listener: &mut H,
     workers: WorkerCount,
 ) -> Result<(), ServeFault>
-    ensures session { IsAllTold seat.old → GoesThrough (I.remaining reader.old)
+    ensures session { IsAllRecorded seat.old → GoesThrough (I.remaining reader.old)
         (I.remaining reader.new) (O.contents writer.old) (O.contents writer.new) seat.old seat.new
         (HasEnded (fault_in result) (I.remaining reader.new) seat.old seat.new) }
     ensures asks { AsksWithinLimit (I.asked reader.old) (I.asked reader.new) (fault_in result) }

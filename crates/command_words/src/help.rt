@@ -506,7 +506,7 @@ host that is killed leaves all that was answered, and no line `end`. With
 --resume FILE may have what such a host left, if that had the same SHAPE, image
 and clients: its calls are made again, what isn't whole is cut off, and the
 clients go on where it ends, each in the session of its place. With --sync a
-reply is sent once its entry is on the disk; all calls then wait for that.
+reply is sent once its entry is on the disk; other clients go on meanwhile.
 --image-out writes the words at the end, in the form that
 `exchange apply --help` shows, to a new file that then takes the name FILE.
 

@@ -331,7 +331,7 @@ pub(crate) fn over_silent<F>(end: Result<Answer, Refusal>, book: Book<Silent>) -
 }
 
 /// What sessions leave whose record is a stream.
-pub(crate) fn over_recorded<F: Write, N: StreamName>(
+pub(crate) fn over_recorded<F: Write + Send, N: StreamName + Send>(
     end: Result<Answer, Refusal>,
     book: Book<Streamed<F, N>>,
 ) -> Over<F>

@@ -284,7 +284,14 @@ fn talk_over<K: History, R: Threads + Wait + Sync, I: Read, O: Write, H: Listene
 }
 
 /// The same over a book whose record goes on at this stream.
-fn talk_recorded<N: StreamName, R: Threads + Wait + Sync, F: Write, I: Read, O: Write, H: Listener>(
+fn talk_recorded<
+    N: StreamName + Send,
+    R: Threads + Wait + Sync,
+    F: Write + Send,
+    I: Read,
+    O: Write,
+    H: Listener,
+>(
     rt: &R,
     alloc: Global,
     book: Book<Silent>,
@@ -310,7 +317,7 @@ fn talk_recorded<N: StreamName, R: Threads + Wait + Sync, F: Write, I: Read, O: 
 }
 
 /// The session of a client, from its beginning on.
-fn talk_from<R: Threads + Wait + Sync, F: Write, I: Read, O: Write, H: Listener>(
+fn talk_from<R: Threads + Wait + Sync, F: Write + Send, I: Read, O: Write, H: Listener>(
     rt: &R,
     alloc: Global,
     start: Start<F>,

@@ -10,6 +10,7 @@ use crate::asking::{PlainPlant, ask, call_of};
 use crate::fault::EntryFault;
 use batch_book::{Book, Reply, Silent};
 use book_record::{BegunEntry, id_of, push_reply};
+use client_session::reply_line::ReplyLine;
 use exchange_limits::WorkerCount;
 use line_words::behind;
 use std::alloc::{AllocError, Global};
@@ -21,7 +22,7 @@ fn due_line(alloc: Global, id: usize, reply: &Reply) -> Result<Vec<u8>, AllocErr
     ensures { IfOk result (λ line. line.items ≡ reply_text id reply.now) }
 {
     let mut line = Vec::new(alloc);
-    push_reply(&mut line, id, reply)?;
+    push_reply(&mut line, &mut ReplyLine::new(), id, reply)?;
     Ok(line)
 }
 

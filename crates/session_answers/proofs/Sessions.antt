@@ -21,7 +21,7 @@ use Rattle.batch_book.specs.Replies.{NeverFail}
 use Rattle.batch_book.specs.Seats.{SeatState, IsSameSeat, IsRecorded, own}
 use Rattle.batch_book.specs.Values.{greatest}
 use Rattle.batch_book.proofs.Fronts.{front, starts_same}
-use Rattle.batch_book.proofs.Noting.{all_recorded}
+use Rattle.batch_book.proofs.Noting.{recorded_more}
 use Rattle.client_session.specs.declared.fault.ServeFault.{ServeFault}
 use Rattle.client_session.specs.declared.fault.ServeFault.TheVariants.{Record}
 use Rattle.client_session.specs.Seats.{SeatView, seat_view}
@@ -192,7 +192,7 @@ one_history seen sure limited loses opening earlier seats book left (Ok done) cl
     let rest = front book.stands book.history kept.front in
     let made : closed.standing ++ rest.0 ≡ closed.made =
     append_cancel_left earlier _ _ (sym (append_assoc earlier closed.standing rest.0) ∙ ap (λ (es : List Entry). es ++ rest.0) (sym closed.stand) ∙ sym rest.1 ∙ closed.are) in
-    let recorded : All (IsRecorded closed.made) seats = subst (λ (es : List Entry). All (IsRecorded es) seats) made (all_recorded closed.standing rest.0 seats closed.told) in
+    let recorded : All (IsRecorded closed.made) seats = subst (λ (es : List Entry). All (IsRecorded es) seats) made (λ k d less. recorded_more closed.standing rest.0 (get_or seats k d) (closed.told k d less)) in
     subst (HaveOneHistory loses opening earlier (map part_of seats)) (sym flushed.1)
     (theirs seen sure limited loses opening earlier seats book closed.made book.history book.whole closed never kept recorded closed.are (starts_same book.history book.history refl) (λ whole. refl) kept.lost)
 one_history seen sure limited loses opening earlier seats book left (Err lost) closed never kept flushed loses_is =

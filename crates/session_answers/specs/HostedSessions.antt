@@ -68,23 +68,24 @@ pub record IsReturned {L C : Type 0} (loses : Bool) (x : Exchange) (g : KnownCli
   pub has : HasReturned loses x g received (begins g.clients r.decided.value) seat r.seat r.ending
 
 -- a promise of this seat at a host
-pub record IsOf {L D K : Type 0} (known : D → KnownClients) (x : Exchange) (g : KnownClients)
-    (latch : ℕ) (seat : SeatState) (p : OfSeat L D K) : Type 0 where
-  pub exchange : p.exchange.now ≡ x
-  pub clients : known p.streams.now ≡ g
-  pub its_latch : p.latch.now.id ≡ latch
+pub record IsOf {L D K E Q : Type 0} (known : D → KnownClients) (x : Exchange) (g : KnownClients)
+    (latch : ℕ) (seat : SeatState) (p : OfSeat L D K E Q) : Type 0 where
+  pub exchange : p.exchange.value ≡ x
+  pub clients : known p.streams.value ≡ g
+  pub its_latch : p.latch.value.id ≡ latch
   pub its_seat : p.seat.value ≡ seat
 
 -- the thread of this seat, or what it would give back
-abbrev pub IsThreadOf : {L D K R W C : Type 0} → Bool → (D → KnownClients) → (C → Option (List ℕ))
-    → Exchange → KnownClients → ℕ → SeatState → SeatThread L D K R W C → Type 0
+abbrev pub IsThreadOf : {L D K R W C E Q : Type 0} → Bool → (D → KnownClients)
+    → (C → Option (List ℕ)) → Exchange → KnownClients → ℕ → SeatState
+    → SeatThread L D K R W C E Q → Type 0
 IsThreadOf loses known received x g latch seat (Started thread) =
     IsOf known x g latch seat thread.promise
 IsThreadOf loses known received x g latch seat (Refused returned) =
     IsReturned loses x g received latch seat returned
 
 -- it couldn't be had
-abbrev pub is_refused : {L D K R W C : Type 0} → SeatThread L D K R W C → Bool
+abbrev pub is_refused : {L D K R W C E Q : Type 0} → SeatThread L D K R W C E Q → Bool
 is_refused (Started thread) = false
 is_refused (Refused returned) = true
 

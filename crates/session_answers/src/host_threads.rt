@@ -49,24 +49,24 @@ pub struct Returned<'a, L: ExchangeName, C> {
 
 /// That a thread gives back this seat.
 #[derive(Drop)]
-pub struct OfSeat<'a, L: ExchangeName, D, K: History> {
-    exchange: &'a PlainExchange<L, K>,
-    streams: &'a D,
-    latch: &'a Latch,
+pub struct OfSeat<L: ExchangeName, D, K: History> {
+    exchange: Snapshot<PlainExchange<L, K>>,
+    streams: Snapshot<D>,
+    latch: Snapshot<Latch>,
     seat: Snapshot<Seat<L>>,
 }
 
 impl<'a, L: ExchangeName, D: ClientStreams, K: History> Promise<Returned<'a, L, D::Receipt>>
-    for OfSeat<'a, L, D, K> {
-    ghost kept_by = { λ p returned. IsReturned K.loses p.exchange.now (D.known p.streams.now)
-        D.received p.latch.now.id p.seat.value returned };
+    for OfSeat<L, D, K> {
+    ghost kept_by = { λ p returned. IsReturned K.loses p.exchange.value (D.known p.streams.value)
+        D.received p.latch.value.id p.seat.value returned };
 }
 
 /// The thread of a seat.
 #[derive(Drop)]
 pub enum SeatThread<'a, L: ExchangeName, D: ClientStreams, K: History> {
     /// It began.
-    Started(PromisedHandle<Returned<'a, L, D::Receipt>, OfSeat<'a, L, D, K>>),
+    Started(PromisedHandle<Returned<'a, L, D::Receipt>, OfSeat<L, D, K>>),
     /// It couldn't be had. This is what it would give back.
     Refused(Returned<'a, L, D::Receipt>),
 }
@@ -181,9 +181,9 @@ fn start<
         (D.known context.now.streams.now) context.now.latch.now.id seat result }
 {
     let promise = OfSeat {
-        exchange: context.exchange,
-        streams: context.streams,
-        latch: context.latch,
+        exchange: Snapshot::of(context.exchange),
+        streams: Snapshot::of(context.streams),
+        latch: Snapshot::of(context.latch),
         seat: Snapshot::of(&seat),
     };
     let serve = move || -> Returned<L, D::Receipt>

@@ -3,7 +3,7 @@
 ghost use Rattle.std.specs.Prelude.{◌≡◌, [], true, IfSome};
 
 use batch::Shape;
-use batch_book::{Book, Call, Entry, History, PastEntries, Unrecorded};
+use batch_book::{Book, Call, Entry, History, NoRecorder, NoneWait, PastEntries, Unrecorded};
 use module_memory::Rack;
 use std::alloc::{AllocError, Global};
 use std::snapshot::Snapshot;
@@ -67,6 +67,10 @@ impl FailsOnce {
 }
 
 impl History for FailsOnce {
+    type Waiting = NoneWait;
+
+    type Recorder = NoRecorder;
+
     ghost use Rattle.std.specs.Prelude.{true, false};
 
     ghost pushed = { λ s. s.past };
@@ -78,6 +82,10 @@ impl History for FailsOnce {
     ghost limited = { false };
 
     ghost loses = { true };
+
+    ghost waits = { true };
+
+    ghost lends = { false };
 
     ghost drafted = { λ _ _ _. Unit {0} };
 
@@ -120,5 +128,13 @@ impl History for FailsOnce {
         self.waits = false;
         self.flushed = Snapshot::of(&self.past);
         Ok(())
+    }
+
+    fn lend(self) -> Result<(NoneWait, NoRecorder), Self> {
+        Err(self)
+    }
+
+    fn take_back(_waiting: NoneWait, _recorder: NoRecorder) -> Option<Self> {
+        None
     }
 }

@@ -1,8 +1,9 @@
 //! Calls and readings of an exchange: what a seat is answered, readings during runs, seats in
-//! threads, two workers, and named sizes and texts.
+//! threads, what is settled beside a run, two workers, and named sizes and texts.
 
 mod days;
 mod exchange;
 mod readings;
+mod settles;
 mod sizes;
 mod ways;

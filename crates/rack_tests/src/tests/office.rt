@@ -7,7 +7,8 @@ ghost use Rattle.progress_word.specs.declared.limits.TheConstants.{ALL_PARTS};
 
 use crate::tests::common::{batch, plan};
 use batch_book::{
-    BatchState, BookRefusal, Call, Closed, ExchangeBlank, ExchangeName, Reply, Seat, Shared,
+    BatchState, BookRefusal, Call, Closed, ExchangeBlank, ExchangeName, History, Reply, Seat,
+    Shared,
 };
 use crossbar::{ConfigPort, MemoryPort};
 use module_memory::Rack;
@@ -41,7 +42,8 @@ pub enum Said {
     Word(u32),
     Poked,
     Refused(BookRefusal),
-    /// The call couldn't be made, for want of memory or since its text is none of a batch.
+    /// The call couldn't be made, for want of memory, since its text is none of a batch, or since
+    /// its entry would be lost.
     NotAsked,
 }
 
@@ -102,14 +104,18 @@ pub fn answer<
     P: ConfigPort,
     W: WireMaker + Sync,
     G: Gate + Sync,
+    H: History,
     R: AllocGlobal + Threads + Wait + Sync,
->(rt: &R, shared: &Shared<L, P, W, G>, seat: &mut Seat<L>, ask: Ask) -> Said
+>(rt: &R, shared: &Shared<L, P, W, G, H>, seat: &mut Seat<L>, ask: Ask) -> Said
     requires { seat.old.exchange ≡ Some shared.now.word }
     ensures { seat.new.exchange ≡ seat.old.exchange }
 {
-    match ask.call(rt) {
-        Some(call) => Said::of(&shared.call(rt, seat, call)),
-        None => Said::NotAsked,
+    let Some(call) = ask.call(rt) else {
+        return Said::NotAsked;
+    };
+    match shared.try_call(rt, seat, call) {
+        Ok(reply) => Said::of(&reply),
+        Err(_) => Said::NotAsked,
     }
 }
 

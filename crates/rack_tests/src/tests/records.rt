@@ -85,7 +85,7 @@ fn call_of(entry: usize) -> (usize, Call) {
 /// The calls behind so many entries, made on a book that has these, and that writes to a sheet with
 /// this room when it is flushed, behind each call: how many can be told then, each behind its entry,
 /// and what is written.
-fn ask<R: Threads + Sync, N: StreamName>(
+fn ask<R: Threads + Sync, N: StreamName + Send>(
     rt: &R,
     alloc: Global,
     book: Book<Silent>,

@@ -1,18 +1,19 @@
 use Rattle.std.proofs.Common.{◌∙◌, ap, sym, arith}
-use Rattle.batch_book.specs.Recording.{made_in}
+use Rattle.batch_book.specs.Recording.{made_in, told_in}
 use Rattle.batch_book.specs.Values.{greatest}
-use Rattle.batch_book.proofs.Noting.{greatest_own, own_asked, own_notes, recorded}
+use Rattle.batch_book.proofs.Noting.{greatest_own, own_asked}
+use Rattle.batch_book.specs.Places.{notes_of}
 use Rattle.batch_book.proofs.close.compared.Goals as goal
 
 pub returns-clause-asked : goal.returns-clause-asked
 returns-clause-asked g c =
     let notes = c.args.keeper.now.history in
-    sym c.into_place-access.ensures.made ∙ (ap made_in (c.compare.ensures.list ∙ ap (λ s. own_notes s notes) c.into_place-access.ensures.session) ∙ own_asked c.args.seat.session notes)
+    sym c.into_place-access.ensures.made ∙ (ap made_in (c.compare.ensures.list ∙ ap (λ s. notes_of s notes) c.into_place-access.ensures.session) ∙ own_asked c.args.seat.session notes)
 
 pub returns-clause-told : goal.returns-clause-told
 returns-clause-told g c =
     let notes = c.args.keeper.now.history in
-    recorded c.args.seat c.into_place-access.result.own.list notes (sym c.into_place-access.ensures.told) (c.compare.ensures.list ∙ ap (λ s. own_notes s notes) c.into_place-access.ensures.session)
+    sym c.into_place-access.ensures.told ∙ ap told_in (c.compare.ensures.list ∙ ap (λ s. notes_of s notes) c.into_place-access.ensures.session)
 
 pub returns-clause-raised : goal.returns-clause-raised
 returns-clause-raised g c =

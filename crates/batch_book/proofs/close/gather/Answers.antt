@@ -5,8 +5,9 @@ use Rattle.std.proofs.lemmas.List.{map-id}
 use Rattle.std.proofs.lemmas.List.Elements.{All-push}
 use Rattle.std.proofs.lemmas.List.Sums.{sum_by_push}
 use Rattle.progress_word.specs.Watchers.{WatcherView}
-use Rattle.batch_book.specs.Seats.{SeatState, AskedAgrees, IsRecorded}
-use Rattle.batch_book.specs.Recording.{made_in, told_in}
+use Rattle.batch_book.specs.Places.{LogAgrees}
+use Rattle.batch_book.specs.Seats.{SeatState, AskedAgrees}
+use Rattle.batch_book.specs.Recording.{made_in}
 use Rattle.batch_book.specs.Values.{greatest}
 use Rattle.batch_book.proofs.Seats.{its_word}
 use Rattle.batch_book.proofs.close.gather.Goals as goal
@@ -41,14 +42,14 @@ join-requires-clause-word g c =
 pub loop-seat-preserved : goal.loop-seat-preserved
 loop-seat-preserved g c =
     let all = made_in c.args.keeper.now.history in
-    let h = told_in c.args.keeper.now.history in
+    let h = c.args.keeper.now.history in
     let i = c.loop-seat.invariant in
     let e = c.compared-access.ensures in
     let j = c.join.ensures in
     let s : SeatState = c.in-Some-seat.seat in
     let ys = c.loop-seat.yielded in
     let asked : AskedAgrees all s = subst (λ l. AskedAgrees (made_in l) s) i.same e.asked in
-    let told : IsRecorded h s = subst (λ l. IsRecorded (told_in l) s) i.same e.told in
+    let told : LogAgrees h s = subst (λ l. LogAgrees l s) i.same e.told in
     let below = subst (λ l. c.compared-access.result.watcher.raised ≤ max (greatest g.L.ExchangeName.earlier) (greatest (made_in l))) i.same e.raised in
     let seen = ap (λ (o : WatcherView). o.seen) j.watcher in
     let raised = ap (λ (o : WatcherView). o.raised) j.watcher in
@@ -56,7 +57,7 @@ loop-seat-preserved g c =
     record {
       same = e.keeper ∙ i.same;
       asked = All-push (AskedAgrees all) ys s i.asked asked;
-      told = All-push (IsRecorded h) ys s i.told told;
+      told = All-push (LogAgrees h) ys s i.told told;
       word = ap (λ (o : WatcherView). o.word) j.watcher;
       parts = omega (arith, i.parts, j.parts, e.parts, sum_by_push (λ (s : SeatState). s.parts) ys s);
       amount = omega (arith, i.amount, j.amount, e.amount, sum_by_push (λ (s : SeatState). length s.asked) ys s);
@@ -75,7 +76,7 @@ returns-clause-asked g c =
 
 pub returns-clause-told : goal.returns-clause-told
 returns-clause-told g c =
-    let is : SeatState → Type 0 = IsRecorded (told_in c.args.keeper.now.history) in
+    let is : SeatState → Type 0 = LogAgrees c.args.keeper.now.history in
     let rest = c.pop.new.self.items in
     let end = YieldsList-end (YieldsList-from_vec {s = c.into_iter-seat-iterator.result} rest (search rules) (search rules)) c.loop-seat.yielded c.loop-seat.seat-iterator c.loop-seat.yielded_by c.next.result c.next.new.self c.in-None.is c.next.ensures.steps in
     let others : All is rest = subst (λ (l : List SeatState). All is l) (sym (map-id c.loop-seat.yielded) ∙ end.0) c.loop-seat.invariant.told in

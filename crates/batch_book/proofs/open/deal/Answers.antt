@@ -59,5 +59,10 @@ returns-clause-seats g c =
     (c.new-seat-2.ensures ∙ ap (λ (o : WatcherView). open_seat o 0 [] [] c.loop-session.first.parts false) inv.watcher ∙ ap (λ (n : ℕ). new_seat word start 0 n) left)
     few (subst (λ (n : ℕ). AreDealt word start n c.loop-session.seats.items) end inv.dealt)
 
+pub returns-clause-dealt : goal.returns-clause-dealt
+returns-clause-dealt g c =
+    let end : c.loop-session.session ≡ c.args.sessions = omega arith in
+    c.loop-session.invariant.next ∙ end
+
 pub unwrap-requires-2 : goal.unwrap-requires-2
 unwrap-requires-2 g c = grind (arith, common_steps)

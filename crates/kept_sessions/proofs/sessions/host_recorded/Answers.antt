@@ -3,14 +3,21 @@ use Rattle.std.specs.Prelude.{IfSome}
 use Rattle.batch_book.specs.declared.entry.Entry.{Entry}
 use Rattle.batch_book.specs.History.{Account}
 use Rattle.book_record.specs.Streams.{IsWritten as IsStreamed}
+use Rattle.book_record.proofs.Crossing.{streamed_send}
 use Rattle.named_files.specs.Clients.{clients_by}
 use Rattle.kept_sessions.specs.Live.{IsHostOver, IsReady}
 use Rattle.kept_sessions.proofs.Lived.{host_settled, same_account}
 use Rattle.kept_sessions.proofs.sessions.host_recorded.Goals as goal
+use denote.Param.Send.{sendable}
 
 pub host_over-end-requires-clause-ready : goal.host_over-end-requires-clause-ready
 host_over-end-requires-clause-ready g c = λ lifetimes bounds.
     subst IsReady (sym (c.stream_on-book.ensures ∙ same_account c.args.book c.requires.ready)) c.requires.ready
+
+pub host_over-end-requires-send-K : goal.host_over-end-requires-send-K
+host_over-end-requires-send-K g c κs within =
+    let s = streamed_send _ _ g.S.Stream.Write g.N.StreamName c.type_bounds.send-S-Stream c.type_bounds.send-N in
+    search sendable depth 20
 
 pub returns-clause-over : goal.returns-clause-over
 returns-clause-over g c =

@@ -17,7 +17,7 @@ use std::sync::atomic::{AtomicBool, Ordering};
 use std::thread::{Threads, join, yield_now};
 
 /// How long a thread waits for the other.
-const TURNS: usize = 10_000_000;
+pub const TURNS: usize = 10_000_000;
 
 /// A run of a batch, of which this transfer waits until the other thread has read this, and what is
 /// read behind the run.
@@ -31,13 +31,13 @@ struct Watched {
 
 /// Whether that was read, and whether somebody gave up waiting.
 #[derive(Drop)]
-struct Hold {
-    seen: AtomicBool,
+pub struct Hold {
+    pub seen: AtomicBool,
     gave_up: AtomicBool,
 }
 
 impl Hold {
-    fn new() -> Hold {
+    pub fn new() -> Hold {
         Hold {
             seen: AtomicBool::new(false),
             gave_up: AtomicBool::new(false),
@@ -56,14 +56,14 @@ impl Hold {
     }
 
     /// Whether it was read, and nobody gave up.
-    fn is_kept(&self) -> bool {
+    pub fn is_kept(&self) -> bool {
         self.seen.load(Ordering::SeqCst) && !self.gave_up.load(Ordering::SeqCst)
     }
 }
 
 /// A line whose next byte waits, where it is held.
 #[derive(Drop)]
-struct HeldLine<'a> {
+pub struct HeldLine<'a> {
     plain: PlainWire,
     hold: &'a Hold,
     is_held: bool,
@@ -87,9 +87,9 @@ impl<'a> Wire for HeldLine<'a> {
 
 /// Gives this transfer a line that is held.
 #[derive(Clone, Copy)]
-struct HeldLines<'a> {
-    hold: &'a Hold,
-    transfer: usize,
+pub struct HeldLines<'a> {
+    pub hold: &'a Hold,
+    pub transfer: usize,
 }
 
 impl<'a> WireMaker for HeldLines<'a> {

@@ -6,7 +6,8 @@ ghost use Rattle.std.specs.Prelude.{◌≡◌, [], true, false};
 
 use crate::tests::common::{with_wires, zeros};
 use batch_book::{
-    Book, Call, Entry, ExchangeBlank, ExchangeName, History, PastEntries, Shared, Unrecorded,
+    Book, Call, Entry, ExchangeBlank, ExchangeName, History, NoRecorder, NoneWait, PastEntries,
+    Shared, Unrecorded,
 };
 use client_session::{Listener, ServeFault, serve};
 use crossbar::MemoryPort;
@@ -110,6 +111,10 @@ impl<'a> Waiting<'a> {
 }
 
 impl History for Waiting<'_> {
+    type Waiting = NoneWait;
+
+    type Recorder = NoRecorder;
+
     ghost use Rattle.std.specs.Prelude.{true, false};
 
     ghost pushed = { λ s. s.past };
@@ -121,6 +126,10 @@ impl History for Waiting<'_> {
     ghost limited = { false };
 
     ghost loses = { true };
+
+    ghost waits = { true };
+
+    ghost lends = { false };
 
     ghost drafted = { λ _ _ _. Unit {0} };
 
@@ -162,6 +171,14 @@ impl History for Waiting<'_> {
         self.waiting = 0;
         self.flushed = Snapshot::of(&self.past);
         Ok(())
+    }
+
+    fn lend(self) -> Result<(NoneWait, NoRecorder), Self> {
+        Err(self)
+    }
+
+    fn take_back(_waiting: NoneWait, _recorder: NoRecorder) -> Option<Self> {
+        None
     }
 }
 

@@ -26,7 +26,7 @@ ends_of-text-requires-clause-room g c κs within =
     rw many c.in-Ok.ensures.room
 
 pub close_exchange-requires-clause-seats : goal.close_exchange-requires-clause-seats
-close_exchange-requires-clause-seats g c = all_new c.in-Ok-opened.made.0 (greatest g.L.ExchangeName.earlier) _ c.in-Err-host_seats.seats.items c.in-Err-host_seats.ensures.back
+close_exchange-requires-clause-seats g c κs within = all_new c.in-Ok-opened.made.0 (greatest g.L.ExchangeName.earlier) _ c.in-Err-host_seats.seats.items c.in-Err-host_seats.ensures.back
 
 pub returns-in-Ok-host_seats-clause-hosted : goal.returns-in-Ok-host_seats-clause-hosted
 returns-in-Ok-host_seats-clause-hosted g c =

@@ -7,7 +7,7 @@ use Rattle.session_answers.proofs.Talks.{alone, all_there, has_talked}
 use Rattle.session_answers.proofs.talking.talk.Goals as goal
 
 pub finish-requires-clause-seats : goal.finish-requires-clause-seats
-finish-requires-clause-seats g c =
+finish-requires-clause-seats g c κs within =
     let made = c.in-Ok-open_exchange.made in
     let start = greatest g.L.ExchangeName.earlier in
     let rest = c.pop.new.self.items in

@@ -1,16 +1,23 @@
-use Rattle.std.proofs.Common.{subst}
-use Rattle.std.specs.Io.KnownBytes.{Appends}
-use Rattle.byte_streams.specs.Writing.{IsCutShort}
-use Rattle.book_record.proofs.Streams.{flushes, tears}
+use Rattle.std.proofs.Common.{◌∙◌, List, ap, sym, subst}
+use Rattle.batch_book.specs.declared.entry.Entry.{Entry}
+use Rattle.batch_book.specs.History.{Starts}
+use Rattle.book_record.specs.Streams.{text_behind}
+use Rattle.batch_book.proofs.Fronts.{starts_same}
 use Rattle.book_record.proofs.streamed.StreamedHistory.flush.Goals as goal
 
-pub invariant_of-self : goal.invariant_of-self
-invariant_of-self g c =
-    flushes _ _ _ _ _ _ _ _ _ c.self.inside.buffer.items _ c.self.invariant c.if-not-self.false
-    (subst (Appends (g.W.Write.contents c.self.inside.writer) (g.W.Write.contents c.send.new.writer)) c.as_slice.ensures.value c.in-Ok.ensures.ok)
-    c.of.ensures c.clear.ensures.items
+pub append-sent-requires-clause-first : goal.append-sent-requires-clause-first
+append-sent-requires-clause-first g c =
+    let was = c.args.self.now in
+    let tried = was.all (sym c.is_whole.ensures.whole ∙ c.if-not-is_whole.false) in
+    subst (λ (x : List Entry × List Entry). Starts x.0 x.1) (λ i. (sym tried i, sym (ap (λ s. s.value) c.of-all.ensures ∙ c.past.ensures) i)) c.text.ensures.first
 
-pub invariant_of-self-in-Err : goal.invariant_of-self-in-Err
-invariant_of-self-in-Err g c =
-    tears _ _ _ _ _ _ _ c.self.inside.buffer.items c.self.invariant c.if-not-self.false
-    (subst (IsCutShort (g.W.Write.contents c.self.inside.writer) (g.W.Write.contents c.send.new.writer)) c.as_slice.ensures.value c.in-Err.ensures.err)
+pub append-sent-requires-clause-text : goal.append-sent-requires-clause-text
+append-sent-requires-clause-text g c =
+    let was = c.args.self.now in
+    let tried = was.all (sym c.is_whole.ensures.whole ∙ c.if-not-is_whole.false) in
+    c.text.ensures.text ∙ (λ i. text_behind (sym tried i) (sym (ap (λ s. s.value) c.of-all.ensures ∙ c.past.ensures) i))
+
+pub invariant_of-self-2 : goal.invariant_of-self-2
+invariant_of-self-2 g c =
+    let same = c.append-sent.ensures.tried ∙ ap (λ s. s.value) c.of-all.ensures ∙ c.past.ensures ∙ sym c.clear.ensures.handed in
+    record { first = starts_same _ _ same; all = λ _. same }

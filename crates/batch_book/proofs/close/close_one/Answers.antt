@@ -3,11 +3,11 @@ use Rattle.batch_book.specs.Recording.{made_in, told_in}
 use Rattle.batch_book.specs.Values.{greatest}
 use Rattle.batch_book.proofs.Fronts.{front}
 use Rattle.batch_book.proofs.Noting.{all_recorded, greatest_append}
-use Rattle.batch_book.proofs.shared.Shared.close.Goals as goal
+use Rattle.batch_book.proofs.close.close_one.Goals as goal
 
 pub returns : goal.returns
 returns g c =
-    let locked = c.into_parts-locked.result.0 in
+    let locked = c.args.locked in
     let e = c.gather-all.ensures in
     let all = c.gather-all.result in
     let earlier = g.L.ExchangeName.earlier in
@@ -27,7 +27,7 @@ returns g c =
       are = locked.kept;
       stand = rest.1 ∙ append_assoc earlier (told_in notes) rest.0;
       asked = e.asked;
-      told = all_recorded (told_in notes) rest.0 c.args.seats.items e.told;
+      told = all_recorded notes rest.0 c.args.seats.items e.told;
       counted = omega (arith, locked.counted, amount, e.amount);
       none_ahead = λ k d less. let seen = e.seen k d less in omega (arith, seen, later, read, e.raised, behind, kept);
       unstopped = locked.unstopped;

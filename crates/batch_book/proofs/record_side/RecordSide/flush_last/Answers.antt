@@ -1,0 +1,55 @@
+use Rattle.std.proofs.Common.{◌∙◌, ap, length, sym, subst, arith}
+use Rattle.batch_book.specs.History.{Starts}
+use Rattle.batch_book.proofs.Fronts.{starts_same, starts_then}
+use Rattle.batch_book.proofs.Sides.{goes_on}
+use Rattle.batch_book.proofs.record_side.RecordSide.flush_last.Goals as goal
+
+pub hand_over-all-requires-clause-none : goal.hand_over-all-requires-clause-none
+hand_over-all-requires-clause-none g c _ _ all = c.args.self.now.texts all all ∙ c.is_whole.ensures.none all
+
+pub append-requires-clause-first : goal.append-requires-clause-first
+append-requires-clause-first g c =
+    let was = c.args.self.now in
+    subst (λ l. Starts l c.hand_over-all.result.0.value.value) ((rw (sym c.take.ensures.value ∙ c.in-Some.is) at was.known) ∙ sym was.tried) c.hand_over-all.ensures.first
+
+pub append-requires-clause-text : goal.append-requires-clause-text
+append-requires-clause-text g c =
+    let was = c.args.self.now in
+    let all = c.hand_over-all.result.0.value.value in
+    c.as_slice.ensures.value ∙ c.hand_over-all.ensures.text ∙ ap (λ l. g.H.Waiting.WaitingEntries.texts l all) ((rw (sym c.take.ensures.value ∙ c.in-Some.is) at was.known) ∙ sym was.tried) ∙ was.texts _ all
+
+pub invariant_of-self-in-Ok : goal.invariant_of-self-in-Ok
+invariant_of-self-in-Ok g c =
+    let was = c.args.self.now in
+    let e = c.hand_over-all.ensures in
+    let taken = rw (sym c.take.ensures.value ∙ c.in-Some.is) at was.known in
+    record {
+      its = e.side;
+      known = e.taken;
+      tried = c.append.ensures.tried;
+      first = starts_same _ _ c.in-Ok.ensures.stands;
+      many = ap length c.in-Ok.ensures.stands ∙ e.count;
+      below = goes_on g.L.ExchangeName.earlier _ _ _ was.front _ _ was.first (subst (λ l. Starts l c.hand_over-all.result.0.value.value) taken e.first) was.many e.count e.place;
+      empty = c.clear.ensures.items;
+      loses = was.loses;
+      texts = was.texts;
+    }
+
+pub invariant_of-self-in-Err : goal.invariant_of-self-in-Err
+invariant_of-self-in-Err g c =
+    let was = c.args.self.now in
+    let e = c.hand_over-all.ensures in
+    let taken = rw (sym c.take.ensures.value ∙ c.in-Some.is) at was.known in
+    let same = c.in-Err.ensures.none in
+    let below = e.place in
+    record {
+      its = e.side;
+      known = e.taken;
+      tried = c.append.ensures.tried;
+      first = subst (λ l. Starts l c.hand_over-all.result.0.value.value) (sym same) (starts_then _ _ _ was.first (subst (λ l. Starts l c.hand_over-all.result.0.value.value) taken e.first));
+      many = ap length same ∙ was.many;
+      below = omega (arith, below);
+      empty = c.clear-in-Err.ensures.items;
+      loses = was.loses;
+      texts = was.texts;
+    }

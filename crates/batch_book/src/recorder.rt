@@ -1,0 +1,71 @@
+//! Where entries are written that wait.
+
+ghost use Rattle.std.specs.Prelude.{◌≡◌, [], true, false, ℕ, Bool, List, OnOk, OnErr};
+ghost use Rattle.batch_book.specs.declared.entry.Entry.{Entry};
+ghost use Rattle.batch_book.specs.History.{Starts};
+
+use crate::past::SeenEntries;
+use crate::unrecorded::Unrecorded;
+use std::snapshot::Snapshot;
+
+/// Where the entries of a book are written once they were taken over, many at a time. It has a lock
+/// of its own.
+pub trait Recorder {
+    /// The entries that stand there, in order.
+    ghost stands: { Self → List Entry };
+
+    /// Those that were taken over: some of the last ones may not stand there once a writing has failed.
+    ghost tried: { Self → List Entry };
+
+    /// Whether no writing has failed.
+    ghost whole: { Self → Bool };
+
+    /// Behind these entries, of all of those, the text of the others.
+    ghost texts: { List Entry → List Entry → List ℕ };
+
+    /// Whether no writing has failed.
+    fn is_whole(&self) -> bool
+        ensures whole { result ≡ whole self.now }
+        ensures none { (all : List Entry) → texts all all ≡ [] };
+
+    /// Writes the text of all of these entries that weren't taken over yet.
+    fn append(&mut self, all: &SeenEntries, text: &[u8]) -> Result<(), Unrecorded>
+        requires whole { whole self.old ≡ true }
+        requires first { Starts (tried self.old) all.now.value.value }
+        requires text { text.now ≡ texts (tried self.old) all.now.value.value }
+        ensures tried { tried self.new ≡ all.now.value.value }
+        ensures stands { OnOk result (stands self.new ≡ all.now.value.value) }
+        ensures whole { OnOk result (whole self.new ≡ true) }
+        ensures none { OnErr result (stands self.new ≡ stands self.old) }
+        ensures lost { OnErr result (whole self.new ≡ false) };
+}
+
+/// What is in a recorder's place where a history writes all itself. It writes nothing.
+#[derive(Drop)]
+pub struct NoRecorder {
+    stands: Snapshot<SeenEntries>,
+    tried: Snapshot<SeenEntries>,
+    is_whole: bool,
+}
+
+impl Recorder for NoRecorder {
+    ghost use Rattle.std.specs.Prelude.{[]};
+
+    ghost stands = { λ r. r.stands.value.value.value };
+
+    ghost tried = { λ r. r.tried.value.value.value };
+
+    ghost whole = { λ r. r.is_whole };
+
+    ghost texts = { λ _ _. [] };
+
+    fn is_whole(&self) -> bool {
+        self.is_whole
+    }
+
+    fn append(&mut self, all: &SeenEntries, _text: &[u8]) -> Result<(), Unrecorded> {
+        self.tried = Snapshot::of(all);
+        self.is_whole = false;
+        Err(Unrecorded)
+    }
+}

@@ -1,0 +1,222 @@
+//! Where entries wait that the record's side takes over.
+
+ghost use Rattle.std.specs.Prelude.{◌≡◌, ◌+◌, ◌++◌, ◌∷◌, ◌≤◌, ◌<◌, [], true, List, length};
+ghost use Rattle.batch_book.specs.declared.entry.Entry.{Entry};
+ghost use Rattle.batch_book.specs.declared.limits.TheConstants.{BOOK_SIDE, RECORD_SIDE};
+ghost use Rattle.batch_book.specs.History.{Starts};
+ghost use Rattle.batch_book.specs.Places.{are_placed, last_place, notes_of, AreToldUpTo};
+ghost use Rattle.batch_book.specs.Recording.{made_in, note, told_in};
+ghost use Rattle.batch_book.specs.Replies.{is_logged};
+ghost use Rattle.batch_book.specs.Sides.{side_lists, stood_in, taken_in};
+
+use crate::book::Book;
+use crate::call::Call;
+use crate::history::History;
+use crate::lent::Lent;
+use crate::limits::{BOOK_SIDE, RECORD_SIDE};
+use crate::locked::mark;
+use crate::naming::ExchangeName;
+use crate::noted::NotedEntry;
+use crate::past::{PastEntries, SeenEntries};
+use crate::reply::Reply;
+use crate::seat::Place;
+use crate::waiting_entries::WaitingEntries;
+use own_lists::{Keeper, OwnList};
+use std::marker::PhantomData;
+use std::mem;
+use std::snapshot::Snapshot;
+use std::sync::ledger;
+use std::sync::ledger::Share;
+
+/// Where entries wait, under a lock of its own that is held for a moment only: the text of those
+/// that were handed on and weren't taken over yet, how many were handed on, the ledger's total, and
+/// the keeper of the lists.
+///
+/// Each entry has the next place. The book's side has noted all entries, and those that were handed
+/// on; the record's side those that were taken over. What could be told to a session are its first
+/// entries up to the place that the record's side noted last.
+#[derive(Drop)]
+pub struct Waiting<L: ExchangeName, H: History> {
+    pub text: Vec<u8>,
+    pub count: u64,
+    // Whether a writing has failed. Then no call is made any more.
+    pub lost: bool,
+    pub handed: Snapshot<PastEntries>,
+    pub entries: ledger::Book<L>,
+    pub keeper: Keeper<NotedEntry, L>,
+    pub of: PhantomData<H>,
+    pub ghost counted: { length (made_in keeper.history) ≡ entries.total },
+    pub ghost placed: { are_placed 0 keeper.history ≡ true },
+    pub ghost known: { side_lists L.earlier (notes_of BOOK_SIDE keeper.history)
+        ≡ (L.earlier ++ made_in keeper.history, handed.value) },
+    pub ghost first: { Starts handed.value (L.earlier ++ made_in keeper.history) },
+    pub ghost many: { length handed.value ≡ length L.earlier + count },
+    pub ghost taken: { Starts (taken_in L.earlier keeper.history) handed.value },
+    pub ghost waits: { text.items
+        ≡ H.Waiting.texts (taken_in L.earlier keeper.history) handed.value },
+    pub ghost told: { AreToldUpTo (stood_in keeper.history) keeper.history },
+}
+
+impl<L: ExchangeName, H: History> Waiting<L, H> {
+    /// A writing has failed.
+    pub fn lose(&mut self) {
+        self.lost = true;
+    }
+
+    /// Notes a call whose entry has this place, and takes in what the book's side hands on. Where
+    /// there is no memory for that it waits at the book.
+    pub fn enter(
+        &mut self,
+        book: &mut Book<Lent<H::Waiting>>,
+        place: u64,
+        share: &mut Share<L>,
+        lists: (OwnList<NotedEntry, L>, OwnList<NotedEntry, L>),
+        session: usize,
+        call: Snapshot<Call>,
+        reply: &Reply,
+    ) -> (OwnList<NotedEntry, L>, OwnList<NotedEntry, L>)
+        requires session { lists.0.session ≡ session }
+        requires side { lists.1.session ≡ BOOK_SIDE }
+        requires logged { is_logged reply.now ≡ true }
+        requires parts { 0 < share.old.parts }
+        requires grown { book.old.history ≡ (side_lists L.earlier lists.1.list).0
+            ++ made_in (note session place call.value reply.now ∷ []) }
+        requires stands { book.old.stands ≡ (side_lists L.earlier lists.1.list).1 }
+        requires place { length book.old.history ≡ length L.earlier + place }
+        ensures history { book.new.history ≡ book.old.history }
+        ensures opening { book.new.opening ≡ book.old.opening }
+        ensures session { result.0.session ≡ session }
+        ensures list { result.0.list ≡ lists.0.list
+            ++ note session place call.value reply.now ∷ [] }
+        ensures side { result.1.session ≡ BOOK_SIDE }
+        ensures lists { side_lists L.earlier result.1.list
+            ≡ (book.new.history, book.new.stands) }
+        ensures amount { share.new.amount ≡ share.old.amount + 1 }
+        ensures parts { share.new.parts ≡ share.old.parts }
+    {
+        let (own, its) = lists;
+        let its = self.keeper.compare(its);
+        self.entries.add(share, 1);
+        let own = self
+            .keeper
+            .add(own, &NotedEntry::of(session, place, call, reply));
+        take_in::<L, H::Waiting>(
+            book,
+            place,
+            &mut self.text,
+            &mut self.handed,
+            &mut self.count,
+        );
+        let all = Snapshot::of(&book.past());
+        let note = NotedEntry::side(BOOK_SIDE, 0, &all, &Snapshot::of(&self.handed));
+        let its = self.keeper.add(its, &note);
+        (own, its)
+    }
+
+    /// Hands all that waits over to the record's side, where entries stand up to this place: all
+    /// entries that were handed on, and how many. Their text changes places with the spare one.
+    pub fn hand_over(
+        &mut self,
+        own: OwnList<NotedEntry, L>,
+        front: u64,
+        spare: &mut Vec<u8>,
+    ) -> (SeenEntries, u64, OwnList<NotedEntry, L>)
+        requires side { own.session ≡ RECORD_SIDE }
+        requires below { last_place 0 own.list ≤ front }
+        requires spare { spare.old.items ≡ [] }
+        requires none { (all : List Entry) → H.Waiting.texts all all ≡ [] }
+        ensures first { Starts (side_lists L.earlier own.list).0 result.0.value.value }
+        ensures text { spare.new.items
+            ≡ H.Waiting.texts (side_lists L.earlier own.list).0 result.0.value.value }
+        ensures count { length result.0.value.value ≡ length L.earlier + result.1 }
+        ensures side { result.2.session ≡ RECORD_SIDE }
+        ensures taken { (side_lists L.earlier result.2.list).0 ≡ result.0.value.value }
+        ensures place { last_place 0 result.2.list ≡ front }
+        ensures handed { (result.0.value.value ≡ self.new.handed.value)
+            × (self.new.handed.value ≡ self.old.handed.value) }
+    {
+        let own = self.keeper.compare(own);
+        let all = Snapshot::of(&self.handed);
+        let own = self
+            .keeper
+            .add(own, &NotedEntry::side(RECORD_SIDE, front, &all, &all));
+        mem::swap(&mut self.text, spare);
+        (all, self.count, own)
+    }
+
+    /// Notes that all which a session has asked can be told. It stands where it belongs, since the
+    /// record's side knows that all does up to this place.
+    pub fn mark(
+        &mut self,
+        own: OwnList<NotedEntry, L>,
+        taken: &SeenEntries,
+        front: u64,
+        session: usize,
+        place: Place<L>,
+    ) -> (OwnList<NotedEntry, L>, Place<L>)
+        requires side { own.session ≡ RECORD_SIDE }
+        requires taken { (side_lists L.earlier own.list).0 ≡ taken.now.value.value }
+        requires below { last_place 0 own.list ≤ front }
+        requires covered { place.last ≤ front }
+        requires session { place.own.session ≡ session }
+        ensures side { result.0.session ≡ RECORD_SIDE }
+        ensures taken { (side_lists L.earlier result.0.list).0 ≡ taken.now.value.value }
+        ensures place { last_place 0 result.0.list ≡ front }
+        ensures access { result.1.access ≡ place.access }
+        ensures made { made_in result.1.own.list ≡ made_in place.own.list }
+        ensures told { told_in result.1.own.list ≡ made_in place.own.list }
+        ensures session { result.1.own.session ≡ session }
+        ensures broken { result.1.broken ≡ place.broken }
+    {
+        let own = self.keeper.compare(own);
+        let note = NotedEntry::side(RECORD_SIDE, front, taken, taken);
+        let own = self.keeper.add(own, &note);
+        let Place {
+            access,
+            own: its,
+            last,
+            waits,
+            broken,
+        } = place;
+        let its = self.keeper.compare(its);
+        let place = Place {
+            access,
+            own: its,
+            last,
+            waits,
+            broken,
+        };
+        (own, mark(&mut self.keeper, session, place))
+    }
+}
+
+// Takes in what the book's side hands on, where there is memory for it.
+fn take_in<L: ExchangeName, E: WaitingEntries>(
+    book: &mut Book<Lent<E>>,
+    place: u64,
+    text: &mut Vec<u8>,
+    handed: &mut Snapshot<PastEntries>,
+    count: &mut u64,
+)
+    requires handed { handed.old.value ≡ book.old.stands }
+    requires first { Starts book.old.stands book.old.history }
+    requires place { length book.old.history ≡ length L.earlier + place }
+    requires many { length book.old.stands ≡ length L.earlier + count.old }
+    ensures history { book.new.history ≡ book.old.history }
+    ensures opening { book.new.opening ≡ book.old.opening }
+    ensures handed { handed.new.value ≡ book.new.stands }
+    ensures more { Starts book.old.stands book.new.stands }
+    ensures first { Starts book.new.stands book.new.history }
+    ensures many { length book.new.stands ≡ length L.earlier + count.new }
+    ensures text { (taken : List Entry) → Starts taken book.old.stands
+        → text.old.items ≡ E.texts taken book.old.stands
+        → text.new.items ≡ E.texts taken book.new.stands }
+{
+    match book.hand_on(text) {
+        Ok(()) => {
+            *handed = book.past();
+            *count = place;
+        }
+        Err(_) => {}
+    }
+}

@@ -1,0 +1,139 @@
+//! The texts of entries that wait until they are written.
+
+ghost use Rattle.std.specs.Prelude.{◌≡◌, ◌++◌, [], OnOk, OnErr};
+ghost use Rattle.batch_book.specs.History.{Starts};
+ghost use Rattle.book_record.specs.Streams.{text_behind};
+
+use crate::{id_of, push_asked, push_logged};
+use batch_book::{Call, Entry, PastEntries, WaitingEntries};
+use client_session::reply_line::ReplyLine;
+use line_words::Line;
+use std::alloc::{AllocError, Global};
+use std::marker::Model;
+use std::mem;
+use std::snapshot::Snapshot;
+
+/// Entries, of which those that weren't handed on yet are there as a text. It keeps no entry.
+#[derive(Drop)]
+pub struct WaitingText {
+    // The text of the entries that wait, and that of the one that is drafted, but for the line of
+    // the reply.
+    buffer: Vec<u8>,
+    // How many bytes of it are of those that wait.
+    waits: usize,
+    // Where lines are put together.
+    asked: Line,
+    reply: ReplyLine,
+    // All entries, and those that were handed on: contracts alone see them.
+    past: PastEntries,
+    handed: Snapshot<PastEntries>,
+}
+
+impl Model for WaitingText {
+    ghost use Rattle.std.specs.Prelude.{◌≡◌, ◌≤◌, ◌-◌, length, take, drop, vec_capacity, vec_len};
+    ghost use Rattle.batch_book.specs.History.{Starts};
+    ghost use Rattle.book_record.specs.Streams.{WaitingState, text_behind};
+
+    ghost Value = { WaitingState };
+
+    ghost view = { λ s. record {
+      all = s.past;
+      handed = s.handed.value;
+      text = drop s.waits s.buffer.items;
+      room = vec_capacity s.buffer - vec_len s.buffer;
+    } };
+
+    ghost invariant = { λ s. (Starts s.handed.value s.past
+        × (take s.waits s.buffer.items ≡ text_behind s.handed.value s.past))
+        × (s.waits ≤ length s.buffer.items) };
+}
+
+impl WaitingText {
+    /// None of these entries waits.
+    pub(crate) fn behind(alloc: Global, past: PastEntries) -> WaitingText
+        ensures all { result.all ≡ past }
+        ensures handed { result.handed ≡ past }
+    {
+        let handed = Snapshot::of(&past);
+        WaitingText {
+            buffer: Vec::new(alloc),
+            waits: 0,
+            asked: Line::new(),
+            reply: ReplyLine::new(),
+            past,
+            handed,
+        }
+    }
+
+    /// The text of those that wait. Those that were handed on are the first of all.
+    pub(crate) fn text(&self) -> &[u8]
+        ensures text { result.now ≡ text_behind self.now.handed self.now.all }
+        ensures first { Starts self.now.handed self.now.all }
+    {
+        &self.buffer[..self.waits]
+    }
+
+    /// None of them waits any more.
+    pub(crate) fn clear(&mut self)
+        ensures all { self.new.all ≡ self.old.all }
+        ensures handed { self.new.handed ≡ self.old.all }
+    {
+        self.buffer.clear();
+        self.waits = 0;
+        self.handed = Snapshot::of(&self.past);
+    }
+}
+
+/// Moves the text of a buffer behind this one. Where there is no memory for it nothing changes; if
+/// this one is empty, none is taken.
+fn move_text(buffer: &mut Vec<u8>, text: &mut Vec<u8>) -> Result<(), AllocError>
+    ensures all { OnOk result (text.new.items ≡ text.old.items ++ buffer.old.items) }
+    ensures none { OnOk result (buffer.new.items ≡ []) }
+    ensures same { OnErr result (text.new.items ≡ text.old.items) }
+    ensures kept { OnErr result (buffer.new.items ≡ buffer.old.items) }
+{
+    if text.is_empty() {
+        mem::swap(text, buffer);
+        return Ok(());
+    }
+    text.extend_from_slice(buffer.as_slice())?;
+    buffer.clear();
+    Ok(())
+}
+
+impl WaitingEntries for WaitingText {
+    ghost use Rattle.book_record.specs.Streams.{IsDrafted, text_behind};
+
+    ghost pushed = { λ s. s.all };
+
+    ghost handed = { λ s. s.handed };
+
+    ghost drafted = { IsDrafted };
+
+    ghost texts = { text_behind };
+
+    fn draft(&mut self, session: usize, call: &Call) -> Result<(), AllocError> {
+        self.buffer.truncate(self.waits);
+        push_asked(&mut self.buffer, &mut self.asked, session, call)?;
+        Ok(())
+    }
+
+    fn push(&mut self, entry: Entry) {
+        self.past.add(&entry);
+        let id = id_of(entry.call.told());
+        push_logged(&mut self.buffer, &mut self.reply, id, &entry.reply).unwrap();
+        self.waits = self.buffer.len();
+    }
+
+    fn past(&self) -> Snapshot<PastEntries> {
+        Snapshot::of(&self.past)
+    }
+
+    fn hand_on(&mut self, text: &mut Vec<u8>) -> Result<(), AllocError> {
+        self.buffer.truncate(self.waits);
+        move_text(&mut self.buffer, text)?;
+        self.waits = 0;
+        self.handed = Snapshot::of(&self.past);
+        Ok(())
+    }
+}

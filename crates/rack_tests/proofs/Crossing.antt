@@ -1,0 +1,20 @@
+-- Entries that wait may go to another thread. In parts, since a search through all that they hold runs out of steps.
+use Rattle.std.proofs.Common.{rules}
+use Rattle.std.proofs.Crossing.{crosses}
+use Rattle.line_words.proofs.line.Line.TheSendSync as line
+use Rattle.client_session.proofs.reply_line.ReplyLine.TheSendSync as reply_line
+use Rattle.batch_book.specs.contracts.past.PastEntries as PastEntries
+use Rattle.book_record.specs.contracts.waiting_text.WaitingText as WaitingText
+use Rattle.book_record.specs.contracts.waiting_text.WaitingText.TheInside as Inside
+use denote.Param.Send.{IsSend, view_send, recorded_send, struct_send, sendable}
+use denote.Struct.Declared.{shape}
+
+past_send : IsSend PastEntries.the_row
+past_send = search rules
+
+pub waiting_send : IsSend WaitingText.the_row
+waiting_send =
+    let T = Inside.the_type in
+    view_send Inside.the_row _ _ _ _
+    (recorded_send Inside.the_field.row _ _ T.to_one
+    (struct_send (shape T) (search (crosses, sendable) depth 20, (search sendable depth 20, (line.the_send, (reply_line.the_send, (past_send, (search sendable depth 20, tt))))))))

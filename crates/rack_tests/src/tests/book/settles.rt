@@ -1,0 +1,391 @@
+//! Seats of an exchange whose history lends its recorder: who writes what waits, and when.
+
+ghost use Rattle.batch_book.specs.Naming.{IsNamed};
+ghost use Rattle.std.specs.Prelude.{◌≡◌, [], Some};
+ghost use Rattle.progress_word.specs.declared.limits.TheConstants.{ALL_PARTS};
+
+use super::readings::{HeldLines, Hold, TURNS};
+use crate::tests::common::{marked, with_wires};
+use crate::tests::office::{Ask, FIRST, PUSH, Said, answer};
+use batch_book::{Book, ExchangeBlank, ExchangeName, History, Reading, Seat, Shared, Silent};
+use book_record::{Streamed, stream_on};
+use crossbar::MemoryPort;
+use peek_poke::WireMaker;
+use schedule_certificate::OpenGate;
+use std::alloc::Global;
+use std::io;
+use std::io::Write;
+use std::marker::Brand;
+use std::sync::Wait;
+use std::sync::atomic::{AtomicUsize, Ordering};
+use std::thread::{Threads, join, yield_now};
+
+/// A writer that counts how often it is given something, and takes it, but for one time.
+#[derive(Drop)]
+struct Counted<'a> {
+    writes: &'a AtomicUsize,
+    fails_behind: Option<usize>,
+}
+
+impl Write for Counted<'_> {
+    fn write(&mut self, buf: &[u8]) -> io::Result<usize> {
+        if self.fails_behind == Some(self.writes.fetch_add(1, Ordering::SeqCst)) {
+            return Err(io::ErrorKind::Other.into());
+        }
+        Ok(buf.len())
+    }
+
+    fn flush(&mut self) -> io::Result<()> {
+        Ok(())
+    }
+}
+
+/// What a seat does: the first one, 0, or the second one, 1.
+#[derive(Clone, Copy)]
+enum Step {
+    /// It peeks a word.
+    Peek(usize),
+    /// It is settled.
+    Settle(usize),
+}
+
+use Step::{Peek, Settle};
+
+/// What two seats do, whether each step goes well, and how often the writer was given something by
+/// then; and how often once the exchange is closed. Behind so many times the writer fails, once.
+#[derive(Clone, Copy)]
+struct Row {
+    name: &'static str,
+    fails_behind: Option<usize>,
+    steps: &'static [(Step, bool, usize)],
+    closed: usize,
+}
+
+const ROWS: [Row; 5] = [
+    Row {
+        name: "one seat writes for all",
+        fails_behind: None,
+        steps: &[
+            (Peek(0), true, 0),
+            (Peek(1), true, 0),
+            (Peek(0), true, 0),
+            (Settle(1), true, 1),
+            (Settle(0), true, 1),
+        ],
+        closed: 1,
+    },
+    Row {
+        name: "a seat whose entries stand there writes none of others",
+        fails_behind: None,
+        steps: &[
+            (Peek(0), true, 0),
+            (Peek(1), true, 0),
+            (Settle(1), true, 1),
+            (Peek(1), true, 1),
+            (Settle(0), true, 1),
+            (Settle(1), true, 2),
+        ],
+        closed: 2,
+    },
+    Row {
+        name: "closing writes what waits, at once",
+        fails_behind: None,
+        steps: &[
+            (Settle(0), true, 0),
+            (Peek(0), true, 0),
+            (Peek(1), true, 0),
+            (Peek(0), true, 0),
+        ],
+        closed: 1,
+    },
+    Row {
+        name: "a writing fails",
+        fails_behind: Some(1),
+        steps: &[
+            (Peek(0), true, 0),
+            (Peek(1), true, 0),
+            (Settle(1), true, 1),
+            (Peek(1), true, 1),
+            (Settle(1), false, 2),
+            (Settle(0), true, 2),
+            (Peek(0), false, 2),
+            (Peek(1), false, 2),
+            (Settle(1), false, 2),
+        ],
+        closed: 2,
+    },
+    Row {
+        name: "the first writing fails",
+        fails_behind: Some(0),
+        steps: &[
+            (Peek(0), true, 0),
+            (Peek(1), true, 0),
+            (Settle(0), false, 1),
+            (Settle(1), false, 1),
+            (Settle(0), false, 1),
+        ],
+        closed: 1,
+    },
+];
+
+/// What is tested of an exchange.
+#[derive(Clone, Copy)]
+enum Case {
+    /// This is so.
+    Row(Row),
+    /// A seat is settled while a run of another one is held.
+    BesideRun,
+}
+
+/// The exchange of the tests.
+type Exchange<L, W, H> = Shared<L, MemoryPort, W, OpenGate, H>;
+
+/// An exchange, and its two seats.
+#[derive(Drop)]
+struct Two<L: ExchangeName, W: WireMaker, H: History> {
+    shared: Exchange<L, W, H>,
+    first: Seat<L>,
+    second: Seat<L>,
+    ghost of_first: { first.exchange ≡ Some shared.word },
+    ghost of_second: { second.exchange ≡ Some shared.word },
+}
+
+/// An exchange over this book, with two seats.
+fn open<L: ExchangeName, W: WireMaker + Drop, H: History + Drop>(
+    alloc: Global,
+    blank: ExchangeBlank,
+    book: Book<H>,
+    wires: W,
+) -> Option<Two<L, W, H>>
+    requires named { IsNamed L.name L.parts L.table L.opening L.earlier blank book }
+    requires empty { book.history ≡ [] }
+{
+    let made = Exchange::<L, W, H>::of_book(alloc, blank, book, with_wires(wires), 2);
+    let Ok((shared, mut seats)) = made else {
+        return None;
+    };
+    prove!(seats.len() == 2);
+    let second = seats.remove(1);
+    let first = seats.remove(0);
+    Some(Two {
+        shared,
+        first,
+        second,
+    })
+}
+
+/// Whether the exchange is closed with both seats.
+fn is_closed<L: ExchangeName, W: WireMaker + Drop, H: History + Drop>(
+    alloc: Global,
+    two: Two<L, W, H>,
+) -> bool
+where
+    H::Recorder: Drop,
+    H::Waiting: Drop,
+    requires { L.parts ≡ ALL_PARTS }
+{
+    let Two {
+        shared,
+        first,
+        second,
+    } = two;
+    match Vec::from_array(alloc, [first, second]) {
+        Ok(seats) => shared.close(seats).is_ok(),
+        Err(_) => false,
+    }
+}
+
+/// Whether a step of a seat goes well.
+fn goes_well<
+    L: ExchangeName,
+    W: WireMaker + Sync,
+    H: History,
+    R: AllocGlobal + Threads + Wait + Sync,
+>(rt: &R, shared: &Exchange<L, W, H>, seat: &mut Seat<L>, step: Step) -> bool
+    requires { seat.old.exchange ≡ Some shared.now.word }
+    ensures { seat.new.exchange ≡ seat.old.exchange }
+{
+    match step {
+        Peek(_) => answer(rt, shared, seat, Ask::Peek(0, FIRST)) == Said::Word(0),
+        Settle(_) => shared.settle(rt, seat).is_ok(),
+    }
+}
+
+impl<L: ExchangeName, W: WireMaker + Sync, H: History> Two<L, W, H> {
+    /// Whether all steps of a row go as it says.
+    fn go_so<R: AllocGlobal + Threads + Wait + Sync>(
+        &mut self,
+        rt: &R,
+        row: &Row,
+        writes: &AtomicUsize,
+    ) -> bool {
+        for (step, is_well, count) in row.steps {
+            let well = match *step {
+                Peek(0) | Settle(0) => goes_well(rt, &self.shared, &mut self.first, *step),
+                _ => goes_well(rt, &self.shared, &mut self.second, *step),
+            };
+            if well != *is_well || writes.load(Ordering::SeqCst) != *count {
+                return false;
+            }
+        }
+        true
+    }
+}
+
+/// Whether a row is so of a new exchange.
+fn is_so<
+    L: ExchangeName,
+    W: WireMaker + Sync + Drop,
+    H: History + Drop,
+    R: AllocGlobal + Threads + Wait + Sync,
+>(rt: &R, two: Two<L, W, H>, row: &Row, writes: &AtomicUsize) -> bool
+where
+    H::Recorder: Drop,
+    H::Waiting: Drop,
+    requires { L.parts ≡ ALL_PARTS }
+{
+    let mut two = two;
+    two.go_so(rt, row, writes)
+        && is_closed(rt.alloc(), two)
+        && writes.load(Ordering::SeqCst) == row.closed
+}
+
+/// Whether the seat's batch is run, and the seat is settled then.
+fn is_run<L: ExchangeName, W: WireMaker + Sync, H: History, R: AllocGlobal + Threads + Wait + Sync>(
+    rt: &R,
+    shared: &Exchange<L, W, H>,
+    seat: Seat<L>,
+) -> bool
+    requires { seat.exchange ≡ Some shared.now.word }
+{
+    let mut seat = seat;
+    let said = answer(rt, shared, &mut seat, Ask::Run(1));
+    said == Said::Ran(1, 1, 1) && shared.settle(rt, &mut seat).is_ok()
+}
+
+/// Whether a seat is settled once the run has begun, by the first writing. Then the run goes on.
+fn is_settled_in_run<L: ExchangeName, W: WireMaker + Sync, H: History, R: Threads + Wait + Sync>(
+    rt: &R,
+    shared: &Exchange<L, W, H>,
+    seat: Seat<L>,
+    hold: &Hold,
+    writes: &AtomicUsize,
+) -> bool
+    requires { seat.exchange ≡ Some shared.now.word }
+{
+    let mut seat = seat;
+    for _ in 0..TURNS {
+        if shared.progress(&mut seat) == (Reading { run: 1, done: 0 }) {
+            let is_settled = shared.settle(rt, &mut seat).is_ok();
+            let is_first = writes.load(Ordering::SeqCst) == 1;
+            hold.seen.store(true, Ordering::SeqCst);
+            return is_settled && is_first;
+        }
+        yield_now();
+    }
+    false
+}
+
+/// The first seat hands its batch in, and the second one peeks a word. Then the one runs its batch,
+/// and the other is settled while the run is held. Whether all goes well, by two writings.
+fn is_settled_beside<
+    L: ExchangeName + Send + Sync,
+    W: WireMaker + Send + Sync + Drop,
+    H: History + Send + Drop,
+    R: AllocGlobal + Threads + Wait + Sync,
+>(rt: &R, two: Two<L, W, H>, hold: &Hold, writes: &AtomicUsize) -> bool
+where
+    H::Recorder: Drop,
+    H::Waiting: Drop,
+{
+    let Two {
+        shared,
+        mut first,
+        mut second,
+    } = two;
+    answer(rt, &shared, &mut first, Ask::Submit(PUSH));
+    answer(rt, &shared, &mut first, Ask::Settle(1, PUSH));
+    answer(rt, &shared, &mut second, Ask::Peek(0, FIRST));
+    let lent = &shared;
+    let (is_run, is_settled) = join(
+        rt,
+        move || -> bool
+            requires { first.exchange ≡ Some lent.now.word }
+        { is_run(rt, lent, first) },
+        move || -> bool
+            requires { second.exchange ≡ Some lent.now.word }
+        { is_settled_in_run(rt, lent, second, hold, writes) },
+    );
+    is_run && is_settled && hold.is_kept() && writes.load(Ordering::SeqCst) == 2
+}
+
+/// Whether a case is so of a new exchange over this book.
+fn holds<L: ExchangeName + Send + Sync, R: AllocGlobal + Threads + Wait + Sync>(
+    rt: &R,
+    blank: ExchangeBlank,
+    book: Book<Streamed<Counted<'_>, Brand>>,
+    case: Case,
+    writes: &AtomicUsize,
+) -> bool
+    requires named { IsNamed L.name L.parts L.table L.opening L.earlier blank book }
+    requires empty { book.history ≡ [] }
+{
+    let hold = Hold::new();
+    let lines = HeldLines {
+        hold: &hold,
+        transfer: 0,
+    };
+    let opened = open::<L, HeldLines<'_>, Streamed<Counted<'_>, Brand>>(
+        rt.alloc(),
+        blank,
+        book,
+        lines,
+    );
+    match (opened, case) {
+        (Some(two), Case::Row(row)) => is_so(rt, two, &row, writes),
+        (Some(two), Case::BesideRun) => is_settled_beside(rt, two, &hold, writes),
+        (None, _) => false,
+    }
+}
+
+/// Whether a case is so on a marked rack of two modules of one word, whose first word is 0, where
+/// the writer fails behind so many times.
+fn holds_of<R: AllocGlobal + Threads + Wait + Sync>(
+    rt: &R,
+    case: Case,
+    fails_behind: Option<usize>,
+) -> bool {
+    let alloc = rt.alloc();
+    let Some(rack) = marked(alloc, "2x1x1") else {
+        return false;
+    };
+    let Ok(book) = Book::with(alloc, rack, Silent::new()) else {
+        return false;
+    };
+    let Ok(blank) = ExchangeBlank::new(alloc) else {
+        return false;
+    };
+    let writes = AtomicUsize::new(0);
+    let writer = Counted {
+        writes: &writes,
+        fails_behind,
+    };
+    let book = stream_on::<Counted<'_>, Brand>(alloc, book, writer);
+    holds::<Brand, R>(rt, blank, book, case, &writes)
+}
+
+#[test]
+fn what_waits_is_written_at_once(rt: HostRuntime) {
+    for row in &ROWS {
+        assert!(rt;
+            holds_of(&rt, Case::Row(*row), row.fails_behind),
+            "{}",
+            row.name
+        );
+    }
+}
+
+#[test]
+fn a_seat_is_settled_while_a_run_is_held(rt: HostRuntime) {
+    assert!(rt; holds_of(&rt, Case::BesideRun, None));
+}
