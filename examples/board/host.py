@@ -4,7 +4,7 @@
     host.py CABLE BATCH [OPTION]..
 
 The options are those of `drive`: --steady, --schedule FILE, --wiring FILE, --from K. With --pause it waits for the return key before the
-modules hear of a setting. CABLE is a device, or the two named pipes CABLE.in, to the board, and CABLE.out, from it. Over the cable the number
+modules hear of a setting, unless its input has ended. CABLE is a device, or the two named pipes CABLE.in, to the board, and CABLE.out, from it. Over the cable the number
 of its way goes before each byte: 0 the switch, 1 the modules, 2 switch B.
 The modules are told the number of each setting in two bytes, the lower one first, and give it back once all of them are done. Before the
 first setting they are told -2, and after the last one -1. docs/BOARD.md says more. The program is the one that EXCHANGE names, or
@@ -25,7 +25,7 @@ import threading
 
 SWITCH, MODULES, SWITCH_B = 0, 1, 2
 END, WAIT = -1, -2
-PAUSE = "--pause"
+PAUSE, GO_ON = "--pause", "--go-on"
 PROGRAM = os.path.abspath(os.environ.get("EXCHANGE") or shutil.which("exchange") or "exchange")
 
 
@@ -138,6 +138,10 @@ def ways(batch):
 def main():
     if len(sys.argv) < 3 or sys.argv[1].startswith("-"):
         sys.exit(__doc__.split("\n\n")[1].strip())
+    if GO_ON in sys.argv:
+        sys.exit("host.py: by --go-on drive would set the next setting before the modules have moved the blocks of this one")
+    if not shutil.which(PROGRAM):
+        sys.exit(f"host.py: there is no program {PROGRAM}")
     options = [word for word in sys.argv[2:] if word != PAUSE]
     cable = Cable(sys.argv[1])
     cable.find_modules()
@@ -163,6 +167,8 @@ if __name__ == "__main__":
     signal.signal(signal.SIGTERM, lambda *_: sys.exit(128 + signal.SIGTERM))
     try:
         main()
+    except BrokenPipeError:
+        sys.exit("host.py: the cable has ended, or drive has")
     except OSError as error:
         sys.exit(f"host.py: {error}")
     except KeyboardInterrupt:

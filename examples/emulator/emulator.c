@@ -34,6 +34,12 @@ static void end(const char *why)
     exit(EXIT_FAILURE);
 }
 
+/* So that no folder is left. */
+static void ended(int by)
+{
+    exit(128 + by);
+}
+
 /* A call that is given a batch and a schedule. */
 typedef uint8_t answer(const uint8_t *, size_t, const uint8_t *, size_t, uint8_t *, size_t, size_t *);
 
@@ -196,7 +202,11 @@ static int be_driven(const char *program, const char *plan, const char *orders)
     int go_on, lines, status, setting;
 
     char *path = realpath(program, NULL);
-    must(path != NULL && mkdtemp(folder) != NULL && chdir(folder) == 0 && atexit(clean) == 0);
+    if (path == NULL)
+        end("there is no such program");
+    must(mkdtemp(folder) != NULL && chdir(folder) == 0 && atexit(clean) == 0);
+    signal(SIGINT, ended);
+    signal(SIGTERM, ended);
     keep("batch", batch);
     keep("schedule", plan);
     pid_t drive = start_drive(path, &go_on, &lines);

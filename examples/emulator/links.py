@@ -11,6 +11,8 @@ import contextlib
 import os
 import queue
 import select
+import shutil
+import signal
 import subprocess
 import sys
 import tempfile
@@ -70,6 +72,8 @@ def set_here():
 
 def set_by(program):
     """Has `drive` set the switch: the number of each setting that it reports. The blocks have moved once the next number is asked for."""
+    if not shutil.which(program):
+        sys.exit(f"there is no program {program}")
     with tempfile.TemporaryDirectory() as folder:
         files = {name: Path(folder, name) for name in ("batch", "schedule", "board", "board.in", "board.out")}
         files["batch"].write_text(batch)
@@ -79,6 +83,8 @@ def set_by(program):
         words = [program, "drive", files["batch"], files["board"], "--schedule", files["schedule"]]
         # Without a buffer no line is hidden from `select`, and no line feed is kept back.
         with subprocess.Popen(words, stdin=subprocess.PIPE, stdout=subprocess.PIPE, bufsize=0) as drive:
+            # So that it ends too, and no folder is left.
+            signal.signal(signal.SIGTERM, lambda *_: (drive.kill(), sys.exit(128 + signal.SIGTERM)))
             # Opened to read and to write, neither waits for `drive`, which opens none where it is refused.
             sent, replies = os.open(files["board.in"], os.O_RDWR), os.open(files["board.out"], os.O_RDWR)
             while True:

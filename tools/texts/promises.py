@@ -118,7 +118,7 @@ def main():
     seen, made, others = rests_on(start, told, names, handed)
     all_of = (
         f"rest on {sum(seen.values()):,} lines in {len(seen)} definitions. Of these lines "
-        f"{sum(grammar.values())} say which arguments ask for which job. They cite {len(made)} names "
+        f"{sum(grammar.values())} say which arguments ask for which job. All cite {len(made)} names "
         f"that are made from code, and {len(others)} of the toolchain's libraries."
     )
     print(f"promises: all {all_of}")
