@@ -1,5 +1,7 @@
 -- An exchange may be shared, and a seat may go to another thread. In parts, since a search through all that they hold runs out of steps.
+use Rattle.std.proofs.Common.{rules}
 use Rattle.std.proofs.Crossing.{crosses}
+use Rattle.std.proofs.sync.Condvar.TheSendSync as condvar
 use Rattle.std.proofs.sync.Mutex.TheSendSync as mutex
 use Rattle.std.proofs.sync.ledger.Book.TheSendSync as total
 use Rattle.std.specs.declared.sync.ledger.Ledger as Ledger
@@ -63,7 +65,7 @@ kept_send : IsSend Kept.the_row
 kept_send = let e = entry_send in search (crosses, sendable) depth 60 fits 20000
 
 none_wait_send : IsSend NoneWait.the_row
-none_wait_send = let e = entry_send in search (crosses, sendable) depth 60 fits 20000
+none_wait_send = search rules
 
 no_recorder_send : IsSend NoRecorder.the_row
 no_recorder_send = search sendable depth 20
@@ -95,14 +97,14 @@ module _ (L : RattleType) (n : ExchangeName.Ghosts L.Denot) (h : HistoryName.Gho
     waiting_send =
         let T = Waiting.the_type L H E Q n h t e q l in
         recorded_send (Waiting.the_field L H E Q n h t e q l).row _ _ T.to_one
-        (struct_send (shape T) (search (crosses, sendable) depth 40, (search sendable depth 20, (search sendable depth 20, (search (crosses, sendable) depth 40, (total.the_send L l, (keeper_send, (search (crosses, sendable) depth 20, tt))))))))
+        (struct_send (shape T) (search (crosses, sendable) depth 40, (search sendable depth 20, (search sendable depth 20, (search sendable depth 20, (search sendable depth 20, (search (crosses, sendable) depth 40, (total.the_send L l, (keeper_send, (search (crosses, sendable) depth 20, tt))))))))))
 
     record_send : IsSend Q → IsSend (RecordSide.the_row L H E Q n l h t e q)
     record_send s =
         let T = RecordSide.the_type L H E Q n l h t e q in
         let o = noted_list_send in
         recorded_send (RecordSide.the_field L H E Q n l h t e q).row _ _ T.to_one
-        (struct_send (shape T) (s, (search sendable depth 20, (search (crosses, sendable) depth 40, (search (crosses, sendable) depth 40, (search (crosses, sendable) depth 40, tt))))))
+        (struct_send (shape T) (s, (search (crosses, sendable) depth 40, (search (crosses, sendable) depth 40, (search (crosses, sendable) depth 40, tt)))))
 
   module _ (P W G H I E Q : RattleType) (p : ConfigPort.Ghosts P.Denot) (w : WireMaker.Ghosts W.Denot I.Denot) (i : Wire.Ghosts I.Denot) (t : History.Ghosts H.Denot E.Denot Q.Denot) (e : WaitingEntries.Ghosts E.Denot) (q : Recorder.Ghosts Q.Denot) where
     locked_send : IsSend P → IsSend W → IsSend G → IsSend H → IsSend (Locked.the_row L P W G H I E Q n h p w i t e q l)
@@ -126,7 +128,7 @@ module _ (L : RattleType) (n : ExchangeName.Ghosts L.Denot) (h : HistoryName.Gho
           (
             (
               mutex.the_sync (BookSide.the_row L P W G H I E Q n l h p w i t e q) (book_side_send sp sw sg se),
-              (mutex.the_sync (Waiting.the_row L H E Q n h t e q l) (waiting_send H E Q t e q), (mutex.the_sync (RecordSide.the_row L H E Q n l h t e q) (record_send H E Q t e q sq), tt)),
+              (mutex.the_sync (Waiting.the_row L H E Q n h t e q l) (waiting_send H E Q t e q), (condvar.the_field_sync, (mutex.the_sync (RecordSide.the_row L H E Q n l h t e q) (record_send H E Q t e q sq), tt))),
             ),
             tt,
           ),

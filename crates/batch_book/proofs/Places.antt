@@ -7,7 +7,8 @@ use Rattle.batch_book.specs.declared.call.Call.{Call}
 use Rattle.batch_book.specs.declared.entry.Entry.{Entry}
 use Rattle.batch_book.specs.declared.reply.Reply.{Reply}
 use Rattle.batch_book.specs.declared.unrecorded.Unrecorded.{Unrecorded}
-use Rattle.batch_book.specs.Recording.{Noted, entry_of, is_none, made_by, made_in, note, noted}
+use Rattle.std.specs.Prelude.{is_none}
+use Rattle.batch_book.specs.Recording.{Noted, entry_of, made_by, made_in, note, noted}
 use Rattle.batch_book.specs.Replies.{is_logged}
 use Rattle.batch_book.specs.Seats.{own}
 use Rattle.batch_book.specs.Places.{are_placed, are_up_to, last_lists, last_place, lists_or, notes_of, notes_to}

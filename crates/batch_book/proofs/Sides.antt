@@ -6,7 +6,8 @@ use Rattle.batch_book.specs.declared.entry.Entry.{Entry}
 use Rattle.batch_book.specs.declared.limits.TheConstants.{BOOK_SIDE, RECORD_SIDE}
 use Rattle.batch_book.specs.declared.reply.Reply.{Reply}
 use Rattle.batch_book.specs.History.{Starts, entry}
-use Rattle.batch_book.specs.Recording.{Noted, is_none, made_by, made_in, mark, marks, note, side_note, told_in}
+use Rattle.std.specs.Prelude.{is_none}
+use Rattle.batch_book.specs.Recording.{Noted, made_by, made_in, mark, marks, note, side_note, told_in}
 use Rattle.batch_book.specs.Seats.{own}
 use Rattle.batch_book.specs.Places.{AreToldUpTo, are_placed, are_up_to, last_lists, last_place, lists_or, notes_of, notes_to}
 use Rattle.batch_book.specs.Sides.{side_lists, stood_in, taken_in}
@@ -121,18 +122,19 @@ two_made h new m n grown none =
     ∙ made_append h (m ∷ []) ∙ ap (λ (l : List Entry). made_in h ++ l) (append-nil (made_by m))
 
 -- what is known where entries wait
-pub record IsKnown (texts : List Entry → List Entry → List ℕ) (earlier : List Entry) (h : List Noted) (handed : List Entry) (count : ℕ) (text : List ℕ) : Type 0 where
+pub record IsKnown (texts : List Entry → List Entry → List ℕ) (earlier : List Entry) (h : List Noted) (handed : List Entry) (count upto : ℕ) (text : List ℕ) : Type 0 where
   pub placed : are_placed 0 h ≡ true
   pub known : side_lists earlier (notes_of BOOK_SIDE h) ≡ (earlier ++ made_in h, handed)
   pub first : Starts handed (earlier ++ made_in h)
   pub many : length handed ≡ length earlier + count
   pub taken : Starts (taken_in earlier h) handed
   pub waits : text ≡ texts (taken_in earlier h) handed
-  pub told : AreToldUpTo (stood_in h) h
+  pub stood : stood_in h ≡ upto
+  pub told : AreToldUpTo upto h
 
 module _ (texts : List Entry → List Entry → List ℕ) (earlier : List Entry) where
   -- no call was made yet
-  pub none_known : (h : List Noted) (handed : List Entry) (text : List ℕ) → h ≡ [] → handed ≡ earlier → text ≡ texts earlier handed → IsKnown texts earlier h handed 0 text
+  pub none_known : (h : List Noted) (handed : List Entry) (text : List ℕ) → h ≡ [] → handed ≡ earlier → text ≡ texts earlier handed → IsKnown texts earlier h handed 0 0 text
   none_known h handed text none all same =
       let whole : earlier ++ made_in h ≡ earlier = ap (λ (l : List Noted). earlier ++ made_in l) none ∙ append-nil earlier in
       let taken : taken_in earlier h ≡ earlier = ap (taken_in earlier) none in
@@ -144,16 +146,17 @@ module _ (texts : List Entry → List Entry → List ℕ) (earlier : List Entry)
         many = omega (arith, longer);
         taken = starts_same _ _ (taken ∙ sym all);
         waits = same ∙ ap (λ (l : List Entry). texts l handed) (sym taken);
-        told = subst (λ (l : List Noted). AreToldUpTo (stood_in l) l) (sym none) (λ s. refl);
+        stood = ap stood_in none;
+        told = subst (λ (l : List Noted). AreToldUpTo 0 l) (sym none) (λ s. refl);
       }
 
   -- a call, with the place behind all; what is handed on is what was, or all there is
-  pub called : (h new : List Noted) (session place : ℕ) (c : Call) (r : Reply) (handed more all : List Entry) (count counts : ℕ) (text now : List ℕ)
-      → IsKnown texts earlier h handed count text → new ≡ (h ++ note session place c r ∷ []) ++ side_note BOOK_SIDE 0 all more ∷ []
+  pub called : (h new : List Noted) (session place : ℕ) (c : Call) (r : Reply) (handed more all : List Entry) (count counts upto : ℕ) (text now : List ℕ)
+      → IsKnown texts earlier h handed count upto text → new ≡ (h ++ note session place c r ∷ []) ++ side_note BOOK_SIDE 0 all more ∷ []
       → all ≡ (earlier ++ made_in h) ++ entry session c r ∷ [] → length all ≡ length earlier + place
       → Starts handed more → Starts more all → length more ≡ length earlier + counts → now ≡ texts (taken_in earlier h) more
-      → IsKnown texts earlier new more counts now
-  called h new session place c r handed more all count counts text now k grown is at starts_more first many text_is =
+      → IsKnown texts earlier new more counts upto now
+  called h new session place c r handed more all count counts upto text now k grown is at starts_more first many text_is =
       let m = note session place c r in
       let n = side_note BOOK_SIDE 0 all more in
       let h1 = h ++ m ∷ [] in
@@ -171,18 +174,18 @@ module _ (texts : List Entry → List Entry → List ℕ) (earlier : List Entry)
         many = many;
         taken = subst (λ (l : List Entry). Starts l more) (sym taken) (starts_then (taken_in earlier h) handed more k.taken starts_more);
         waits = text_is ∙ ap (λ (l : List Entry). texts l more) (sym taken);
-        told = subst (λ (x : ℕ × List Noted). AreToldUpTo x.0 x.1) (λ i. (sym stood i, sym grown i)) (told_plainly (stood_in h) h1 n refl (told_plainly (stood_in h) h m refl k.told));
+        stood = stood ∙ k.stood;
+        told = subst (AreToldUpTo upto) (sym grown) (told_plainly upto h1 n refl (told_plainly upto h m refl k.told));
       }
 
   -- all that waits is taken over
-  pub handed_over : (h new : List Noted) (place : ℕ) (handed : List Entry) (count : ℕ) (text now : List ℕ)
-      → IsKnown texts earlier h handed count text → new ≡ h ++ side_note RECORD_SIDE place handed handed ∷ [] → stood_in h ≤ place → now ≡ texts handed handed
-      → IsKnown texts earlier new handed count now
-  handed_over h new place handed count text now k grown le text_is =
-      let m = side_note RECORD_SIDE place handed handed in
-      let made : made_in new ≡ made_in h = ap made_in grown ∙ made_append h (m ∷ []) ∙ append-nil (made_in h) in
+  pub handed_over : (h new : List Noted) (handed : List Entry) (count upto : ℕ) (text now : List ℕ)
+      → IsKnown texts earlier h handed count upto text → new ≡ h ++ side_note RECORD_SIDE upto handed handed ∷ [] → now ≡ texts handed handed
+      → IsKnown texts earlier new handed count upto now
+  handed_over h new handed count upto text now k grown text_is =
+      let m = side_note RECORD_SIDE upto handed handed in
+      let made : made_in new ≡ made_in h = made_side h new m grown refl in
       let taken : taken_in earlier new ≡ handed = ap (λ (l : List Noted). (side_lists earlier (notes_of RECORD_SIDE l)).0) grown ∙ ap (λ (x : List Entry × List Entry). x.0) (own_lists_last (earlier, earlier) RECORD_SIDE h m (handed, handed) refl refl) in
-      let stood : stood_in new ≡ place = ap stood_in grown ∙ place_last RECORD_SIDE h m (handed, handed) refl refl in
       record {
         placed = ap (are_placed 0) grown ∙ placed_none 0 h m refl ∙ k.placed;
         known = ap (λ (l : List Noted). side_lists earlier (notes_of BOOK_SIDE l)) grown ∙ lists_else (earlier, earlier) BOOK_SIDE h m refl ∙ k.known ∙ ap (λ (l : List Entry). (earlier ++ l, handed)) (sym made);
@@ -190,34 +193,49 @@ module _ (texts : List Entry → List Entry → List ℕ) (earlier : List Entry)
         many = k.many;
         taken = starts_same _ _ taken;
         waits = text_is ∙ ap (λ (l : List Entry). texts l handed) (sym taken);
-        told = subst (λ (x : ℕ × List Noted). AreToldUpTo x.0 x.1) (λ i. (sym stood i, sym grown i)) (told_further (stood_in h) place (h ++ m ∷ []) le (told_plainly (stood_in h) h m refl k.told));
+        stood = ap stood_in grown ∙ place_last RECORD_SIDE h m (handed, handed) refl refl;
+        told = subst (AreToldUpTo upto) (sym grown) (told_plainly upto h m refl k.told);
       }
 
-  -- all that a session has asked can be told, since its last entry isn't behind this place
-  pub marked : (h new list : List Noted) (session last upto : ℕ) (handed taken : List Entry) (count : ℕ) (text : List ℕ)
-      → IsKnown texts earlier h handed count text → new ≡ (h ++ side_note RECORD_SIDE upto taken taken ∷ []) ++ mark session ∷ []
-      → taken_in earlier h ≡ taken → stood_in h ≤ upto → list ≡ notes_of session (h ++ side_note RECORD_SIDE upto taken taken ∷ []) → are_up_to last list ≡ true → last ≤ upto
-      → IsKnown texts earlier new handed count text
-  marked h new list session last upto handed taken count text k grown same le its low covered =
-      let m = side_note RECORD_SIDE upto taken taken in
-      let n = mark session in
-      let h1 = h ++ m ∷ [] in
-      let made1 : made_in h1 ≡ made_in h = made_append h (m ∷ []) ∙ append-nil (made_in h) in
-      let made : made_in new ≡ made_in h = ap made_in grown ∙ made_append h1 (n ∷ []) ∙ append-nil (made_in h1) ∙ made1 in
+  -- the record's side has written
+  pub standing_to : (h new : List Noted) (handed taken : List Entry) (count upto front : ℕ) (text : List ℕ)
+      → IsKnown texts earlier h handed count upto text → new ≡ h ++ side_note RECORD_SIDE front taken taken ∷ [] → taken_in earlier h ≡ taken → upto ≤ front
+      → IsKnown texts earlier new handed count front text
+  standing_to h new handed taken count upto front text k grown same le =
+      let m = side_note RECORD_SIDE front taken taken in
+      let made : made_in new ≡ made_in h = made_side h new m grown refl in
       let now : taken_in earlier new ≡ taken_in earlier h =
-      ap (λ (l : List Noted). (side_lists earlier (notes_of RECORD_SIDE l)).0) grown
-      ∙ ap (λ (x : List Entry × List Entry). x.0) (lists_plain (earlier, earlier) RECORD_SIDE h1 n refl ∙ own_lists_last (earlier, earlier) RECORD_SIDE h m (taken, taken) refl refl) ∙ sym same in
-      let stood : stood_in new ≡ upto = ap stood_in grown ∙ place_plain RECORD_SIDE h1 n refl ∙ place_last RECORD_SIDE h m (taken, taken) refl refl in
-      let placed1 : are_placed 0 h1 ≡ true = placed_none 0 h m refl ∙ k.placed in
-      let mine : made_in (notes_of session h1) ≡ own session (take upto (made_in h1)) = sym (ap made_in its) ∙ its_all session last upto h1 list its low covered placed1 in
+      ap (λ (l : List Noted). (side_lists earlier (notes_of RECORD_SIDE l)).0) grown ∙ ap (λ (x : List Entry × List Entry). x.0) (own_lists_last (earlier, earlier) RECORD_SIDE h m (taken, taken) refl refl) ∙ sym same in
       record {
-        placed = ap (are_placed 0) grown ∙ placed_none 0 h1 n refl ∙ placed1;
-        known = ap (λ (l : List Noted). side_lists earlier (notes_of BOOK_SIDE l)) grown ∙ lists_plain (earlier, earlier) BOOK_SIDE h1 n refl ∙ lists_else (earlier, earlier) BOOK_SIDE h m refl ∙ k.known ∙ ap (λ (l : List Entry). (earlier ++ l, handed)) (sym made);
+        placed = ap (are_placed 0) grown ∙ placed_none 0 h m refl ∙ k.placed;
+        known = ap (λ (l : List Noted). side_lists earlier (notes_of BOOK_SIDE l)) grown ∙ lists_else (earlier, earlier) BOOK_SIDE h m refl ∙ k.known ∙ ap (λ (l : List Entry). (earlier ++ l, handed)) (sym made);
         first = subst (λ (l : List Entry). Starts handed (earlier ++ l)) (sym made) k.first;
         many = k.many;
         taken = subst (λ (l : List Entry). Starts l handed) (sym now) k.taken;
         waits = k.waits ∙ ap (λ (l : List Entry). texts l handed) (sym now);
-        told = subst (λ (x : ℕ × List Noted). AreToldUpTo x.0 x.1) (λ i. (sym stood i, sym grown i)) (told_marked upto session h1 mine (told_further (stood_in h) upto h1 le (told_plainly (stood_in h) h m refl k.told)));
+        stood = ap stood_in grown ∙ place_last RECORD_SIDE h m (taken, taken) refl refl;
+        told = subst (AreToldUpTo front) (sym grown) (told_further upto front (h ++ m ∷ []) le (told_plainly upto h m refl k.told));
+      }
+
+  -- all that a session has asked can be told, since its last entry isn't behind this place
+  pub marked : (h new list : List Noted) (session last upto : ℕ) (handed : List Entry) (count : ℕ) (text : List ℕ)
+      → IsKnown texts earlier h handed count upto text → new ≡ h ++ mark session ∷ [] → list ≡ notes_of session h → are_up_to last list ≡ true → last ≤ upto
+      → IsKnown texts earlier new handed count upto text
+  marked h new list session last upto handed count text k grown its low covered =
+      let n = mark session in
+      let made : made_in new ≡ made_in h = made_side h new n grown refl in
+      let now : taken_in earlier new ≡ taken_in earlier h =
+      ap (λ (l : List Noted). (side_lists earlier (notes_of RECORD_SIDE l)).0) grown ∙ ap (λ (x : List Entry × List Entry). x.0) (lists_plain (earlier, earlier) RECORD_SIDE h n refl) in
+      let mine : made_in (notes_of session h) ≡ own session (take upto (made_in h)) = sym (ap made_in its) ∙ its_all session last upto h list its low covered k.placed in
+      record {
+        placed = ap (are_placed 0) grown ∙ placed_none 0 h n refl ∙ k.placed;
+        known = ap (λ (l : List Noted). side_lists earlier (notes_of BOOK_SIDE l)) grown ∙ lists_plain (earlier, earlier) BOOK_SIDE h n refl ∙ k.known ∙ ap (λ (l : List Entry). (earlier ++ l, handed)) (sym made);
+        first = subst (λ (l : List Entry). Starts handed (earlier ++ l)) (sym made) k.first;
+        many = k.many;
+        taken = subst (λ (l : List Entry). Starts l handed) (sym now) k.taken;
+        waits = k.waits ∙ ap (λ (l : List Entry). texts l handed) (sym now);
+        stood = ap stood_in grown ∙ place_plain RECORD_SIDE h n refl ∙ k.stood;
+        told = subst (AreToldUpTo upto) (sym grown) (told_marked upto session h mine k.told);
       }
 
 -- ---- the close

@@ -1,9 +1,9 @@
 -- The places of entries, where what waits and the record have locks of their own.
-use Rattle.std.specs.Prelude.{◌≡◌, ℕ, ◌+◌, Bool, true, ◌&&◌, if◌then◌else◌, nat_eq, nat_le, List, [], ◌∷◌, filter, take, Option, Some, None}
+use Rattle.std.specs.Prelude.{◌≡◌, ℕ, ◌+◌, Bool, true, ◌&&◌, if◌then◌else◌, nat_eq, nat_le, List, [], ◌∷◌, filter, take, Option, Some, None, is_none}
 use Rattle.own_lists.specs.Lists.{own_of}
 use Rattle.batch_book.specs.declared.entry.Entry.{Entry}
 use Rattle.batch_book.specs.History.{Starts}
-use Rattle.batch_book.specs.Recording.{Noted, is_none, made_in, told_in}
+use Rattle.batch_book.specs.Recording.{Noted, made_in, told_in}
 use Rattle.batch_book.specs.Seats.{SeatState, own}
 
 -- the notes of a session, or of a side

@@ -1,6 +1,6 @@
 -- What becomes of a call: its entry is made, and where that stands where it belongs the reply can be
 -- told.
-use Rattle.std.specs.Prelude.{◌≡◌, ℕ, ◌||◌, ◌&&◌, if◌then◌else◌, Bool, true, false, List, [], ◌∷◌, ◌++◌, Option, Some, None, Result, Ok, Err}
+use Rattle.std.specs.Prelude.{◌≡◌, ℕ, ◌||◌, ◌&&◌, if◌then◌else◌, Bool, true, false, List, [], ◌∷◌, ◌++◌, Option, Some, None, is_none, Result, Ok, Err}
 use Rattle.std.specs.List.{flat_map}
 use Rattle.batch_book.specs.declared.call.Call.{Call}
 use Rattle.batch_book.specs.declared.entry.Entry.{Entry}
@@ -67,10 +67,6 @@ made_by n = entry_of n.session n.made
 -- all entries that were made
 abbrev pub made_in : List Noted → List Entry
 made_in notes = flat_map made_by notes
-
-abbrev pub is_none : {A : Type 0} → Option A → Bool
-is_none None = true
-is_none (Some a) = false
 
 abbrev pub marks : Noted → Bool
 marks n = is_none n.made && is_none n.lists

@@ -68,6 +68,7 @@ impl<L: ExchangeName, P: ConfigPort, W: WireMaker, G, H: History> Shared<L, P, W
             Sides::Each {
                 book,
                 waiting,
+                written: _,
                 record,
             } => Ok(close_each(
                 book.into_inner(),
@@ -129,6 +130,8 @@ fn close_each<L: ExchangeName, P: ConfigPort, W: WireMaker, G, H: History>(
     let Waiting {
         text: _,
         count: _,
+        front: _,
+        writes: _,
         lost: _,
         handed: _,
         mut entries,
@@ -137,7 +140,6 @@ fn close_each<L: ExchangeName, P: ConfigPort, W: WireMaker, G, H: History>(
     } = waiting;
     let RecordSide {
         recorder,
-        front: _,
         taken: _,
         own: its,
         spare: _,

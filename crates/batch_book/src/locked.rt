@@ -3,7 +3,7 @@
 ghost use Rattle.std.specs.Prelude.{◌≡◌, ◌+◌, ◌++◌, [], ◌∷◌, length, true, false, Some, IsSome, IfOk, OnErr};
 ghost use Rattle.batch_book.specs.Answering.{IsReplyTo};
 ghost use Rattle.batch_book.specs.History.{AreUnstopped, Starts};
-ghost use Rattle.batch_book.specs.Recording.{Applies, Flushes, made_in, mark, told_in};
+ghost use Rattle.batch_book.specs.Recording.{Applies, Flushes, made_in, told_in};
 ghost use Rattle.batch_book.specs.Replies.{NeverFail};
 ghost use Rattle.batch_book.specs.Seats.{IsAsked, IsSettled, open_seat};
 
@@ -15,7 +15,7 @@ use crate::history::History;
 use crate::naming::ExchangeName;
 use crate::noted::{NotedEntry, note_call};
 use crate::reply::Reply;
-use crate::seat::{Place, Seat};
+use crate::seat::{Place, Seat, mark};
 use crate::unrecorded::Unrecorded;
 use crossbar::ConfigPort;
 use own_lists::Keeper;
@@ -201,36 +201,5 @@ impl<L: ExchangeName, P: ConfigPort, W: WireMaker + Sync, G: Gate + Sync, H: His
                 broken,
             },
         )
-    }
-}
-
-/// Notes that all that a session has asked can be told.
-pub(crate) fn mark<L: ExchangeName>(
-    keeper: &mut Keeper<NotedEntry, L>,
-    session: usize,
-    place: Place<L>,
-) -> Place<L>
-    requires session { place.own.session ≡ session }
-    ensures history { keeper.new.history ≡ keeper.old.history ++ mark session ∷ [] }
-    ensures access { result.access ≡ place.access }
-    ensures made { made_in result.own.list ≡ made_in place.own.list }
-    ensures told { told_in result.own.list ≡ made_in place.own.list }
-    ensures session { result.own.session ≡ session }
-    ensures broken { result.broken ≡ place.broken }
-{
-    let Place {
-        access,
-        own,
-        last,
-        waits: _,
-        broken,
-    } = place;
-    let own = keeper.add(own, &NotedEntry::mark(session));
-    Place {
-        access,
-        own,
-        last,
-        waits: false,
-        broken,
     }
 }

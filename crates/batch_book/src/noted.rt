@@ -101,7 +101,8 @@ pub(crate) fn note_call<L: ExchangeName>(
 ) -> OwnList<NotedEntry, L>
     requires session { own.session ≡ session }
     requires parts { 0 < share.old.parts }
-    ensures history { keeper.new.history ≡ keeper.old.history ++ noted session place call.value made.now }
+    ensures history { keeper.new.history
+        ≡ keeper.old.history ++ noted session place call.value made.now }
     ensures list { result.list ≡ own.list ++ noted session place call.value made.now }
     ensures session { result.session ≡ session }
     ensures total { entries.new.total

@@ -34,7 +34,7 @@ use setting_runner::Plant;
 use std::alloc::Global;
 use std::marker::PhantomData;
 use std::snapshot::Snapshot;
-use std::sync::{Mutex, ledger};
+use std::sync::{Condvar, Mutex, ledger};
 use thiserror::Error;
 
 /// Why an exchange can't be made. The causes are tested in this order.
@@ -237,15 +237,17 @@ fn part<L: ExchangeName, P: ConfigPort, W: WireMaker, G, H: History>(
         waiting: Mutex::new(Waiting {
             text: Vec::new(alloc),
             count: 0,
+            front: 0,
+            writes: false,
             lost: false,
             handed,
             entries,
             keeper,
             of: PhantomData,
         }),
+        written: Condvar::new(),
         record: Mutex::new(RecordSide {
             recorder,
-            front: 0,
             taken,
             own: Some(its),
             spare: Vec::new(alloc),

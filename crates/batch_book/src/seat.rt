@@ -1,8 +1,8 @@
 //! A session's seat at an exchange.
 
-ghost use Rattle.std.specs.Prelude.{◌≡◌, ◌≤◌, max, [], true, false, length, Some, IsSome};
+ghost use Rattle.std.specs.Prelude.{◌≡◌, ◌≤◌, ◌++◌, ◌∷◌, max, [], true, false, length, Some, IsSome};
 ghost use Rattle.batch_book.specs.Places.{are_up_to};
-ghost use Rattle.batch_book.specs.Recording.{made_in, told_in};
+ghost use Rattle.batch_book.specs.Recording.{made_in, mark, told_in};
 ghost use Rattle.progress_word.specs.declared.limits.TheConstants.{ALL_PARTS};
 ghost use Rattle.batch_book.specs.Values.{greatest};
 ghost use Rattle.batch_book.specs.Seats.{open_seat};
@@ -10,7 +10,7 @@ ghost use Rattle.batch_book.specs.Seats.{open_seat};
 use crate::access::ExchangeAccess;
 use crate::naming::ExchangeName;
 use crate::noted::NotedEntry;
-use own_lists::OwnList;
+use own_lists::{Keeper, OwnList};
 use progress_word::ALL_PARTS;
 use std::marker::Model;
 
@@ -52,6 +52,37 @@ impl<L: ExchangeName> Place<L> {
             waits,
             broken: true,
         }
+    }
+}
+
+/// Notes that all that a session has asked can be told.
+pub(crate) fn mark<L: ExchangeName>(
+    keeper: &mut Keeper<NotedEntry, L>,
+    session: usize,
+    place: Place<L>,
+) -> Place<L>
+    requires session { place.own.session ≡ session }
+    ensures history { keeper.new.history ≡ keeper.old.history ++ mark session ∷ [] }
+    ensures access { result.access ≡ place.access }
+    ensures made { made_in result.own.list ≡ made_in place.own.list }
+    ensures told { told_in result.own.list ≡ made_in place.own.list }
+    ensures session { result.own.session ≡ session }
+    ensures broken { result.broken ≡ place.broken }
+{
+    let Place {
+        access,
+        own,
+        last,
+        waits: _,
+        broken,
+    } = place;
+    let own = keeper.add(own, &NotedEntry::mark(session));
+    Place {
+        access,
+        own,
+        last,
+        waits: false,
+        broken,
     }
 }
 

@@ -13,7 +13,7 @@ use crate::limits::RUN_STEP;
 use crate::locked::Locked;
 use crate::naming::ExchangeName;
 use crate::reading::Reading;
-use crate::record_side::RecordSide;
+use crate::record_side::{RecordSide, settle};
 use crate::reply::Reply;
 use crate::seat::Seat;
 use crate::unrecorded::Unrecorded;
@@ -25,7 +25,7 @@ use progress_word::ProgressWord;
 use schedule_certificate::Gate;
 use std::hint::spin_loop;
 use std::marker::Model;
-use std::sync::{Mutex, MutexGuard, Wait};
+use std::sync::{Condvar, Mutex, MutexGuard, Wait};
 use std::thread;
 use std::thread::Threads;
 
@@ -84,12 +84,13 @@ pub struct Shared<L: ExchangeName, P: ConfigPort, W: WireMaker, G, H: History = 
 pub(crate) enum Sides<L: ExchangeName, P: ConfigPort, W: WireMaker, G, H: History> {
     /// All under one, where the history writes all itself.
     One(Mutex<Locked<L, P, W, G, H>>),
-    /// The book, what waits, and the record. Who has the book's lock or the record's may wait for
-    /// that of what waits. Nobody waits for one of those two who has the other, or that of what
-    /// waits.
+    /// The book, what waits, and the record; and what seats sleep at while another writes. Who has
+    /// the book's lock or the record's may wait for that of what waits. Nobody waits for one of those
+    /// two who has the other, or that of what waits.
     Each {
         book: Mutex<BookSide<L, P, W, G, H>>,
         waiting: Mutex<Waiting<L, H>>,
+        written: Condvar,
         record: Mutex<RecordSide<L, H>>,
     },
 }
@@ -186,11 +187,9 @@ impl<L: ExchangeName, P: ConfigPort, W: WireMaker + Sync, G: Gate + Sync, H: His
     {
         match &self.sides {
             Sides::One(locked) => take(rt, locked).call(rt, &self.word, seat, call),
-            Sides::Each {
-                book,
-                waiting,
-                record: _,
-            } => take(rt, book).call(rt, waiting, &self.word, seat, call),
+            Sides::Each { book, waiting, .. } => take(rt, book).call(
+                rt, waiting, &self.word, seat, call,
+            ),
         }
     }
 
@@ -213,9 +212,9 @@ impl<L: ExchangeName, P: ConfigPort, W: WireMaker + Sync, G: Gate + Sync, H: His
     /// takes no lock. Where an entry is lost, or the text that waits found no memory, no more can be
     /// told to the seat than before.
     ///
-    /// Where the history lends its recorder that has a lock of its own. Who has it writes, and others
-    /// make calls meanwhile, runs included; who waits for it sleeps, and then may find that its
-    /// entries stand there.
+    /// Where the history lends its recorder one seat writes at a time, and others make calls meanwhile,
+    /// runs included. Who settles meanwhile sleeps until that one has written, and then may find that
+    /// its entries stand there.
     pub fn settle<R: Wait>(&self, rt: &R, seat: &mut Seat<L>) -> Result<(), Unrecorded>
         requires { seat.old.exchange ≡ Some self.now.word }
         ensures settled { IsSettled seat.old result seat.new }
@@ -229,8 +228,9 @@ impl<L: ExchangeName, P: ConfigPort, W: WireMaker + Sync, G: Gate + Sync, H: His
             Sides::Each {
                 book: _,
                 waiting,
+                written,
                 record,
-            } => record.lock(rt).settle(rt, waiting, seat),
+            } => settle(rt, waiting, written, record, seat),
         }
     }
 }

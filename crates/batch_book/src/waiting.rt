@@ -1,6 +1,6 @@
 //! Where entries wait that the record's side takes over.
 
-ghost use Rattle.std.specs.Prelude.{◌≡◌, ◌+◌, ◌++◌, ◌∷◌, ◌≤◌, ◌<◌, [], true, List, length};
+ghost use Rattle.std.specs.Prelude.{◌≡◌, ◌+◌, ◌++◌, ◌∷◌, ◌≤◌, ◌<◌, ◌||◌, [], true, if◌then◌else◌, List, length, is_err};
 ghost use Rattle.batch_book.specs.declared.entry.Entry.{Entry};
 ghost use Rattle.batch_book.specs.declared.limits.TheConstants.{BOOK_SIDE, RECORD_SIDE};
 ghost use Rattle.batch_book.specs.History.{Starts};
@@ -14,12 +14,12 @@ use crate::call::Call;
 use crate::history::History;
 use crate::lent::Lent;
 use crate::limits::{BOOK_SIDE, RECORD_SIDE};
-use crate::locked::mark;
 use crate::naming::ExchangeName;
 use crate::noted::NotedEntry;
 use crate::past::{PastEntries, SeenEntries};
 use crate::reply::Reply;
-use crate::seat::Place;
+use crate::seat::{Place, mark};
+use crate::unrecorded::Unrecorded;
 use crate::waiting_entries::WaitingEntries;
 use own_lists::{Keeper, OwnList};
 use std::marker::PhantomData;
@@ -39,6 +39,10 @@ use std::sync::ledger::Share;
 pub struct Waiting<L: ExchangeName, H: History> {
     pub text: Vec<u8>,
     pub count: u64,
+    // Up to which place all entries stand where they belong.
+    pub front: u64,
+    // Whether a seat writes.
+    pub writes: bool,
     // Whether a writing has failed. Then no call is made any more.
     pub lost: bool,
     pub handed: Snapshot<PastEntries>,
@@ -54,13 +58,34 @@ pub struct Waiting<L: ExchangeName, H: History> {
     pub ghost taken: { Starts (taken_in L.earlier keeper.history) handed.value },
     pub ghost waits: { text.items
         ≡ H.Waiting.texts (taken_in L.earlier keeper.history) handed.value },
-    pub ghost told: { AreToldUpTo (stood_in keeper.history) keeper.history },
+    pub ghost stood: { stood_in keeper.history ≡ front },
+    pub ghost told: { AreToldUpTo front keeper.history },
+    pub ghost loses: { H.loses ≡ true },
 }
 
 impl<L: ExchangeName, H: History> Waiting<L, H> {
     /// A writing has failed.
     pub fn lose(&mut self) {
         self.lost = true;
+    }
+
+    /// Whether a seat writes, and entries up to this place may not stand yet.
+    pub fn is_behind(&self, place: u64) -> bool {
+        self.writes && self.front < place
+    }
+
+    /// Whether entries up to this place have to be written. Then the seat that asks writes them.
+    pub fn begin(&mut self, place: u64) -> bool {
+        if self.lost || place <= self.front {
+            return false;
+        }
+        self.writes = true;
+        true
+    }
+
+    /// A seat has written.
+    pub fn end(&mut self) {
+        self.writes = false;
     }
 
     /// Notes a call whose entry has this place, and takes in what the book's side hands on. Where
@@ -113,16 +138,14 @@ impl<L: ExchangeName, H: History> Waiting<L, H> {
         (own, its)
     }
 
-    /// Hands all that waits over to the record's side, where entries stand up to this place: all
-    /// entries that were handed on, and how many. Their text changes places with the spare one.
+    /// Hands all that waits over to the record's side: all entries that were handed on, and how many.
+    /// Their text changes places with the spare one.
     pub fn hand_over(
         &mut self,
         own: OwnList<NotedEntry, L>,
-        front: u64,
         spare: &mut Vec<u8>,
     ) -> (SeenEntries, u64, OwnList<NotedEntry, L>)
         requires side { own.session ≡ RECORD_SIDE }
-        requires below { last_place 0 own.list ≤ front }
         requires spare { spare.old.items ≡ [] }
         requires none { (all : List Entry) → H.Waiting.texts all all ≡ [] }
         ensures first { Starts (side_lists L.earlier own.list).0 result.0.value.value }
@@ -131,62 +154,85 @@ impl<L: ExchangeName, H: History> Waiting<L, H> {
         ensures count { length result.0.value.value ≡ length L.earlier + result.1 }
         ensures side { result.2.session ≡ RECORD_SIDE }
         ensures taken { (side_lists L.earlier result.2.list).0 ≡ result.0.value.value }
-        ensures place { last_place 0 result.2.list ≡ front }
+        ensures place { last_place 0 result.2.list ≡ last_place 0 own.list }
         ensures handed { (result.0.value.value ≡ self.new.handed.value)
             × (self.new.handed.value ≡ self.old.handed.value) }
     {
         let own = self.keeper.compare(own);
         let all = Snapshot::of(&self.handed);
-        let own = self
-            .keeper
-            .add(own, &NotedEntry::side(RECORD_SIDE, front, &all, &all));
+        let note = NotedEntry::side(RECORD_SIDE, self.front, &all, &all);
+        let own = self.keeper.add(own, &note);
         mem::swap(&mut self.text, spare);
         (all, self.count, own)
     }
 
-    /// Notes that all which a session has asked can be told. It stands where it belongs, since the
-    /// record's side knows that all does up to this place.
-    pub fn mark(
+    /// Notes up to which place all entries stand where they belong, of those that the record's side
+    /// has taken over.
+    pub fn stand(
         &mut self,
         own: OwnList<NotedEntry, L>,
         taken: &SeenEntries,
         front: u64,
-        session: usize,
-        place: Place<L>,
-    ) -> (OwnList<NotedEntry, L>, Place<L>)
+    ) -> OwnList<NotedEntry, L>
         requires side { own.session ≡ RECORD_SIDE }
         requires taken { (side_lists L.earlier own.list).0 ≡ taken.now.value.value }
         requires below { last_place 0 own.list ≤ front }
-        requires covered { place.last ≤ front }
-        requires session { place.own.session ≡ session }
-        ensures side { result.0.session ≡ RECORD_SIDE }
-        ensures taken { (side_lists L.earlier result.0.list).0 ≡ taken.now.value.value }
-        ensures place { last_place 0 result.0.list ≡ front }
-        ensures access { result.1.access ≡ place.access }
-        ensures made { made_in result.1.own.list ≡ made_in place.own.list }
-        ensures told { told_in result.1.own.list ≡ made_in place.own.list }
-        ensures session { result.1.own.session ≡ session }
-        ensures broken { result.1.broken ≡ place.broken }
+        ensures side { result.session ≡ RECORD_SIDE }
+        ensures taken { (side_lists L.earlier result.list).0 ≡ taken.now.value.value }
+        ensures place { last_place 0 result.list ≡ front }
+        ensures handed { self.new.handed.value ≡ self.old.handed.value }
     {
         let own = self.keeper.compare(own);
         let note = NotedEntry::side(RECORD_SIDE, front, taken, taken);
-        let own = self.keeper.add(own, &note);
+        self.front = front;
+        self.keeper.add(own, &note)
+    }
+
+    /// Notes that all which a session has asked can be told, if it stands where it belongs; else the
+    /// record of its calls is broken.
+    pub fn settle(&mut self, session: usize, place: Place<L>) -> (Result<(), Unrecorded>, Place<L>)
+        requires session { place.own.session ≡ session }
+        ensures access { result.1.access ≡ place.access }
+        ensures made { made_in result.1.own.list ≡ made_in place.own.list }
+        ensures told { told_in result.1.own.list
+            ≡ (if is_err result.0 then told_in place.own.list else made_in place.own.list) }
+        ensures session { result.1.own.session ≡ session }
+        ensures broken { result.1.broken ≡ is_err result.0 || place.broken }
+        ensures loses { H.loses ≡ true }
+    {
+        if self.front < place.last {
+            // It was lost, or there was no memory to hand it on.
+            return (Err(Unrecorded), place.break_off());
+        }
+        (Ok(()), self.mark(session, place))
+    }
+
+    // Notes that all which a session has asked can be told.
+    fn mark(&mut self, session: usize, place: Place<L>) -> Place<L>
+        requires session { place.own.session ≡ session }
+        requires covered { place.last ≤ self.old.front }
+        ensures access { result.access ≡ place.access }
+        ensures made { made_in result.own.list ≡ made_in place.own.list }
+        ensures told { told_in result.own.list ≡ made_in place.own.list }
+        ensures session { result.own.session ≡ session }
+        ensures broken { result.broken ≡ place.broken }
+    {
         let Place {
             access,
-            own: its,
+            own,
             last,
             waits,
             broken,
         } = place;
-        let its = self.keeper.compare(its);
+        let own = self.keeper.compare(own);
         let place = Place {
             access,
-            own: its,
+            own,
             last,
             waits,
             broken,
         };
-        (own, mark(&mut self.keeper, session, place))
+        mark(&mut self.keeper, session, place)
     }
 }
 

@@ -56,54 +56,34 @@ pub trait WaitingEntries {
         ensures same { OnErr result (text.new.items ≡ text.old.items) };
 }
 
-/// What is in its place where a history writes all itself. It has its entries in memory.
+/// What is in its place where a history writes all itself. Contracts alone see its entries.
+#[derive(Drop)]
 pub struct NoneWait {
-    entries: Vec<Entry>,
+    pushed: PastEntries,
     handed: Snapshot<PastEntries>,
 }
 
-// Said once, so that no function that lets go of one has to say it again.
-impl Drop for NoneWait {
-    fn drop(self) {
-        let NoneWait {
-            entries: _,
-            handed: _,
-        } = self;
-    }
-}
-
-// These entries, for contracts alone.
-fn passed(entries: &[Entry]) -> PastEntries
-    ensures { result ≡ entries.now }
-{
-    let mut past = PastEntries::none();
-    for entry in entries {
-        past.add(entry);
-    }
-    past
-}
-
 impl WaitingEntries for NoneWait {
-    ghost use Rattle.std.specs.Prelude.{◌<◌, [], vec_len, vec_capacity};
+    ghost use Rattle.std.specs.Prelude.{[]};
 
-    ghost pushed = { λ w. w.entries.items };
+    ghost pushed = { λ w. w.pushed };
 
     ghost handed = { λ w. w.handed.value };
 
-    ghost drafted = { λ w _ _. vec_len w.entries < vec_capacity w.entries };
+    ghost drafted = { λ _ _ _. Unit {0} };
 
     ghost texts = { λ _ _. [] };
 
     fn draft(&mut self, _session: usize, _call: &Call) -> Result<(), AllocError> {
-        self.entries.reserve(1)
+        Ok(())
     }
 
     fn push(&mut self, entry: Entry) {
-        self.entries.push(entry).unwrap();
+        self.pushed.add(&entry);
     }
 
     fn past(&self) -> Snapshot<PastEntries> {
-        Snapshot::of(&passed(self.entries.as_slice()))
+        Snapshot::of(&self.pushed)
     }
 
     fn hand_on(&mut self, _text: &mut Vec<u8>) -> Result<(), AllocError> {

@@ -1,14 +1,14 @@
-use Rattle.std.proofs.Common.{◌≡◌, ◌≤◌, ◌∙◌, All, List, ap, max, sym, subst, take, slice_index_or, arith}
+use Rattle.std.proofs.Common.{◌≡◌, ◌≤◌, ◌+◌, ◌∙◌, All, length, List, ap, max, sym, subst, take, slice_index_or, arith}
 use Rattle.batch_book.specs.declared.entry.Entry.{Entry}
 use Rattle.batch_book.specs.History.{AreUnstopped, Starts}
 use Rattle.batch_book.specs.Places.{last_place, notes_of}
 use Rattle.batch_book.specs.Recording.{made_in, told_in}
 use Rattle.batch_book.specs.Seats.{AskedAgrees, own}
-use Rattle.batch_book.specs.Sides.{side_lists, stood_in}
+use Rattle.batch_book.specs.Sides.{side_lists}
 use Rattle.batch_book.specs.Values.{greatest}
 use Rattle.batch_book.proofs.Fronts.{starts_then}
 use Rattle.batch_book.proofs.Noting.{greatest_append}
-use Rattle.batch_book.proofs.Sides.{standing, told_further}
+use Rattle.batch_book.proofs.Sides.{standing}
 use Rattle.batch_book.proofs.close.close_each.Goals as goal
 
 pub take_back-book-requires-clause-all : goal.take_back-book-requires-clause-all
@@ -56,7 +56,7 @@ returns g c =
     let handed = ap (λ x. x.1) known in
     let theirs = c.compare-2.ensures.list ∙ (λ i. notes_of ((rw c.in-Some-its.is at r.its) i) ((ap (λ k. k.history) c.compare.ensures.same.0) i)) in
     let taken = ap (λ l. (side_lists earlier l).0) (sym theirs) ∙ (rw c.in-Some-its.is at r.known) in
-    let below : stood_in notes ≤ r.front = subst (λ l. last_place 0 l ≤ r.front) theirs (rw c.in-Some-its.is at r.below) in
+    let upto : last_place 0 c.in-Some-its.its.list ≡ w.front = ap (last_place 0) theirs ∙ w.stood in
     let same = ap (λ k. k.history) (c.compare-2.ensures.same.0 ∙ c.compare.ensures.same.0) in
     let first = starts_then _ _ _ (subst (Starts _) (sym taken) r.first) (starts_then _ _ _ w.taken w.first) in
     let back = c.take_back-book.ensures in
@@ -68,18 +68,17 @@ returns g c =
     let most = ap greatest kept in
     let now = ap (λ a. greatest a.history) back in
     let raised = subst (λ h. all.watcher.raised ≤ max (greatest earlier) (greatest (made_in h))) same e.raised in
-    let told = told_further (stood_in notes) r.front notes below w.told in
     record {
       made = made_in notes;
-      standing = take r.front (made_in notes);
+      standing = take w.front (made_in notes);
       all_parts = e.total;
       opened = ap (λ a. a.opening) back ∙ b.opened;
       are = ap (λ a. a.history) back ∙ kept;
-      stand = ap (λ a. a.stands) back ∙ standing earlier (made_in notes) _ r.front first r.many;
+      stand = ap (λ a. a.stands) back ∙ standing earlier (made_in notes) _ w.front first ((rw c.in-Some-its.is at r.many) ∙ ap (λ k. length earlier + k) upto);
       asked = subst (λ h. All (AskedAgrees (made_in h)) c.args.seats.items) same e.asked;
       told = λ k d less.
           let s = slice_index_or c.args.seats.items k d in
-          subst (λ l. Starts l (own s.session (take r.front (made_in notes)))) (sym (e.told k d less ∙ ap (λ h. told_in (notes_of s.session h)) same)) (told s.session);
+          subst (λ l. Starts l (own s.session (take w.front (made_in notes)))) (sym (e.told k d less ∙ ap (λ h. told_in (notes_of s.session h)) same)) (w.told s.session);
       counted = omega (arith, w.counted, amount, e.amount);
       none_ahead = λ k d less. let seen = e.seen k d less in omega (arith, seen, later, read, raised, behind, most, now);
       unstopped = λ never. subst (λ a. AreUnstopped a.history) (sym back) (b.unstopped never);

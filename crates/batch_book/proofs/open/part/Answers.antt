@@ -55,5 +55,7 @@ invariant_of-new-3 g c =
       many = k.many;
       taken = k.taken;
       waits = k.waits;
+      stood = k.stood;
       told = k.told;
+      loses = lent.loses;
     }

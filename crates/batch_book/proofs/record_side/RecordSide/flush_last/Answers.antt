@@ -1,4 +1,4 @@
-use Rattle.std.proofs.Common.{◌∙◌, ap, length, sym, subst, arith}
+use Rattle.std.proofs.Common.{◌∙◌, ◌+◌, ap, length, sym, subst}
 use Rattle.batch_book.specs.History.{Starts}
 use Rattle.batch_book.proofs.Fronts.{starts_same, starts_then}
 use Rattle.batch_book.proofs.Sides.{goes_on}
@@ -18,20 +18,23 @@ append-requires-clause-text g c =
     let all = c.hand_over-all.result.0.value.value in
     c.as_slice.ensures.value ∙ c.hand_over-all.ensures.text ∙ ap (λ l. g.H.Waiting.WaitingEntries.texts l all) ((rw (sym c.take.ensures.value ∙ c.in-Some.is) at was.known) ∙ sym was.tried) ∙ was.texts _ all
 
+pub stand-own-requires-clause-below : goal.stand-own-requires-clause-below
+stand-own-requires-clause-below g c _ _ =
+    let was = c.args.self.now in
+    let e = c.hand_over-all.ensures in
+    goes_on g.L.ExchangeName.earlier _ _ _ _ _ _ was.first (subst (λ l. Starts l c.hand_over-all.result.0.value.value) (rw (sym c.take.ensures.value ∙ c.in-Some.is) at was.known) e.first) (rw (sym c.take.ensures.value ∙ c.in-Some.is) at was.many) e.count e.place
+
 pub invariant_of-self-in-Ok : goal.invariant_of-self-in-Ok
 invariant_of-self-in-Ok g c =
     let was = c.args.self.now in
-    let e = c.hand_over-all.ensures in
-    let taken = rw (sym c.take.ensures.value ∙ c.in-Some.is) at was.known in
+    let e = c.stand-own.ensures in
     record {
       its = e.side;
       known = e.taken;
       tried = c.append.ensures.tried;
       first = starts_same _ _ c.in-Ok.ensures.stands;
-      many = ap length c.in-Ok.ensures.stands ∙ e.count;
-      below = goes_on g.L.ExchangeName.earlier _ _ _ was.front _ _ was.first (subst (λ l. Starts l c.hand_over-all.result.0.value.value) taken e.first) was.many e.count e.place;
+      many = ap length c.in-Ok.ensures.stands ∙ c.hand_over-all.ensures.count ∙ ap (λ k. length g.L.ExchangeName.earlier + k) (sym e.place);
       empty = c.clear.ensures.items;
-      loses = was.loses;
       texts = was.texts;
     }
 
@@ -41,15 +44,12 @@ invariant_of-self-in-Err g c =
     let e = c.hand_over-all.ensures in
     let taken = rw (sym c.take.ensures.value ∙ c.in-Some.is) at was.known in
     let same = c.in-Err.ensures.none in
-    let below = e.place in
     record {
       its = e.side;
       known = e.taken;
       tried = c.append.ensures.tried;
       first = subst (λ l. Starts l c.hand_over-all.result.0.value.value) (sym same) (starts_then _ _ _ was.first (subst (λ l. Starts l c.hand_over-all.result.0.value.value) taken e.first));
-      many = ap length same ∙ was.many;
-      below = omega (arith, below);
+      many = ap length same ∙ (rw (sym c.take.ensures.value ∙ c.in-Some.is) at was.many) ∙ ap (λ k. length g.L.ExchangeName.earlier + k) (sym e.place);
       empty = c.clear-in-Err.ensures.items;
-      loses = was.loses;
       texts = was.texts;
     }

@@ -46,8 +46,8 @@ invariant_of-self g c =
     let side = c.side-note.ensures ∙ (λ i. side_note BOOK_SIDE 0 (seen i) ((ap (λ s. s.value) c.of-2.ensures ∙ e.handed) i)) in
     let grown = c.add-its.ensures.history ∙ (λ i. first i ++ side i ∷ []) in
     let all = c.requires.grown ∙ ap (λ l. l ++ entry c.args.session c.args.call.value c.args.reply.now ∷ []) (ap (λ x. x.0) known) in
-    let k = called g.H.Waiting.WaitingEntries.texts earlier h _ c.args.session c.args.place c.args.call.value c.args.reply.now was.handed.value now c.args.book.now.history was.count _ was.text.items _
-    record { placed = was.placed; known = was.known; first = was.first; many = was.many; taken = was.taken; waits = was.waits; told = was.told }
+    let k = called g.H.Waiting.WaitingEntries.texts earlier h _ c.args.session c.args.place c.args.call.value c.args.reply.now was.handed.value now c.args.book.now.history was.count _ was.front was.text.items _
+    record { placed = was.placed; known = was.known; first = was.first; many = was.many; taken = was.taken; waits = was.waits; stood = was.stood; told = was.told }
     grown all c.requires.place (subst (λ l. Starts l now) handed e.more) (subst (Starts now) e.history e.first) e.many
     (e.text (taken_in earlier h) (subst (Starts _) (sym handed) was.taken) (was.waits ∙ ap (λ l. g.H.Waiting.WaitingEntries.texts (taken_in earlier h) l) (sym handed))) in
     let more = ap length (two_made h _ m _ grown refl) ∙ length-append (made_in h) _ in
@@ -59,7 +59,9 @@ invariant_of-self g c =
       many = ap length e.handed ∙ k.many;
       taken = subst (Starts _) (sym e.handed) k.taken;
       waits = k.waits ∙ ap (λ l. g.H.Waiting.WaitingEntries.texts (taken_in earlier c.add-its.new.self.history) l) (sym e.handed);
+      stood = k.stood;
       told = k.told;
+      loses = was.loses;
     }
 
 pub returns-clause-lists : goal.returns-clause-lists

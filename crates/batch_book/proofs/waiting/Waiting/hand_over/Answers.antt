@@ -1,4 +1,4 @@
-use Rattle.std.proofs.Common.{◌≤◌, ◌∙◌, ◌++◌, ◌∷◌, [], ap, sym, subst, refl, length}
+use Rattle.std.proofs.Common.{◌∙◌, ◌++◌, ◌∷◌, [], ap, sym, subst, refl, length}
 use Rattle.batch_book.specs.declared.limits.TheConstants.{RECORD_SIDE}
 use Rattle.batch_book.specs.History.{Starts}
 use Rattle.batch_book.specs.Places.{last_place, notes_of}
@@ -12,14 +12,12 @@ invariant_of-self g c =
     let was = c.args.self.now in
     let h = was.keeper.history in
     let all = was.handed.value in
-    let n = side_note RECORD_SIDE c.args.front all all in
-    let side = c.side.ensures ∙ ap (λ s. side_note RECORD_SIDE c.args.front s.value s.value) c.of-all.ensures in
+    let n = side_note RECORD_SIDE was.front all all in
+    let side = c.side-note.ensures ∙ ap (λ s. side_note RECORD_SIDE was.front s.value s.value) c.of-all.ensures in
     let grown = c.add-own.ensures.history ∙ (λ i. (c.compare-own.ensures.same.0 i).history ++ side i ∷ []) in
-    let own = c.compare-own.ensures.list ∙ ap (λ s. notes_of s h) c.requires.side in
-    let below = subst (λ l. last_place 0 l ≤ c.args.front) own c.requires.below in
-    let k = handed_over g.H.Waiting.WaitingEntries.texts g.L.ExchangeName.earlier h _ c.args.front all was.count was.text.items _
-    record { placed = was.placed; known = was.known; first = was.first; many = was.many; taken = was.taken; waits = was.waits; told = was.told }
-    grown below (ap (λ v. v.items) c.swap.ensures.x_after ∙ c.requires.spare ∙ sym (c.requires.none all)) in
+    let k = handed_over g.H.Waiting.WaitingEntries.texts g.L.ExchangeName.earlier h _ all was.count was.front was.text.items _
+    record { placed = was.placed; known = was.known; first = was.first; many = was.many; taken = was.taken; waits = was.waits; stood = was.stood; told = was.told }
+    grown (ap (λ v. v.items) c.swap.ensures.x_after ∙ c.requires.spare ∙ sym (c.requires.none all)) in
     record {
       counted = ap length (made_side h _ n grown refl) ∙ was.counted;
       placed = k.placed;
@@ -28,7 +26,9 @@ invariant_of-self g c =
       many = k.many;
       taken = k.taken;
       waits = k.waits;
+      stood = k.stood;
       told = k.told;
+      loses = was.loses;
     }
 
 pub returns-clause-first : goal.returns-clause-first
@@ -51,17 +51,20 @@ returns-clause-count g c = ap (λ s. length s.value) c.of-all.ensures ∙ c.args
 
 pub returns-clause-taken : goal.returns-clause-taken
 returns-clause-taken g c =
-    let all = c.args.self.now.handed.value in
-    let side = c.side.ensures ∙ ap (λ s. side_note RECORD_SIDE c.args.front s.value s.value) c.of-all.ensures in
+    let was = c.args.self.now in
+    let all = was.handed.value in
+    let side = c.side-note.ensures ∙ ap (λ s. side_note RECORD_SIDE was.front s.value s.value) c.of-all.ensures in
     let list = c.add-own.ensures.list ∙ ap (λ n. c.compare-own.result.list ++ n ∷ []) side in
-    ap (λ x. x.0) (lists_now (g.L.ExchangeName.earlier, g.L.ExchangeName.earlier) _ _ (side_note RECORD_SIDE c.args.front all all) (all, all) list refl) ∙ sym (ap (λ s. s.value) c.of-all.ensures)
+    ap (λ x. x.0) (lists_now (g.L.ExchangeName.earlier, g.L.ExchangeName.earlier) _ _ (side_note RECORD_SIDE was.front all all) (all, all) list refl) ∙ sym (ap (λ s. s.value) c.of-all.ensures)
 
 pub returns-clause-place : goal.returns-clause-place
 returns-clause-place g c =
-    let all = c.args.self.now.handed.value in
-    let side = c.side.ensures ∙ ap (λ s. side_note RECORD_SIDE c.args.front s.value s.value) c.of-all.ensures in
+    let was = c.args.self.now in
+    let all = was.handed.value in
+    let side = c.side-note.ensures ∙ ap (λ s. side_note RECORD_SIDE was.front s.value s.value) c.of-all.ensures in
     let list = c.add-own.ensures.list ∙ ap (λ n. c.compare-own.result.list ++ n ∷ []) side in
-    place_now _ _ (side_note RECORD_SIDE c.args.front all all) (all, all) list refl
+    let own = c.compare-own.ensures.list ∙ ap (λ s. notes_of s was.keeper.history) c.requires.side in
+    place_now _ _ (side_note RECORD_SIDE was.front all all) (all, all) list refl ∙ sym (ap (last_place 0) own ∙ was.stood)
 
 pub returns-clause-handed : goal.returns-clause-handed
 returns-clause-handed g c = (ap (λ s. s.value) c.of-all.ensures, refl)

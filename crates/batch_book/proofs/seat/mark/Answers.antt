@@ -4,7 +4,7 @@ use Rattle.batch_book.specs.Recording.{made_in, mark, told_in}
 use Rattle.batch_book.specs.Values.{greatest}
 use Rattle.batch_book.proofs.Noting.{made_mark, told_mark}
 use Rattle.batch_book.proofs.Places.{up_to_more}
-use Rattle.batch_book.proofs.locked.mark.Goals as goal
+use Rattle.batch_book.proofs.seat.mark.Goals as goal
 
 pub invariant_of-result : goal.invariant_of-result
 invariant_of-result g c =
