@@ -266,6 +266,9 @@ def try_failures():
         if kind == 1:
             calls["CALLS_HALF"] = f"record:{number - 1}"
         texts = [[pokes(draw, draw.randint(1, 64)) for _ in range(12)] for _ in range(clients)]
+        if kind == 2 and turn % 4 == 0:
+            calls["CALLS_SLOW"] = "5000"  # The others sleep when it fails.
+            texts = [[pokes(draw, 1) for _ in range(12)] for _ in range(16)]
 
         def fail(room):
             day = Day(room, texts, *(["--sync"] if kind == 2 or turn % 2 else []), **calls)

@@ -16,7 +16,7 @@ use Rattle.batch_book.specs.declared.unrecorded.Unrecorded.{Unrecorded}
 use Rattle.batch_book.specs.Answering.{IsReplyTo}
 use Rattle.batch_book.specs.History.{Account, AreUnstopped, IsSound, Starts, entry}
 use Rattle.batch_book.specs.Places.{LogAgrees, notes_of}
-use Rattle.batch_book.specs.Recording.{Applies, IsAnswered, Noted, asked_by, entry_if, entry_of, has_mark, made_by, made_in, mark, marks, note, noted, told_in, value_made}
+use Rattle.batch_book.specs.Recording.{Applies, IsAnswered, Noted, asked_by, entry_if, entry_of, has_mark, made_by, made_in, mark, marks, note, noted, marked_in, value_made}
 use Rattle.batch_book.specs.Replies.{NeverFail, is_logged, outcome_in}
 use Rattle.batch_book.specs.Seats.{IsAsked, IsRecorded, Reaches, SeatState, open_seat, own}
 use Rattle.batch_book.specs.Values.{greatest, value_of}
@@ -53,38 +53,38 @@ plain_has [] m plain = ap (λ (b : Bool). b || false) plain
 plain_has (n ∷ ns) m plain = ap (λ (b : Bool). marks n || b) (plain_has ns m plain)
 
 -- behind a mark all could be told that was made
-pub told_mark : (ns : List Noted) (session : ℕ) → told_in (ns ++ mark session ∷ []) ≡ made_in ns
+pub told_mark : (ns : List Noted) (session : ℕ) → marked_in (ns ++ mark session ∷ []) ≡ made_in ns
 told_mark [] session = refl
 told_mark (n ∷ ns) session =
-    ap (λ (b : Bool). if b then made_by n ++ told_in (ns ++ mark session ∷ []) else []) (mark_has (n ∷ ns) session) ∙ ap (λ (l : List Entry). made_by n ++ l) (told_mark ns session)
+    ap (λ (b : Bool). if b then made_by n ++ marked_in (ns ++ mark session ∷ []) else []) (mark_has (n ∷ ns) session) ∙ ap (λ (l : List Entry). made_by n ++ l) (told_mark ns session)
 
 -- behind what is no mark no more could be told than before
-pub told_plain : (ns : List Noted) (m : Noted) → marks m ≡ false → told_in (ns ++ m ∷ []) ≡ told_in ns
+pub told_plain : (ns : List Noted) (m : Noted) → marks m ≡ false → marked_in (ns ++ m ∷ []) ≡ marked_in ns
 told_plain [] m plain = ap (λ (b : Bool). if b || false then made_by m ++ [] else []) plain
 told_plain (n ∷ ns) m plain =
-    ap (λ (b : Bool). if b then made_by n ++ told_in (ns ++ m ∷ []) else []) (plain_has (n ∷ ns) m plain)
+    ap (λ (b : Bool). if b then made_by n ++ marked_in (ns ++ m ∷ []) else []) (plain_has (n ∷ ns) m plain)
     ∙ ap (λ (l : List Entry). if has_mark (n ∷ ns) then made_by n ++ l else []) (told_plain ns m plain)
 
-told_if : (ns : List Noted) (session place : ℕ) (c : Call) (r : Reply) (b : Bool) → told_in (ns ++ (if b then note session place c r ∷ [] else [])) ≡ told_in ns
+told_if : (ns : List Noted) (session place : ℕ) (c : Call) (r : Reply) (b : Bool) → marked_in (ns ++ (if b then note session place c r ∷ [] else [])) ≡ marked_in ns
 told_if ns session place c r true = told_plain ns (note session place c r) refl
-told_if ns session place c r false = ap told_in (append-nil ns)
+told_if ns session place c r false = ap marked_in (append-nil ns)
 
-pub told_noted : (ns : List Noted) (session place : ℕ) (c : Call) (r : Result Reply Unrecorded) → told_in (ns ++ noted session place c r) ≡ told_in ns
+pub told_noted : (ns : List Noted) (session place : ℕ) (c : Call) (r : Result Reply Unrecorded) → marked_in (ns ++ noted session place c r) ≡ marked_in ns
 told_noted ns session place c (Ok reply) = told_if ns session place c reply (is_logged reply)
-told_noted ns session place c (Err lost) = ap told_in (append-nil ns)
+told_noted ns session place c (Err lost) = ap marked_in (append-nil ns)
 
 -- what could be told are the first that were made
-pub told_front : (ns : List Noted) → IsFront (told_in ns) (made_in ns)
+pub told_front : (ns : List Noted) → IsFront (marked_in ns) (made_in ns)
 told_front [] = ([], refl)
 told_front (n ∷ ns) = by (has_mark (n ∷ ns)) refl (told_front ns)
   where
-    by : (b : Bool) → has_mark (n ∷ ns) ≡ b → IsFront (told_in ns) (made_in ns) → IsFront (told_in (n ∷ ns)) (made_in (n ∷ ns))
+    by : (b : Bool) → has_mark (n ∷ ns) ≡ b → IsFront (marked_in ns) (made_in ns) → IsFront (marked_in (n ∷ ns)) (made_in (n ∷ ns))
     by true some rest = (
       rest.0,
-      ap (λ (l : List Entry). made_by n ++ l) rest.1 ∙ sym (append_assoc (made_by n) (told_in ns) rest.0)
-          ∙ ap (λ (b : Bool). (if b then made_by n ++ told_in ns else []) ++ rest.0) (sym some),
+      ap (λ (l : List Entry). made_by n ++ l) rest.1 ∙ sym (append_assoc (made_by n) (marked_in ns) rest.0)
+          ∙ ap (λ (b : Bool). (if b then made_by n ++ marked_in ns else []) ++ rest.0) (sym some),
     )
-    by false none rest = (made_in (n ∷ ns), ap (λ (b : Bool). (if b then made_by n ++ told_in ns else []) ++ made_in (n ∷ ns)) (sym none))
+    by false none rest = (made_in (n ∷ ns), ap (λ (b : Bool). (if b then made_by n ++ marked_in ns else []) ++ made_in (n ∷ ns)) (sym none))
 
 -- ---- what a call adds to the history
 
@@ -113,12 +113,12 @@ still_stand old new session c (Ok reply) is = stand_if old new session c reply (
 still_stand old new session c (Err lost) is = starts_same old.stands new.stands (ap (λ (a : Account). a.stands) (sym is.1))
 
 pub told_more : (earlier : List Entry) (notes : List Noted) (old new : Account) (session place : ℕ) (c : Call) (r : Result Reply Unrecorded)
-    → Applies old session c r new → Starts (earlier ++ told_in notes) old.stands → Starts (earlier ++ told_in (notes ++ noted session place c r)) new.stands
+    → Applies old session c r new → Starts (earlier ++ marked_in notes) old.stands → Starts (earlier ++ marked_in (notes ++ noted session place c r)) new.stands
 told_more earlier notes old new session place c r is told =
-    subst (λ (es : List Entry). Starts (earlier ++ es) new.stands) (sym (told_noted notes session place c r)) (starts_then (earlier ++ told_in notes) old.stands new.stands told (still_stand old new session c r is))
+    subst (λ (es : List Entry). Starts (earlier ++ es) new.stands) (sym (told_noted notes session place c r)) (starts_then (earlier ++ marked_in notes) old.stands new.stands told (still_stand old new session c r is))
 
 -- behind a mark where all entries stand
-pub told_all : (earlier stands history : List Entry) (notes : List Noted) (session : ℕ) → stands ≡ history → history ≡ earlier ++ made_in notes → Starts (earlier ++ told_in (notes ++ mark session ∷ [])) stands
+pub told_all : (earlier stands history : List Entry) (notes : List Noted) (session : ℕ) → stands ≡ history → history ≡ earlier ++ made_in notes → Starts (earlier ++ marked_in (notes ++ mark session ∷ [])) stands
 told_all earlier stands history notes session all kept = starts_same _ stands (ap (λ (es : List Entry). earlier ++ es) (told_mark notes session) ∙ sym (all ∙ kept))
 
 -- ---- values
@@ -172,9 +172,9 @@ own_asked session (n ∷ ns) = by (nat_eq n.session session) refl (own_asked ses
     by true is rest = ap (λ (b : Bool). made_in (cond b (n ∷ N) N)) is ∙ ap (λ (l : List Entry). made_by n ++ l) rest ∙ sym (own_behind session n (made_in ns) is)
     by false is rest = ap (λ (b : Bool). made_in (cond b (n ∷ N) N)) is ∙ rest ∙ sym (own_past session n (made_in ns) is)
 
-none_told : (ns : List Noted) → has_mark ns ≡ false → told_in ns ≡ []
+none_told : (ns : List Noted) → has_mark ns ≡ false → marked_in ns ≡ []
 none_told [] none = refl
-none_told (n ∷ ns) none = ap (λ (b : Bool). if b then made_by n ++ told_in ns else []) none
+none_told (n ∷ ns) none = ap (λ (b : Bool). if b then made_by n ++ marked_in ns else []) none
 
 -- a mark of the session is one of all
 own_mark : (session : ℕ) (ns : List Noted) → has_mark (notes_of session ns) ≡ true → has_mark ns ≡ true
@@ -193,7 +193,7 @@ own_mark session (n ∷ ns) some = by (nat_eq n.session session) refl (own_mark 
     by false is further = or_right (marks n) (has_mark ns) (further (ap (λ (b : Bool). has_mark (cond b (n ∷ N) N)) (sym is) ∙ some))
 
 -- what could be told by its notes are the first of its own of what could be told by all
-own_told : (session : ℕ) (ns : List Noted) → IsFront (told_in (notes_of session ns)) (own session (told_in ns))
+own_told : (session : ℕ) (ns : List Noted) → IsFront (marked_in (notes_of session ns)) (own session (marked_in ns))
 own_told session [] = ([], refl)
 own_told session (n ∷ ns) = by (nat_eq n.session session) refl (own_told session ns)
   where
@@ -204,24 +204,24 @@ own_told session (n ∷ ns) = by (nat_eq n.session session) refl (own_told sessi
     mine = notes_of session (n ∷ ns)
 
     all : List Entry
-    all = own session (told_in (n ∷ ns))
+    all = own session (marked_in (n ∷ ns))
 
-    told_some : has_mark (n ∷ ns) ≡ true → told_in (n ∷ ns) ≡ made_by n ++ told_in ns
-    told_some some = ap (λ (b : Bool). if b then made_by n ++ told_in ns else []) some
+    told_some : has_mark (n ∷ ns) ≡ true → marked_in (n ∷ ns) ≡ made_by n ++ marked_in ns
+    told_some some = ap (λ (b : Bool). if b then made_by n ++ marked_in ns else []) some
 
-    by : (b : Bool) → nat_eq n.session session ≡ b → IsFront (told_in N) (own session (told_in ns)) → IsFront (told_in mine) all
+    by : (b : Bool) → nat_eq n.session session ≡ b → IsFront (marked_in N) (own session (marked_in ns)) → IsFront (marked_in mine) all
     by true is rest = two (has_mark (n ∷ N)) refl
       where
         own_is : mine ≡ n ∷ N
         own_is = ap (λ (b : Bool). cond b (n ∷ N) N) is
 
-        two : (c : Bool) → has_mark (n ∷ N) ≡ c → IsFront (told_in mine) all
-        two false none = (all, sym (ap (λ (l : List Entry). l ++ all) (ap told_in own_is ∙ none_told (n ∷ N) none)))
+        two : (c : Bool) → has_mark (n ∷ N) ≡ c → IsFront (marked_in mine) all
+        two false none = (all, sym (ap (λ (l : List Entry). l ++ all) (ap marked_in own_is ∙ none_told (n ∷ N) none)))
         two true some =
             let marked : has_mark (n ∷ ns) ≡ true = own_mark session (n ∷ ns) (ap has_mark own_is ∙ some) in
-            let its : told_in mine ≡ made_by n ++ told_in N = ap told_in own_is ∙ ap (λ (b : Bool). if b then made_by n ++ told_in N else []) some in (
+            let its : marked_in mine ≡ made_by n ++ marked_in N = ap marked_in own_is ∙ ap (λ (b : Bool). if b then made_by n ++ marked_in N else []) some in (
               rest.0,
-              ap (own session) (told_some marked) ∙ own_behind session n (told_in ns) is ∙ ap (λ (l : List Entry). made_by n ++ l) rest.1 ∙ sym (append_assoc (made_by n) (told_in N) rest.0)
+              ap (own session) (told_some marked) ∙ own_behind session n (marked_in ns) is ∙ ap (λ (l : List Entry). made_by n ++ l) rest.1 ∙ sym (append_assoc (made_by n) (marked_in N) rest.0)
                   ∙ ap (λ (l : List Entry). l ++ rest.0) (sym its),
             )
     by false is rest = two (has_mark (n ∷ ns)) refl
@@ -233,14 +233,14 @@ own_told session (n ∷ ns) = by (nat_eq n.session session) refl (own_told sessi
         unmarked none false e = e
         unmarked none true e = absurd (true≢false (sym (own_mark session (n ∷ ns) (ap has_mark own_is ∙ e)) ∙ none))
 
-        two : (c : Bool) → has_mark (n ∷ ns) ≡ c → IsFront (told_in mine) all
-        two false none = (all, sym (ap (λ (l : List Entry). l ++ all) (ap told_in own_is ∙ none_told N (unmarked none (has_mark N) refl))))
+        two : (c : Bool) → has_mark (n ∷ ns) ≡ c → IsFront (marked_in mine) all
+        two false none = (all, sym (ap (λ (l : List Entry). l ++ all) (ap marked_in own_is ∙ none_told N (unmarked none (has_mark N) refl))))
         two true some = (
           rest.0,
-          ap (own session) (told_some some) ∙ own_past session n (told_in ns) is ∙ rest.1 ∙ ap (λ (l : List Entry). l ++ rest.0) (sym (ap told_in own_is)),
+          ap (own session) (told_some some) ∙ own_past session n (marked_in ns) is ∙ rest.1 ∙ ap (λ (l : List Entry). l ++ rest.0) (sym (ap marked_in own_is)),
         )
 
-recorded : (s : SeatState) (notes : List Noted) → LogAgrees notes s → IsRecorded (told_in notes) s
+recorded : (s : SeatState) (notes : List Noted) → LogAgrees notes s → IsRecorded (marked_in notes) s
 recorded s notes told =
     let f = own_told s.session notes in
     starts s.log _ f.0 (f.1 ∙ ap (λ (l : List Entry). l ++ f.0) (sym told))
@@ -249,8 +249,8 @@ recorded s notes told =
 pub recorded_more : (told more : List Entry) (s : SeatState) → IsRecorded told s → IsRecorded (told ++ more) s
 recorded_more told more s is = starts_then s.log (own s.session told) _ is (starts (own s.session told) _ (own s.session more) (own_append s.session told more))
 
-pub all_recorded : (notes : List Noted) (more : List Entry) (seats : List SeatState) → All (LogAgrees notes) seats → All (IsRecorded (told_in notes ++ more)) seats
-all_recorded notes more seats all = λ k d less. recorded_more (told_in notes) more (get_or seats k d) (recorded (get_or seats k d) notes (all k d less))
+pub all_recorded : (notes : List Noted) (more : List Entry) (seats : List SeatState) → All (LogAgrees notes) seats → All (IsRecorded (marked_in notes ++ more)) seats
+all_recorded notes more seats all = λ k d less. recorded_more (marked_in notes) more (get_or seats k d) (recorded (get_or seats k d) notes (all k d less))
 
 greatest_cond : (e : Entry) (es xs : List Entry) → greatest xs ≤ greatest es → (b : Bool) → greatest (cond b (e ∷ xs) xs) ≤ greatest (e ∷ es)
 greatest_cond e es xs le true = omega (arith, le)
@@ -281,11 +281,11 @@ unheard_made watcher run a b old new session c (Err lost) sound is h none = ap w
 
 pub asked : (o p : WatcherView) (session place parts after : ℕ) (broken breaks : Bool) (notes list : List Noted) (c : Call) (r : Result Reply Unrecorded)
     → Reaches o (value_made r) p → (value_made r ≡ 0 → p ≡ o) → after ≡ parts → list ≡ notes ++ noted session place c r → breaks ≡ is_err r || broken
-    → IsAsked (open_seat o session (made_in notes) (told_in notes) parts broken) c r (open_seat p session (made_in list) (told_in list) after breaks)
+    → IsAsked (open_seat o session (made_in notes) (marked_in notes) parts broken) c r (open_seat p session (made_in list) (marked_in list) after breaks)
 asked o p session place parts after broken breaks notes list c r reaches quiet same are is = record {
   seat = record { exchange = ap Some reaches.word; session = refl; parts = same };
   asked = ap made_in are ∙ (made_append notes (noted session place c r) ∙ ap (λ (es : List Entry). made_in notes ++ es) (made_noted session place c r));
-  log = starts_same (told_in notes) (told_in list) (sym (ap told_in are ∙ told_noted notes session place c r));
+  log = starts_same (marked_in notes) (marked_in list) (sym (ap marked_in are ∙ told_noted notes session place c r));
   later = reaches.later;
   seen = reaches.seen;
   quiet = λ none. ap (λ (w : WatcherView). w.seen) (quiet none);
@@ -293,7 +293,7 @@ asked o p session place parts after broken breaks notes list c r reaches quiet s
 }
 
 -- where the reply can be told at once
-pub asked_all : (old new all : SeatState) (list : List Noted) (c : Call) (r : Result Reply Unrecorded) → IsAsked old c r new → new.asked ≡ made_in list → new.log ≡ told_in list → all ≡ record new { log = new.asked } → IsAsked old c r all
+pub asked_all : (old new all : SeatState) (list : List Noted) (c : Call) (r : Result Reply Unrecorded) → IsAsked old c r new → new.asked ≡ made_in list → new.log ≡ marked_in list → all ≡ record new { log = new.asked } → IsAsked old c r all
 asked_all old new all list c r is made told same =
     let f = told_front list in
     let more : Starts new.log new.asked = starts new.log new.asked f.0 (made ∙ f.1 ∙ ap (λ (l : List Entry). l ++ f.0) (sym told)) in

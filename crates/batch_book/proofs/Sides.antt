@@ -7,9 +7,9 @@ use Rattle.batch_book.specs.declared.limits.TheConstants.{BOOK_SIDE, RECORD_SIDE
 use Rattle.batch_book.specs.declared.reply.Reply.{Reply}
 use Rattle.batch_book.specs.History.{Starts, entry}
 use Rattle.std.specs.Prelude.{is_none}
-use Rattle.batch_book.specs.Recording.{Noted, made_by, made_in, mark, marks, note, side_note, told_in}
+use Rattle.batch_book.specs.Recording.{Noted, made_by, made_in, mark, marks, note, side_note, marked_in}
 use Rattle.batch_book.specs.Seats.{own}
-use Rattle.batch_book.specs.Places.{AreToldUpTo, are_placed, are_up_to, last_lists, last_place, lists_or, notes_of, notes_to}
+use Rattle.batch_book.specs.Places.{AreMarkedUpTo, are_placed, are_up_to, last_lists, last_place, lists_or, notes_of, notes_to}
 use Rattle.batch_book.specs.Sides.{side_lists, stood_in, taken_in}
 use Rattle.batch_book.proofs.Fronts.{IsFront, front, starts, starts_same, starts_then}
 use Rattle.batch_book.proofs.Noting.{made_append, own_append, told_mark, told_plain}
@@ -75,20 +75,20 @@ made_side h new m grown none = ap made_in grown ∙ made_append h (m ∷ []) ∙
 
 -- ---- what could be told, with a note more
 
-told_plainly : (f : ℕ) (h : List Noted) (m : Noted) → marks m ≡ false → AreToldUpTo f h → AreToldUpTo f (h ++ m ∷ [])
+told_plainly : (f : ℕ) (h : List Noted) (m : Noted) → marks m ≡ false → AreMarkedUpTo f h → AreMarkedUpTo f (h ++ m ∷ [])
 told_plainly f h m plain told = λ s.
-    let same : told_in (notes_of s (h ++ m ∷ [])) ≡ told_in (notes_of s h) = ap told_in (notes_more s h m) ∙ by s (nat_eq m.session s) in
+    let same : marked_in (notes_of s (h ++ m ∷ [])) ≡ marked_in (notes_of s h) = ap marked_in (notes_more s h m) ∙ by s (nat_eq m.session s) in
     let more : IsFront (take f (made_in h)) (take f (made_in (h ++ m ∷ []))) = subst (λ (l : List Entry). IsFront (take f (made_in h)) (take f l)) (sym (made_append h (m ∷ []))) (front_of_more f (made_in h) (made_in (m ∷ []))) in
-    subst (λ (l : List Entry). Starts l (own s (take f (made_in (h ++ m ∷ []))))) (sym same) (starts_then (told_in (notes_of s h)) (own s (take f (made_in h))) _ (told s) (own_starts s _ _ more))
+    subst (λ (l : List Entry). Starts l (own s (take f (made_in (h ++ m ∷ []))))) (sym same) (starts_then (marked_in (notes_of s h)) (own s (take f (made_in h))) _ (told s) (own_starts s _ _ more))
   where
-    by : (s : ℕ) (c : Bool) → told_in (notes_of s h ++ cond c (m ∷ []) []) ≡ told_in (notes_of s h)
+    by : (s : ℕ) (c : Bool) → marked_in (notes_of s h ++ cond c (m ∷ []) []) ≡ marked_in (notes_of s h)
     by s true = told_plain (notes_of s h) m plain
-    by s false = ap told_in (append-nil (notes_of s h))
+    by s false = ap marked_in (append-nil (notes_of s h))
 
-pub told_further : (f g : ℕ) (h : List Noted) → f ≤ g → AreToldUpTo f h → AreToldUpTo g h
+pub told_further : (f g : ℕ) (h : List Noted) → f ≤ g → AreMarkedUpTo f h → AreMarkedUpTo g h
 told_further f g h le told = λ s.
     let more : IsFront (take f (made_in h)) (take g (made_in h)) = front_by_more f g (made_in h) le in
-    starts_then (told_in (notes_of s h)) (own s (take f (made_in h))) _ (told s) (own_starts s _ _ more)
+    starts_then (marked_in (notes_of s h)) (own s (take f (made_in h))) _ (told s) (own_starts s _ _ more)
 
 -- a session all of whose entries are up to the front
 its_all : (session last upto : ℕ) (h list : List Noted) → list ≡ notes_of session h → are_up_to last list ≡ true → last ≤ upto → are_placed 0 h ≡ true → made_in list ≡ own session (take upto (made_in h))
@@ -97,20 +97,20 @@ its_all session last upto h list its low le placed =
     sym (ap made_in (all_up_to last upto list low le)) ∙ ap (λ (l : List Noted). made_in (notes_to upto l)) its ∙ own_up_to session upto h
     ∙ ap (own session) (placed_take 0 upto h placed ∙ ap (λ (n : ℕ). take n (made_in h)) same)
 
-told_marked : (f session : ℕ) (h : List Noted) → made_in (notes_of session h) ≡ own session (take f (made_in h)) → AreToldUpTo f h → AreToldUpTo f (h ++ mark session ∷ [])
+told_marked : (f session : ℕ) (h : List Noted) → made_in (notes_of session h) ≡ own session (take f (made_in h)) → AreMarkedUpTo f h → AreMarkedUpTo f (h ++ mark session ∷ [])
 told_marked f session h all told = λ s. by s (nat_eq session s) refl
   where
     made : made_in (h ++ mark session ∷ []) ≡ made_in h
     made = made_append h (mark session ∷ []) ∙ append-nil (made_in h)
 
-    by : (s : ℕ) (c : Bool) → nat_eq session s ≡ c → Starts (told_in (notes_of s (h ++ mark session ∷ []))) (own s (take f (made_in (h ++ mark session ∷ []))))
+    by : (s : ℕ) (c : Bool) → nat_eq session s ≡ c → Starts (marked_in (notes_of s (h ++ mark session ∷ []))) (own s (take f (made_in (h ++ mark session ∷ []))))
     by s false is =
-        let same : told_in (notes_of s (h ++ mark session ∷ [])) ≡ told_in (notes_of s h) =
-        ap told_in (notes_more s h (mark session) ∙ ap (λ (c : Bool). notes_of s h ++ cond c (mark session ∷ []) []) is ∙ append-nil (notes_of s h)) in
+        let same : marked_in (notes_of s (h ++ mark session ∷ [])) ≡ marked_in (notes_of s h) =
+        ap marked_in (notes_more s h (mark session) ∙ ap (λ (c : Bool). notes_of s h ++ cond c (mark session ∷ []) []) is ∙ append-nil (notes_of s h)) in
         subst (λ (x : List Entry × List Entry). Starts x.0 (own s (take f x.1))) (λ i. (sym same i, sym made i)) (told s)
     by s true is =
-        let same : told_in (notes_of s (h ++ mark session ∷ [])) ≡ made_in (notes_of s h) =
-        ap told_in (notes_more s h (mark session) ∙ ap (λ (c : Bool). notes_of s h ++ cond c (mark session ∷ []) []) is) ∙ told_mark (notes_of s h) session in
+        let same : marked_in (notes_of s (h ++ mark session ∷ [])) ≡ made_in (notes_of s h) =
+        ap marked_in (notes_more s h (mark session) ∙ ap (λ (c : Bool). notes_of s h ++ cond c (mark session ∷ []) []) is) ∙ told_mark (notes_of s h) session in
         let its : session ≡ s = eqb-true session s is in
         starts_same _ _ (same ∙ subst (λ (n : ℕ). made_in (notes_of n h) ≡ own n (take f (made_in h))) its all ∙ ap (λ (l : List Entry). own s (take f l)) (sym made))
 
@@ -130,7 +130,7 @@ pub record IsKnown (texts : List Entry → List Entry → List ℕ) (earlier : L
   pub taken : Starts (taken_in earlier h) handed
   pub waits : text ≡ texts (taken_in earlier h) handed
   pub stood : stood_in h ≡ upto
-  pub told : AreToldUpTo upto h
+  pub told : AreMarkedUpTo upto h
 
 module _ (texts : List Entry → List Entry → List ℕ) (earlier : List Entry) where
   -- no call was made yet
@@ -147,7 +147,7 @@ module _ (texts : List Entry → List Entry → List ℕ) (earlier : List Entry)
         taken = starts_same _ _ (taken ∙ sym all);
         waits = same ∙ ap (λ (l : List Entry). texts l handed) (sym taken);
         stood = ap stood_in none;
-        told = subst (λ (l : List Noted). AreToldUpTo 0 l) (sym none) (λ s. refl);
+        told = subst (λ (l : List Noted). AreMarkedUpTo 0 l) (sym none) (λ s. refl);
       }
 
   -- a call, with the place behind all; what is handed on is what was, or all there is
@@ -175,7 +175,7 @@ module _ (texts : List Entry → List Entry → List ℕ) (earlier : List Entry)
         taken = subst (λ (l : List Entry). Starts l more) (sym taken) (starts_then (taken_in earlier h) handed more k.taken starts_more);
         waits = text_is ∙ ap (λ (l : List Entry). texts l more) (sym taken);
         stood = stood ∙ k.stood;
-        told = subst (AreToldUpTo upto) (sym grown) (told_plainly upto h1 n refl (told_plainly upto h m refl k.told));
+        told = subst (AreMarkedUpTo upto) (sym grown) (told_plainly upto h1 n refl (told_plainly upto h m refl k.told));
       }
 
   -- all that waits is taken over
@@ -194,7 +194,7 @@ module _ (texts : List Entry → List Entry → List ℕ) (earlier : List Entry)
         taken = starts_same _ _ taken;
         waits = text_is ∙ ap (λ (l : List Entry). texts l handed) (sym taken);
         stood = ap stood_in grown ∙ place_last RECORD_SIDE h m (handed, handed) refl refl;
-        told = subst (AreToldUpTo upto) (sym grown) (told_plainly upto h m refl k.told);
+        told = subst (AreMarkedUpTo upto) (sym grown) (told_plainly upto h m refl k.told);
       }
 
   -- the record's side has written
@@ -214,7 +214,7 @@ module _ (texts : List Entry → List Entry → List ℕ) (earlier : List Entry)
         taken = subst (λ (l : List Entry). Starts l handed) (sym now) k.taken;
         waits = k.waits ∙ ap (λ (l : List Entry). texts l handed) (sym now);
         stood = ap stood_in grown ∙ place_last RECORD_SIDE h m (taken, taken) refl refl;
-        told = subst (AreToldUpTo front) (sym grown) (told_further upto front (h ++ m ∷ []) le (told_plainly upto h m refl k.told));
+        told = subst (AreMarkedUpTo front) (sym grown) (told_further upto front (h ++ m ∷ []) le (told_plainly upto h m refl k.told));
       }
 
   -- all that a session has asked can be told, since its last entry isn't behind this place
@@ -235,7 +235,7 @@ module _ (texts : List Entry → List Entry → List ℕ) (earlier : List Entry)
         taken = subst (λ (l : List Entry). Starts l handed) (sym now) k.taken;
         waits = k.waits ∙ ap (λ (l : List Entry). texts l handed) (sym now);
         stood = ap stood_in grown ∙ place_plain RECORD_SIDE h n refl ∙ k.stood;
-        told = subst (AreToldUpTo upto) (sym grown) (told_marked upto session h mine k.told);
+        told = subst (AreMarkedUpTo upto) (sym grown) (told_marked upto session h mine k.told);
       }
 
 -- ---- the close

@@ -26,7 +26,7 @@ pub record AreClosed {P W : Type 0} (seen : Ghosts P) (sure : W → ℕ → Type
   pub are : book.history ≡ earlier ++ made
   pub stand : book.stands ≡ earlier ++ standing
   pub asked : All (AskedAgrees made) seats
-  pub told : All (IsRecorded standing) seats
+  pub recorded : All (IsRecorded standing) seats
   pub counted : length made ≡ entries_of seats
   pub none_ahead : All (λ s. s.seen ≤ greatest book.history) seats
   pub unstopped : NeverFail seen sure → AreUnstopped book.history

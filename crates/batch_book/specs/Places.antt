@@ -3,7 +3,7 @@ use Rattle.std.specs.Prelude.{◌≡◌, ℕ, ◌+◌, Bool, true, ◌&&◌, if�
 use Rattle.own_lists.specs.Lists.{own_of}
 use Rattle.batch_book.specs.declared.entry.Entry.{Entry}
 use Rattle.batch_book.specs.History.{Starts}
-use Rattle.batch_book.specs.Recording.{Noted, made_in, told_in}
+use Rattle.batch_book.specs.Recording.{Noted, made_in, marked_in}
 use Rattle.batch_book.specs.Seats.{SeatState, own}
 
 -- the notes of a session, or of a side
@@ -41,10 +41,11 @@ last_place before [] = before
 last_place before (n ∷ ns) = last_place (if is_none n.lists then before else n.place) ns
 
 -- what could be told to each session are the first of its entries up to this place
-abbrev pub AreToldUpTo : ℕ → List Noted → Type 0
-AreToldUpTo front notes =
-    (session : ℕ) → Starts (told_in (notes_of session notes)) (own session (take front (made_in notes)))
+abbrev pub AreMarkedUpTo : ℕ → List Noted → Type 0
+AreMarkedUpTo front notes =
+    (session : ℕ)
+    → Starts (marked_in (notes_of session notes)) (own session (take front (made_in notes)))
 
 -- what could be told to a seat is what was noted of it
 abbrev pub LogAgrees : List Noted → SeatState → Type 0
-LogAgrees notes seat = seat.log ≡ told_in (notes_of seat.session notes)
+LogAgrees notes seat = seat.log ≡ marked_in (notes_of seat.session notes)

@@ -76,9 +76,9 @@ has_mark [] = false
 has_mark (n ∷ ns) = marks n || has_mark ns
 
 -- those that were made before the last mark
-abbrev pub told_in : List Noted → List Entry
-told_in [] = []
-told_in (n ∷ ns) = if has_mark (n ∷ ns) then made_by n ++ told_in ns else []
+abbrev pub marked_in : List Noted → List Entry
+marked_in [] = []
+marked_in (n ∷ ns) = if has_mark (n ∷ ns) then made_by n ++ marked_in ns else []
 
 -- what is noted of a call whose entry has this place
 abbrev pub noted : ℕ → ℕ → Call → Result Reply Unrecorded → List Noted

@@ -5,7 +5,7 @@ ghost use Rattle.std.specs.Option.{option_map_or};
 ghost use Rattle.batch_book.specs.declared.limits.TheConstants.{BOOK_SIDE};
 ghost use Rattle.batch_book.specs.Answering.{IsReplyTo};
 ghost use Rattle.batch_book.specs.History.{AreUnstopped};
-ghost use Rattle.batch_book.specs.Recording.{made_in, noted, told_in};
+ghost use Rattle.batch_book.specs.Recording.{made_in, noted, marked_in};
 ghost use Rattle.batch_book.specs.Places.{are_up_to};
 ghost use Rattle.batch_book.specs.Replies.{NeverFail};
 ghost use Rattle.batch_book.specs.Seats.{IsAsked, open_seat};
@@ -106,10 +106,10 @@ impl<L: ExchangeName, P: ConfigPort, W: WireMaker + Sync, G: Gate + Sync, H: His
         ensures reply { IfOk result.0 (IsReplyTo call) }
         ensures asked { IsAsked
             (open_seat place.access.watcher session (made_in place.own.list)
-            (told_in place.own.list) place.access.parts place.broken)
+            (marked_in place.own.list) place.access.parts place.broken)
             call result.0
             (open_seat result.1.access.watcher session (made_in result.1.own.list)
-            (told_in result.1.own.list) result.1.access.parts result.1.broken) }
+            (marked_in result.1.own.list) result.1.access.parts result.1.broken) }
         ensures session { result.1.own.session ≡ session }
     {
         let Place {
@@ -137,7 +137,13 @@ impl<L: ExchangeName, P: ConfigPort, W: WireMaker + Sync, G: Gate + Sync, H: His
         let Some(its) = self.own.take() else {
             unreachable!()
         };
-        let NotedCall {
+        let before = Noting {
+            own,
+            its,
+            pushed: self.pushed,
+            last,
+        };
+        let Noting {
             own,
             its,
             pushed,
@@ -147,11 +153,10 @@ impl<L: ExchangeName, P: ConfigPort, W: WireMaker + Sync, G: Gate + Sync, H: His
             waiting,
             &mut self.book,
             &mut share,
-            (own, its),
+            before,
             session,
             asked,
             &made,
-            (self.pushed, last),
         );
         self.own = Some(its);
         self.pushed = pushed;
@@ -174,9 +179,9 @@ impl<L: ExchangeName, P: ConfigPort, W: WireMaker + Sync, G: Gate + Sync, H: His
     }
 }
 
-/// What is left where a call was noted: the lists of the session and of the book's side, how many
-/// entries the exchange has made, and behind which place the session has none.
-struct NotedCall<L: ExchangeName> {
+/// What a note of a call changes: the lists of the session and of the book's side, how many entries
+/// the exchange has made, and behind which place the session has none.
+struct Noting<L: ExchangeName> {
     own: OwnList<NotedEntry, L>,
     its: OwnList<NotedEntry, L>,
     pushed: u64,
@@ -189,62 +194,56 @@ fn note_made<L: ExchangeName, H: History, R: Wait>(
     waiting: &Mutex<Waiting<L, H>>,
     book: &mut Book<Lent<H::Waiting>>,
     share: &mut Share<L>,
-    lists: (OwnList<NotedEntry, L>, OwnList<NotedEntry, L>),
+    before: Noting<L>,
     session: usize,
     call: Snapshot<Call>,
     made: &Result<Reply, Unrecorded>,
-    counts: (u64, u64),
-) -> NotedCall<L>
-    requires session { lists.0.session ≡ session }
-    requires side { lists.1.session ≡ BOOK_SIDE }
+) -> Noting<L>
+    requires session { before.own.session ≡ session }
+    requires side { before.its.session ≡ BOOK_SIDE }
     requires parts { 0 < share.old.parts }
-    requires few { counts.0 < 18446744073709551615 }
-    requires grown { book.old.history ≡ (side_lists L.earlier lists.1.list).0
-        ++ made_in (noted session (counts.0 + 1) call.value made.now) }
-    requires stands { book.old.stands ≡ (side_lists L.earlier lists.1.list).1 }
-    requires many { length (side_lists L.earlier lists.1.list).0 ≡ length L.earlier + counts.0 }
-    requires low { are_up_to counts.1 lists.0.list ≡ true }
+    requires few { before.pushed < 18446744073709551615 }
+    requires grown { book.old.history ≡ (side_lists L.earlier before.its.list).0
+        ++ made_in (noted session (before.pushed + 1) call.value made.now) }
+    requires stands { book.old.stands ≡ (side_lists L.earlier before.its.list).1 }
+    requires many { length (side_lists L.earlier before.its.list).0
+        ≡ length L.earlier + before.pushed }
+    requires low { are_up_to before.last before.own.list ≡ true }
     ensures history { book.new.history ≡ book.old.history }
     ensures opening { book.new.opening ≡ book.old.opening }
     ensures session { result.own.session ≡ session }
-    ensures list { result.own.list ≡ lists.0.list
-        ++ noted session (counts.0 + 1) call.value made.now }
+    ensures list { result.own.list ≡ before.own.list
+        ++ noted session (before.pushed + 1) call.value made.now }
     ensures side { result.its.session ≡ BOOK_SIDE }
     ensures lists { side_lists L.earlier result.its.list ≡ (book.new.history, book.new.stands) }
     ensures many { length book.new.history ≡ length L.earlier + result.pushed }
     ensures low { are_up_to result.last result.own.list ≡ true }
     ensures amount { share.new.amount ≡ share.old.amount
-        + length (made_in (noted session (counts.0 + 1) call.value made.now)) }
+        + length (made_in (noted session (before.pushed + 1) call.value made.now)) }
     ensures parts { share.new.parts ≡ share.old.parts }
 {
-    let (own, its) = lists;
-    let (pushed, last) = counts;
     match made {
         Ok(reply) => {
             if !reply.is_logged() {
-                return NotedCall {
-                    own,
-                    its,
-                    pushed,
-                    last,
-                };
+                return before;
             }
+            let Noting {
+                own,
+                its,
+                pushed,
+                last,
+            } = before;
             let place = pushed + 1;
             let (own, its) = waiting
                 .lock(rt)
                 .enter(book, place, share, (own, its), session, call, reply);
-            NotedCall {
+            Noting {
                 own,
                 its,
                 pushed: place,
                 last: last.max(place),
             }
         }
-        Err(_) => NotedCall {
-            own,
-            its,
-            pushed,
-            last,
-        },
+        Err(_) => before,
     }
 }

@@ -18,7 +18,7 @@ use std::alloc::AllocError;
 /// belongs, with all others that wait.
 ///
 /// A history is whole as long as no flush has failed. Once one has, the entries that waited may be
-/// missing there, and one may be cut; nothing else is put there any more.
+/// missing there, and one may be cut; no later flush puts any there.
 ///
 /// A history may lend its recorder, so that entries are written while others are made.
 pub trait History {

@@ -3,7 +3,7 @@
 ghost use Rattle.std.specs.Prelude.{◌≡◌, ◌+◌, ◌++◌, [], ◌∷◌, length, true, false, Some, IsSome, IfOk, OnErr};
 ghost use Rattle.batch_book.specs.Answering.{IsReplyTo};
 ghost use Rattle.batch_book.specs.History.{AreUnstopped, Starts};
-ghost use Rattle.batch_book.specs.Recording.{Applies, Flushes, made_in, told_in};
+ghost use Rattle.batch_book.specs.Recording.{Applies, Flushes, made_in, marked_in};
 ghost use Rattle.batch_book.specs.Replies.{NeverFail};
 ghost use Rattle.batch_book.specs.Seats.{IsAsked, IsSettled, open_seat};
 
@@ -40,7 +40,7 @@ pub struct Locked<L: ExchangeName, P: ConfigPort, W: WireMaker, G, H: History> {
     pub keeper: Keeper<NotedEntry, L>,
     pub ghost counted: { length (made_in keeper.history) ≡ entries.total },
     pub ghost kept: { book.history ≡ L.earlier ++ made_in keeper.history },
-    pub ghost told: { Starts (L.earlier ++ told_in keeper.history) book.stands },
+    pub ghost told: { Starts (L.earlier ++ marked_in keeper.history) book.stands },
     pub ghost opened: { book.opening ≡ L.opening },
     pub ghost unstopped: { NeverFail P.ConfigPort W.is_sure → AreUnstopped book.history },
 }
@@ -115,11 +115,11 @@ impl<L: ExchangeName, P: ConfigPort, W: WireMaker + Sync, G: Gate + Sync, H: His
         ensures step { Applies self.old.book session call result.0 self.new.book }
         ensures asked { IsAsked
             (open_seat place.access.watcher session (made_in place.own.list)
-            (told_in place.own.list) place.access.parts place.broken)
+            (marked_in place.own.list) place.access.parts place.broken)
             call result.0
             (open_seat result.1.access.watcher session (made_in result.1.own.list)
-            (told_in result.1.own.list) result.1.access.parts result.1.broken) }
-        ensures told { H.loses ≡ false → told_in result.1.own.list ≡ made_in result.1.own.list }
+            (marked_in result.1.own.list) result.1.access.parts result.1.broken) }
+        ensures told { H.loses ≡ false → marked_in result.1.own.list ≡ made_in result.1.own.list }
         ensures session { result.1.own.session ≡ session }
         ensures loses { OnErr result.0 (H.loses ≡ true) }
     {
@@ -146,10 +146,10 @@ impl<L: ExchangeName, P: ConfigPort, W: WireMaker + Sync, G: Gate + Sync, H: His
         ensures step { Applies self.old.book session call result.0 self.new.book }
         ensures asked { IsAsked
             (open_seat place.access.watcher session (made_in place.own.list)
-            (told_in place.own.list) place.access.parts place.broken)
+            (marked_in place.own.list) place.access.parts place.broken)
             call result.0
             (open_seat result.1.access.watcher session (made_in result.1.own.list)
-            (told_in result.1.own.list) result.1.access.parts result.1.broken) }
+            (marked_in result.1.own.list) result.1.access.parts result.1.broken) }
         ensures session { result.1.own.session ≡ session }
         ensures loses { OnErr result.0 (H.loses ≡ true) }
     {

@@ -19,7 +19,12 @@ use crate::unrecorded::Unrecorded;
 use crate::waiting::Waiting;
 use crate::waiting_entries::WaitingEntries;
 use own_lists::OwnList;
-use std::sync::{Condvar, Mutex, Wait};
+use std::sync::{Condvar, Mutex, MutexGuard, Wait};
+use std::thread::yield_now;
+
+/// How often a seat lets other threads run while one writes, before it sleeps. Where none waits for
+/// the disk a writing is done sooner than who sleeps is woken.
+const TURNS: usize = 8;
 
 /// The recorder, all that were taken over, the list of what was noted of these, and a spare buffer.
 #[derive(Drop)]
@@ -114,7 +119,7 @@ pub fn settle<L: ExchangeName, H: History, R: Wait>(
         unreachable!()
     };
     let last = place.last;
-    let mut waits = written.wait_while(rt, waiting.lock(rt), |w| w.is_behind(last));
+    let mut waits = reached(rt, waiting, written, last);
     let writes = waits.begin(last);
     if writes {
         drop(waits);
@@ -129,4 +134,22 @@ pub fn settle<L: ExchangeName, H: History, R: Wait>(
         written.notify_all();
     }
     settled
+}
+
+// What waits, once all entries up to this place stand, or no seat writes.
+fn reached<'b, L: ExchangeName, H: History, R: Wait>(
+    rt: &R,
+    waiting: &'b Mutex<Waiting<L, H>>,
+    written: &Condvar,
+    place: u64,
+) -> MutexGuard<'b, Waiting<L, H>> {
+    for _ in 0..TURNS {
+        let waits = waiting.lock(rt);
+        if !waits.is_behind(place) {
+            return waits;
+        }
+        drop(waits);
+        yield_now();
+    }
+    written.wait_while(rt, waiting.lock(rt), |waits| waits.is_behind(place))
 }

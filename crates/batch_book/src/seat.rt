@@ -2,7 +2,7 @@
 
 ghost use Rattle.std.specs.Prelude.{◌≡◌, ◌≤◌, ◌++◌, ◌∷◌, max, [], true, false, length, Some, IsSome};
 ghost use Rattle.batch_book.specs.Places.{are_up_to};
-ghost use Rattle.batch_book.specs.Recording.{made_in, mark, told_in};
+ghost use Rattle.batch_book.specs.Recording.{made_in, mark, marked_in};
 ghost use Rattle.progress_word.specs.declared.limits.TheConstants.{ALL_PARTS};
 ghost use Rattle.batch_book.specs.Values.{greatest};
 ghost use Rattle.batch_book.specs.Seats.{open_seat};
@@ -28,7 +28,7 @@ pub(crate) struct Place<L: ExchangeName> {
     pub(crate) ghost highest: { access.watcher.raised
         ≤ max (greatest L.earlier) (greatest (made_in own.list)) },
     pub(crate) ghost low: { are_up_to last own.list ≡ true },
-    pub(crate) ghost settled: { waits ≡ false → told_in own.list ≡ made_in own.list },
+    pub(crate) ghost settled: { waits ≡ false → marked_in own.list ≡ made_in own.list },
 }
 
 impl<L: ExchangeName> Place<L> {
@@ -65,7 +65,7 @@ pub(crate) fn mark<L: ExchangeName>(
     ensures history { keeper.new.history ≡ keeper.old.history ++ mark session ∷ [] }
     ensures access { result.access ≡ place.access }
     ensures made { made_in result.own.list ≡ made_in place.own.list }
-    ensures told { told_in result.own.list ≡ made_in place.own.list }
+    ensures told { marked_in result.own.list ≡ made_in place.own.list }
     ensures session { result.own.session ≡ session }
     ensures broken { result.broken ≡ place.broken }
 {
@@ -107,7 +107,7 @@ impl<L: ExchangeName> Drop for Seat<L> {
 impl<L: ExchangeName> Model for Seat<L> {
     ghost use Rattle.std.specs.Prelude.{◌≡◌, [], false, IfSome, option_map};
     ghost use Rattle.std.specs.Option.{option_map_or};
-    ghost use Rattle.batch_book.specs.Recording.{made_in, told_in};
+    ghost use Rattle.batch_book.specs.Recording.{made_in, marked_in};
     ghost use Rattle.batch_book.specs.Seats.{SeatState};
 
     ghost Value = { SeatState };
@@ -116,7 +116,7 @@ impl<L: ExchangeName> Model for Seat<L> {
       exchange = option_map (λ p. p.access.watcher.word) s.place;
       session = s.session;
       asked = option_map_or (λ p. made_in p.own.list) s.place [];
-      log = option_map_or (λ p. told_in p.own.list) s.place [];
+      log = option_map_or (λ p. marked_in p.own.list) s.place [];
       seen = option_map_or (λ p. p.access.watcher.seen) s.place 0;
       parts = option_map_or (λ p. p.access.parts) s.place 0;
       broken = option_map_or (λ p. p.broken) s.place false;
@@ -186,7 +186,7 @@ impl<L: ExchangeName> Seat<L> {
         ensures parts { result.access.parts ≡ self.parts }
         ensures session { result.own.session ≡ self.session }
         ensures made { made_in result.own.list ≡ self.asked }
-        ensures told { told_in result.own.list ≡ self.log }
+        ensures told { marked_in result.own.list ≡ self.log }
     {
         let Seat { session: _, place } = self;
         match place {

@@ -4,8 +4,8 @@ ghost use Rattle.std.specs.Prelude.{◌≡◌, ◌+◌, ◌++◌, ◌∷◌, ◌
 ghost use Rattle.batch_book.specs.declared.entry.Entry.{Entry};
 ghost use Rattle.batch_book.specs.declared.limits.TheConstants.{BOOK_SIDE, RECORD_SIDE};
 ghost use Rattle.batch_book.specs.History.{Starts};
-ghost use Rattle.batch_book.specs.Places.{are_placed, last_place, notes_of, AreToldUpTo};
-ghost use Rattle.batch_book.specs.Recording.{made_in, note, told_in};
+ghost use Rattle.batch_book.specs.Places.{are_placed, last_place, notes_of, AreMarkedUpTo};
+ghost use Rattle.batch_book.specs.Recording.{made_in, note, marked_in};
 ghost use Rattle.batch_book.specs.Replies.{is_logged};
 ghost use Rattle.batch_book.specs.Sides.{side_lists, stood_in, taken_in};
 
@@ -59,7 +59,7 @@ pub struct Waiting<L: ExchangeName, H: History> {
     pub ghost waits: { text.items
         ≡ H.Waiting.texts (taken_in L.earlier keeper.history) handed.value },
     pub ghost stood: { stood_in keeper.history ≡ front },
-    pub ghost told: { AreToldUpTo front keeper.history },
+    pub ghost told: { AreMarkedUpTo front keeper.history },
     pub ghost loses: { H.loses ≡ true },
 }
 
@@ -194,8 +194,8 @@ impl<L: ExchangeName, H: History> Waiting<L, H> {
         requires session { place.own.session ≡ session }
         ensures access { result.1.access ≡ place.access }
         ensures made { made_in result.1.own.list ≡ made_in place.own.list }
-        ensures told { told_in result.1.own.list
-            ≡ (if is_err result.0 then told_in place.own.list else made_in place.own.list) }
+        ensures told { marked_in result.1.own.list
+            ≡ (if is_err result.0 then marked_in place.own.list else made_in place.own.list) }
         ensures session { result.1.own.session ≡ session }
         ensures broken { result.1.broken ≡ is_err result.0 || place.broken }
         ensures loses { H.loses ≡ true }
@@ -213,7 +213,7 @@ impl<L: ExchangeName, H: History> Waiting<L, H> {
         requires covered { place.last ≤ self.old.front }
         ensures access { result.access ≡ place.access }
         ensures made { made_in result.own.list ≡ made_in place.own.list }
-        ensures told { told_in result.own.list ≡ made_in place.own.list }
+        ensures told { marked_in result.own.list ≡ made_in place.own.list }
         ensures session { result.own.session ≡ session }
         ensures broken { result.broken ≡ place.broken }
     {

@@ -192,12 +192,12 @@ one_history seen sure limited loses opening earlier seats book left (Ok done) cl
     let rest = front book.stands book.history kept.front in
     let made : closed.standing ++ rest.0 ≡ closed.made =
     append_cancel_left earlier _ _ (sym (append_assoc earlier closed.standing rest.0) ∙ ap (λ (es : List Entry). es ++ rest.0) (sym closed.stand) ∙ sym rest.1 ∙ closed.are) in
-    let recorded : All (IsRecorded closed.made) seats = subst (λ (es : List Entry). All (IsRecorded es) seats) made (λ k d less. recorded_more closed.standing rest.0 (get_or seats k d) (closed.told k d less)) in
+    let recorded : All (IsRecorded closed.made) seats = subst (λ (es : List Entry). All (IsRecorded es) seats) made (λ k d less. recorded_more closed.standing rest.0 (get_or seats k d) (closed.recorded k d less)) in
     subst (HaveOneHistory loses opening earlier (map part_of seats)) (sym flushed.1)
     (theirs seen sure limited loses opening earlier seats book closed.made book.history book.whole closed never kept recorded closed.are (starts_same book.history book.history refl) (λ whole. refl) kept.lost)
 one_history seen sure limited loses opening earlier seats book left (Err lost) closed never kept flushed loses_is =
     subst (HaveOneHistory loses opening earlier (map part_of seats)) (sym flushed)
-    (theirs seen sure limited loses opening earlier seats book closed.standing book.stands false closed never kept closed.told closed.stand kept.front (λ whole. absurd cc) (λ broken. loses_is))
+    (theirs seen sure limited loses opening earlier seats book closed.standing book.stands false closed never kept closed.recorded closed.stand kept.front (λ whole. absurd cc) (λ broken. loses_is))
 
 none_in : (P : Part → Type 0) → All P []
 none_in P k d lt = absurd (omega (arith, lt))

@@ -2,7 +2,7 @@ use Rattle.std.proofs.Common.{◌≡◌, ◌≤◌, ◌+◌, ◌∙◌, All, len
 use Rattle.batch_book.specs.declared.entry.Entry.{Entry}
 use Rattle.batch_book.specs.History.{AreUnstopped, Starts}
 use Rattle.batch_book.specs.Places.{last_place, notes_of}
-use Rattle.batch_book.specs.Recording.{made_in, told_in}
+use Rattle.batch_book.specs.Recording.{made_in, marked_in}
 use Rattle.batch_book.specs.Seats.{AskedAgrees, own}
 use Rattle.batch_book.specs.Sides.{side_lists}
 use Rattle.batch_book.specs.Values.{greatest}
@@ -76,9 +76,9 @@ returns g c =
       are = ap (λ a. a.history) back ∙ kept;
       stand = ap (λ a. a.stands) back ∙ standing earlier (made_in notes) _ w.front first ((rw c.in-Some-its.is at r.many) ∙ ap (λ k. length earlier + k) upto);
       asked = subst (λ h. All (AskedAgrees (made_in h)) c.args.seats.items) same e.asked;
-      told = λ k d less.
+      recorded = λ k d less.
           let s = slice_index_or c.args.seats.items k d in
-          subst (λ l. Starts l (own s.session (take w.front (made_in notes)))) (sym (e.told k d less ∙ ap (λ h. told_in (notes_of s.session h)) same)) (w.told s.session);
+          subst (λ l. Starts l (own s.session (take w.front (made_in notes)))) (sym (e.told k d less ∙ ap (λ h. marked_in (notes_of s.session h)) same)) (w.told s.session);
       counted = omega (arith, w.counted, amount, e.amount);
       none_ahead = λ k d less. let seen = e.seen k d less in omega (arith, seen, later, read, raised, behind, most, now);
       unstopped = λ never. subst (λ a. AreUnstopped a.history) (sym back) (b.unstopped never);

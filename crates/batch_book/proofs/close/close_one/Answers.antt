@@ -1,5 +1,5 @@
 use Rattle.std.proofs.Common.{◌≡◌, ◌∙◌, ◌++◌, ap, append_assoc, arith}
-use Rattle.batch_book.specs.Recording.{made_in, told_in}
+use Rattle.batch_book.specs.Recording.{made_in, marked_in}
 use Rattle.batch_book.specs.Values.{greatest}
 use Rattle.batch_book.proofs.Fronts.{front}
 use Rattle.batch_book.proofs.Noting.{all_recorded, greatest_append}
@@ -18,16 +18,16 @@ returns g c =
     let later = c.load.ensures.later in
     let behind = greatest_append earlier (made_in notes) in
     let kept = ap greatest locked.kept in
-    let rest = front (earlier ++ told_in notes) locked.book.stands locked.told in
+    let rest = front (earlier ++ marked_in notes) locked.book.stands locked.told in
     record {
       made = made_in notes;
-      standing = told_in notes ++ rest.0;
+      standing = marked_in notes ++ rest.0;
       all_parts = e.total;
       opened = locked.opened;
       are = locked.kept;
-      stand = rest.1 ∙ append_assoc earlier (told_in notes) rest.0;
+      stand = rest.1 ∙ append_assoc earlier (marked_in notes) rest.0;
       asked = e.asked;
-      told = all_recorded notes rest.0 c.args.seats.items e.told;
+      recorded = all_recorded notes rest.0 c.args.seats.items e.told;
       counted = omega (arith, locked.counted, amount, e.amount);
       none_ahead = λ k d less. let seen = e.seen k d less in omega (arith, seen, later, read, e.raised, behind, kept);
       unstopped = locked.unstopped;

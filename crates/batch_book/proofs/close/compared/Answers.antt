@@ -1,5 +1,5 @@
 use Rattle.std.proofs.Common.{◌∙◌, ap, sym, arith}
-use Rattle.batch_book.specs.Recording.{made_in, told_in}
+use Rattle.batch_book.specs.Recording.{made_in, marked_in}
 use Rattle.batch_book.specs.Values.{greatest}
 use Rattle.batch_book.proofs.Noting.{greatest_own, own_asked}
 use Rattle.batch_book.specs.Places.{notes_of}
@@ -13,7 +13,7 @@ returns-clause-asked g c =
 pub returns-clause-told : goal.returns-clause-told
 returns-clause-told g c =
     let notes = c.args.keeper.now.history in
-    sym c.into_place-access.ensures.told ∙ ap told_in (c.compare.ensures.list ∙ ap (λ s. notes_of s notes) c.into_place-access.ensures.session)
+    sym c.into_place-access.ensures.told ∙ ap marked_in (c.compare.ensures.list ∙ ap (λ s. notes_of s notes) c.into_place-access.ensures.session)
 
 pub returns-clause-raised : goal.returns-clause-raised
 returns-clause-raised g c =

@@ -1,6 +1,6 @@
 use Rattle.std.proofs.Common.{◌∙◌, ◌++◌, ap, append-nil, length, sym, subst, arith}
 use Rattle.batch_book.specs.History.{AreUnstopped}
-use Rattle.batch_book.specs.Recording.{made_in, told_in}
+use Rattle.batch_book.specs.Recording.{made_in, marked_in}
 use Rattle.batch_book.specs.Sides.{side_lists}
 use Rattle.batch_book.proofs.Fronts.{starts_same}
 use Rattle.batch_book.proofs.Sides.{none_known}
@@ -14,7 +14,7 @@ invariant_of-new g c =
     record {
       counted = ap (λ ns. length (made_in ns)) none ∙ sym c.requires.none;
       kept = ap (λ a. a.history) back ∙ c.requires.earlier ∙ sym (ap (λ ns. earlier ++ made_in ns) none ∙ append-nil earlier);
-      told = starts_same _ _ (ap (λ ns. earlier ++ told_in ns) none ∙ append-nil earlier ∙ sym (ap (λ a. a.stands) back ∙ c.requires.stand));
+      told = starts_same _ _ (ap (λ ns. earlier ++ marked_in ns) none ∙ append-nil earlier ∙ sym (ap (λ a. a.stands) back ∙ c.requires.stand));
       opened = ap (λ a. a.opening) back ∙ c.requires.opening;
       unstopped = λ never. subst (λ a. AreUnstopped a.history) (sym back) (c.requires.unstopped never);
     }

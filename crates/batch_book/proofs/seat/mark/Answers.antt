@@ -1,6 +1,6 @@
 use Rattle.std.proofs.Common.{◌++◌, ◌∷◌, [], ◌∙◌, ap, length, sym, arith}
 use Rattle.batch_book.specs.Places.{are_up_to}
-use Rattle.batch_book.specs.Recording.{made_in, mark, told_in}
+use Rattle.batch_book.specs.Recording.{made_in, mark, marked_in}
 use Rattle.batch_book.specs.Values.{greatest}
 use Rattle.batch_book.proofs.Noting.{made_mark, told_mark}
 use Rattle.batch_book.proofs.Places.{up_to_more}
@@ -16,5 +16,5 @@ invariant_of-result g c =
       counted = t.counted ∙ ap length (sym same);
       highest = omega (arith, t.highest, most);
       low = ap (are_up_to t.last) list ∙ up_to_more t.last t.last t.own.list (mark c.args.session) t.low (omega arith) (omega arith);
-      settled = λ _. (ap told_in list ∙ told_mark t.own.list c.args.session) ∙ sym same;
+      settled = λ _. (ap marked_in list ∙ told_mark t.own.list c.args.session) ∙ sym same;
     }

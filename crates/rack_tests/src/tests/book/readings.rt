@@ -45,7 +45,7 @@ impl Hold {
     }
 
     /// Waits until it was read.
-    fn wait(&self) {
+    pub fn wait(&self) {
         for _ in 0..TURNS {
             if self.seen.load(Ordering::SeqCst) {
                 return;

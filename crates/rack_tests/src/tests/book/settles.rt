@@ -20,16 +20,23 @@ use std::sync::Wait;
 use std::sync::atomic::{AtomicUsize, Ordering};
 use std::thread::{Threads, join, yield_now};
 
-/// A writer that counts how often it is given something, and takes it, but for one time.
+/// A writer that counts how often it is given something, and takes it, but for one time. Another
+/// time it waits first.
 #[derive(Drop)]
 struct Counted<'a> {
     writes: &'a AtomicUsize,
     fails_behind: Option<usize>,
+    waits_behind: Option<usize>,
+    hold: &'a Hold,
 }
 
 impl Write for Counted<'_> {
     fn write(&mut self, buf: &[u8]) -> io::Result<usize> {
-        if self.fails_behind == Some(self.writes.fetch_add(1, Ordering::SeqCst)) {
+        let before = self.writes.fetch_add(1, Ordering::SeqCst);
+        if self.waits_behind == Some(before) {
+            self.hold.wait();
+        }
+        if self.fails_behind == Some(before) {
             return Err(io::ErrorKind::Other.into());
         }
         Ok(buf.len())
@@ -133,8 +140,27 @@ const ROWS: [Row; 5] = [
 enum Case {
     /// This is so.
     Row(Row),
-    /// A seat is settled while a run of another one is held.
-    BesideRun,
+    /// A seat is settled while another one is held.
+    Beside(Held),
+}
+
+/// Where a seat is held.
+#[derive(Clone, Copy)]
+enum Held {
+    /// In a run. The other's last entry waits, and is the first that is written.
+    Running,
+    /// In the second writing. The other's last entry stands by then.
+    Writing,
+}
+
+impl Held {
+    /// By how many writings the other seat is settled.
+    fn writes(self) -> usize {
+        match self {
+            Held::Running => 1,
+            Held::Writing => 2,
+        }
+    }
 }
 
 /// The exchange of the tests.
@@ -263,11 +289,30 @@ fn is_run<L: ExchangeName, W: WireMaker + Sync, H: History, R: AllocGlobal + Thr
     said == Said::Ran(1, 1, 1) && shared.settle(rt, &mut seat).is_ok()
 }
 
-/// Whether a seat is settled once the run has begun, by the first writing. Then the run goes on.
-fn is_settled_in_run<L: ExchangeName, W: WireMaker + Sync, H: History, R: Threads + Wait + Sync>(
+/// Whether the seat does that in which it is held.
+fn is_done<
+    L: ExchangeName,
+    W: WireMaker + Sync,
+    H: History,
+    R: AllocGlobal + Threads + Wait + Sync,
+>(rt: &R, shared: &Exchange<L, W, H>, seat: Seat<L>, held: Held) -> bool
+    requires { seat.exchange ≡ Some shared.now.word }
+{
+    match held {
+        Held::Running => is_run(rt, shared, seat),
+        Held::Writing => {
+            let mut seat = seat;
+            shared.settle(rt, &mut seat).is_ok()
+        }
+    }
+}
+
+/// Whether a seat is settled once the other one is held. Then that one goes on.
+fn is_settled_then<L: ExchangeName, W: WireMaker + Sync, H: History, R: Threads + Wait + Sync>(
     rt: &R,
     shared: &Exchange<L, W, H>,
     seat: Seat<L>,
+    held: Held,
     hold: &Hold,
     writes: &AtomicUsize,
 ) -> bool
@@ -275,25 +320,30 @@ fn is_settled_in_run<L: ExchangeName, W: WireMaker + Sync, H: History, R: Thread
 {
     let mut seat = seat;
     for _ in 0..TURNS {
-        if shared.progress(&mut seat) == (Reading { run: 1, done: 0 }) {
+        let is_held = match held {
+            Held::Running => shared.progress(&mut seat) == (Reading { run: 1, done: 0 }),
+            Held::Writing => writes.load(Ordering::SeqCst) == 2,
+        };
+        if is_held {
             let is_settled = shared.settle(rt, &mut seat).is_ok();
-            let is_first = writes.load(Ordering::SeqCst) == 1;
+            let is_so = writes.load(Ordering::SeqCst) == held.writes();
             hold.seen.store(true, Ordering::SeqCst);
-            return is_settled && is_first;
+            return is_settled && is_so;
         }
         yield_now();
     }
     false
 }
 
-/// The first seat hands its batch in, and the second one peeks a word. Then the one runs its batch,
-/// and the other is settled while the run is held. Whether all goes well, by two writings.
+/// The second seat peeks a word. The first one hands its batch in, and runs it; or it peeks, is
+/// settled, peeks, and is settled again. In the last step it is held, and the second one is settled
+/// meanwhile. Whether all goes well, by two writings.
 fn is_settled_beside<
     L: ExchangeName + Send + Sync,
     W: WireMaker + Send + Sync + Drop,
     H: History + Send + Drop,
     R: AllocGlobal + Threads + Wait + Sync,
->(rt: &R, two: Two<L, W, H>, hold: &Hold, writes: &AtomicUsize) -> bool
+>(rt: &R, two: Two<L, W, H>, held: Held, hold: &Hold, writes: &AtomicUsize) -> bool
 where
     H::Recorder: Drop,
     H::Waiting: Drop,
@@ -303,20 +353,29 @@ where
         mut first,
         mut second,
     } = two;
-    answer(rt, &shared, &mut first, Ask::Submit(PUSH));
-    answer(rt, &shared, &mut first, Ask::Settle(1, PUSH));
     answer(rt, &shared, &mut second, Ask::Peek(0, FIRST));
+    match held {
+        Held::Running => {
+            answer(rt, &shared, &mut first, Ask::Submit(PUSH));
+            answer(rt, &shared, &mut first, Ask::Settle(1, PUSH));
+        }
+        Held::Writing => {
+            goes_well(rt, &shared, &mut first, Peek(0));
+            goes_well(rt, &shared, &mut first, Settle(0));
+            goes_well(rt, &shared, &mut first, Peek(0));
+        }
+    }
     let lent = &shared;
-    let (is_run, is_settled) = join(
+    let (is_done, is_settled) = join(
         rt,
         move || -> bool
             requires { first.exchange ≡ Some lent.now.word }
-        { is_run(rt, lent, first) },
+        { is_done(rt, lent, first, held) },
         move || -> bool
             requires { second.exchange ≡ Some lent.now.word }
-        { is_settled_in_run(rt, lent, second, hold, writes) },
+        { is_settled_then(rt, lent, second, held, hold, writes) },
     );
-    is_run && is_settled && hold.is_kept() && writes.load(Ordering::SeqCst) == 2
+    is_done && is_settled && hold.is_kept() && writes.load(Ordering::SeqCst) == 2
 }
 
 /// Whether a case is so of a new exchange over this book.
@@ -325,16 +384,13 @@ fn holds<L: ExchangeName + Send + Sync, R: AllocGlobal + Threads + Wait + Sync>(
     blank: ExchangeBlank,
     book: Book<Streamed<Counted<'_>, Brand>>,
     case: Case,
+    hold: &Hold,
     writes: &AtomicUsize,
 ) -> bool
     requires named { IsNamed L.name L.parts L.table L.opening L.earlier blank book }
     requires empty { book.history ≡ [] }
 {
-    let hold = Hold::new();
-    let lines = HeldLines {
-        hold: &hold,
-        transfer: 0,
-    };
+    let lines = HeldLines { hold, transfer: 0 };
     let opened = open::<L, HeldLines<'_>, Streamed<Counted<'_>, Brand>>(
         rt.alloc(),
         blank,
@@ -343,7 +399,7 @@ fn holds<L: ExchangeName + Send + Sync, R: AllocGlobal + Threads + Wait + Sync>(
     );
     match (opened, case) {
         (Some(two), Case::Row(row)) => is_so(rt, two, &row, writes),
-        (Some(two), Case::BesideRun) => is_settled_beside(rt, two, &hold, writes),
+        (Some(two), Case::Beside(held)) => is_settled_beside(rt, two, held, hold, writes),
         (None, _) => false,
     }
 }
@@ -365,13 +421,19 @@ fn holds_of<R: AllocGlobal + Threads + Wait + Sync>(
     let Ok(blank) = ExchangeBlank::new(alloc) else {
         return false;
     };
+    let hold = Hold::new();
     let writes = AtomicUsize::new(0);
     let writer = Counted {
         writes: &writes,
         fails_behind,
+        waits_behind: match case {
+            Case::Beside(Held::Writing) => Some(1),
+            _ => None,
+        },
+        hold: &hold,
     };
     let book = stream_on::<Counted<'_>, Brand>(alloc, book, writer);
-    holds::<Brand, R>(rt, blank, book, case, &writes)
+    holds::<Brand, R>(rt, blank, book, case, &hold, &writes)
 }
 
 #[test]
@@ -387,5 +449,10 @@ fn what_waits_is_written_at_once(rt: HostRuntime) {
 
 #[test]
 fn a_seat_is_settled_while_a_run_is_held(rt: HostRuntime) {
-    assert!(rt; holds_of(&rt, Case::BesideRun, None));
+    assert!(rt; holds_of(&rt, Case::Beside(Held::Running), None));
+}
+
+#[test]
+fn a_seat_whose_entries_stand_waits_for_no_writing(rt: HostRuntime) {
+    assert!(rt; holds_of(&rt, Case::Beside(Held::Writing), None));
 }

@@ -1,7 +1,7 @@
 use Rattle.std.proofs.Common.{◌∙◌, ◌++◌, ap, refl, sym, subst, length, length-append, true≢false, arith}
 use Rattle.batch_book.specs.History.{Starts}
 use Rattle.batch_book.specs.Places.{are_up_to}
-use Rattle.batch_book.specs.Recording.{made_in, noted, told_in}
+use Rattle.batch_book.specs.Recording.{made_in, noted, marked_in}
 use Rattle.batch_book.specs.Values.{greatest}
 use Rattle.batch_book.proofs.Noting.{asked, greatest_more, kept_more, made_append, told_more}
 use Rattle.batch_book.proofs.Places.{low_noted}
@@ -33,7 +33,7 @@ invariant_of-self g c =
     record {
       counted = omega (arith, counted, e.total, old.counted);
       kept = kept_more g.L.ExchangeName.earlier notes old.book _ c.args.session 0 c.args.call r step old.kept ∙ ap (λ ns. g.L.ExchangeName.earlier ++ made_in ns) (sym history);
-      told = subst (λ ns. Starts (g.L.ExchangeName.earlier ++ told_in ns) c.apply-made.new.book.stands) (sym history) (told_more g.L.ExchangeName.earlier notes old.book _ c.args.session 0 c.args.call r step old.told);
+      told = subst (λ ns. Starts (g.L.ExchangeName.earlier ++ marked_in ns) c.apply-made.new.book.stands) (sym history) (told_more g.L.ExchangeName.earlier notes old.book _ c.args.session 0 c.args.call r step old.told);
       opened = c.apply-made.ensures.opening ∙ old.opened;
       unstopped = c.apply-made.ensures.unstopped old.unstopped;
     }

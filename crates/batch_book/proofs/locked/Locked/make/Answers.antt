@@ -1,6 +1,6 @@
 use Rattle.std.proofs.Common.{◌++◌, ◌∙◌, ap, length, refl, sym, subst}
 use Rattle.batch_book.specs.History.{Starts}
-use Rattle.batch_book.specs.Recording.{made_in, told_in}
+use Rattle.batch_book.specs.Recording.{made_in, marked_in}
 use Rattle.batch_book.specs.Seats.{open_seat}
 use Rattle.batch_book.proofs.Noting.{asked_all, made_mark, told_all}
 use Rattle.batch_book.proofs.locked.Locked.make.Goals as goal
@@ -21,7 +21,7 @@ invariant_of-self g c =
     record {
       counted = ap length made ∙ old.counted;
       kept = old.kept ∙ ap (λ es. earlier ++ es) (sym made);
-      told = subst (λ ns. Starts (earlier ++ told_in ns) old.book.stands) (sym marked) (told_all earlier old.book.stands old.book.history notes _ (c.may_wait.ensures.all c.if-may_wait.false) old.kept);
+      told = subst (λ ns. Starts (earlier ++ marked_in ns) old.book.stands) (sym marked) (told_all earlier old.book.stands old.book.history notes _ (c.may_wait.ensures.all c.if-may_wait.false) old.kept);
       opened = old.opened;
       unstopped = old.unstopped;
     }

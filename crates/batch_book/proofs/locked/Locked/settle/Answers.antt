@@ -1,6 +1,6 @@
 use Rattle.std.proofs.Common.{◌++◌, ◌∙◌, ap, length, sym, subst}
 use Rattle.batch_book.specs.History.{AreUnstopped, Starts}
-use Rattle.batch_book.specs.Recording.{made_in, told_in}
+use Rattle.batch_book.specs.Recording.{made_in, marked_in}
 use Rattle.batch_book.proofs.Noting.{made_mark, told_all}
 use Rattle.batch_book.proofs.locked.Locked.settle.Goals as goal
 
@@ -17,7 +17,7 @@ invariant_of-self g c =
     record {
       counted = ap length made ∙ old.counted;
       kept = kept ∙ ap (λ es. earlier ++ es) (sym made);
-      told = subst (λ ns. Starts (earlier ++ told_in ns) book.stands) (sym marked) (told_all earlier book.stands book.history notes _ (ap (λ a. a.stands) same ∙ sym (ap (λ a. a.history) same)) kept);
+      told = subst (λ ns. Starts (earlier ++ marked_in ns) book.stands) (sym marked) (told_all earlier book.stands book.history notes _ (ap (λ a. a.stands) same ∙ sym (ap (λ a. a.history) same)) kept);
       opened = ap (λ a. a.opening) same ∙ old.opened;
       unstopped = λ never. subst (λ a. AreUnstopped a.history) (sym same) (old.unstopped never);
     }

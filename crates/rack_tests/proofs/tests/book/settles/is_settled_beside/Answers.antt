@@ -9,8 +9,8 @@ use Rattle.rack_tests.proofs.tests.book.settles.is_settled_beside.Goals as goal
 use denote.Param.{param}
 use denote.Param.Send.{sendable}
 
-pub join-is_run-requires-send-F : goal.join-is_run-requires-send-F
-join-is_run-requires-send-F g c κs within =
+pub join-is_done-requires-send-F : goal.join-is_run-requires-send-F
+join-is_done-requires-send-F g c κs within =
     let r = c.type_bounds.sync-R in
     let x = any_shared_sync (param 0 g.row.L) g.L.ExchangeName g.L.HistoryName g.L.Ledger
     MemoryPort.the_row (param 1 g.row.W) OpenGate.the_row (param 2 g.row.H) (param 4 g.row.W-Line) (param 5 g.row.H-Waiting) (param 6 g.row.H-Recorder)
