@@ -1,4 +1,4 @@
-use Rattle.std.proofs.Common.{◌∙◌, ◌+◌, ◌++◌, ◌∷◌, [], ap, sym, subst, refl, length, length-append, arith}
+use Rattle.std.proofs.Common.{◌∙◌, ◌++◌, ◌∷◌, [], ap, sym, subst, refl, length, length-append, arith}
 use Rattle.batch_book.specs.declared.limits.TheConstants.{BOOK_SIDE}
 use Rattle.batch_book.specs.History.{Starts, entry}
 use Rattle.batch_book.specs.Places.{notes_of}
