@@ -1,4 +1,4 @@
-//! What lies under the lock of the record.
+//! What lies under the lock of the record, and how a seat is settled.
 
 ghost use Rattle.std.specs.Prelude.{◌≡◌, ◌+◌, [], true, List, length, IsSome};
 ghost use Rattle.std.specs.Option.{option_map_or};
@@ -46,7 +46,8 @@ pub struct RecordSide<L: ExchangeName, H: History> {
 }
 
 impl<L: ExchangeName, H: History> RecordSide<L, H> {
-    /// Takes over all that waits, and writes it at once. Meanwhile others make calls.
+    /// Takes over all that waits, and writes it at once. Meanwhile others make calls. Where that
+    /// fails, or a writing failed before, no more stands than before.
     fn flush<R: Wait>(&mut self, rt: &R, waiting: &Mutex<Waiting<L, H>>) {
         if !self.recorder.is_whole() {
             return;
@@ -100,9 +101,9 @@ impl<L: ExchangeName, H: History> RecordSide<L, H> {
     }
 }
 
-/// Sees to it that all that the seat has asked can be told. Where its last entry doesn't stand yet
-/// the seat waits until another has written, and then writes all that waits, if that still has to
-/// be done.
+/// Sees to it that all that the seat has asked can be told. While another seat writes, one whose
+/// last entry doesn't stand sleeps. Then it writes all that waits, if that entry still doesn't stand
+/// and no writing has failed. `Err` where one has, or there was no memory to hand the entry on.
 pub fn settle<L: ExchangeName, H: History, R: Wait>(
     rt: &R,
     waiting: &Mutex<Waiting<L, H>>,
@@ -119,17 +120,17 @@ pub fn settle<L: ExchangeName, H: History, R: Wait>(
         unreachable!()
     };
     let last = place.last;
-    let mut waits = reached(rt, waiting, written, last);
-    let writes = waits.begin(last);
+    let mut side = reached(rt, waiting, written, last);
+    let writes = side.begin(last);
     if writes {
-        drop(waits);
+        drop(side);
         record.lock(rt).flush(rt, waiting);
-        waits = waiting.lock(rt);
-        waits.end();
+        side = waiting.lock(rt);
+        side.end();
     }
-    let (settled, place) = waits.settle(session, place);
+    let (settled, place) = side.settle(session, place);
     seat.place = Some(place);
-    drop(waits);
+    drop(side);
     if writes {
         written.notify_all();
     }
@@ -144,12 +145,12 @@ fn reached<'b, L: ExchangeName, H: History, R: Wait>(
     place: u64,
 ) -> MutexGuard<'b, Waiting<L, H>> {
     for _ in 0..TURNS {
-        let waits = waiting.lock(rt);
-        if !waits.is_behind(place) {
-            return waits;
+        let side = waiting.lock(rt);
+        if !side.has_to_sleep(place) {
+            return side;
         }
-        drop(waits);
+        drop(side);
         yield_now();
     }
-    written.wait_while(rt, waiting.lock(rt), |waits| waits.is_behind(place))
+    written.wait_while(rt, waiting.lock(rt), |side| side.has_to_sleep(place))
 }

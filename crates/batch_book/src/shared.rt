@@ -84,8 +84,8 @@ pub struct Shared<L: ExchangeName, P: ConfigPort, W: WireMaker, G, H: History = 
 pub(crate) enum Sides<L: ExchangeName, P: ConfigPort, W: WireMaker, G, H: History> {
     /// All under one, where the history writes all itself.
     One(Mutex<Locked<L, P, W, G, H>>),
-    /// The book, what waits, and the record; and what seats sleep at while another writes. Who has
-    /// the book's lock or the record's may wait for that of what waits. Nobody waits for one of those
+    /// The book, what waits, and the record; and where seats sleep while another writes. Who has the
+    /// book's lock or the record's may wait for that of what waits. Nobody waits for one of those
     /// two who has the other, or that of what waits.
     Each {
         book: Mutex<BookSide<L, P, W, G, H>>,
@@ -212,9 +212,9 @@ impl<L: ExchangeName, P: ConfigPort, W: WireMaker + Sync, G: Gate + Sync, H: His
     /// takes no lock. Where an entry is lost, or the text that waits found no memory, no more can be
     /// told to the seat than before.
     ///
-    /// Where the history lends its recorder one seat writes at a time, and others make calls meanwhile,
-    /// runs included. Who settles meanwhile sleeps until that one has written, and then may find that
-    /// its entries stand there.
+    /// Where the history lends its recorder one seat writes at a time, and others make calls
+    /// meanwhile, runs included. Who settles meanwhile sleeps until that one has written, unless all
+    /// of its own entries stand.
     pub fn settle<R: Wait>(&self, rt: &R, seat: &mut Seat<L>) -> Result<(), Unrecorded>
         requires { seat.old.exchange ≡ Some self.now.word }
         ensures settled { IsSettled seat.old result seat.new }

@@ -69,8 +69,8 @@ impl<L: ExchangeName, H: History> Waiting<L, H> {
         self.lost = true;
     }
 
-    /// Whether a seat writes, and entries up to this place may not stand yet.
-    pub fn is_behind(&self, place: u64) -> bool {
+    /// Whether a seat writes, and not all entries up to this place stand.
+    pub fn has_to_sleep(&self, place: u64) -> bool {
         self.writes && self.front < place
     }
 
@@ -138,8 +138,8 @@ impl<L: ExchangeName, H: History> Waiting<L, H> {
         (own, its)
     }
 
-    /// Hands all that waits over to the record's side: all entries that were handed on, and how many.
-    /// Their text changes places with the spare one.
+    /// Hands all that waits over to the record's side: all entries that were handed on, and how
+    /// many. Their text changes places with the spare one.
     pub fn hand_over(
         &mut self,
         own: OwnList<NotedEntry, L>,

@@ -289,6 +289,29 @@ fn is_run<L: ExchangeName, W: WireMaker + Sync, H: History, R: AllocGlobal + Thr
     said == Said::Ran(1, 1, 1) && shared.settle(rt, &mut seat).is_ok()
 }
 
+/// What the seat does before the step in which it is held.
+fn prepare<
+    L: ExchangeName,
+    W: WireMaker + Sync,
+    H: History,
+    R: AllocGlobal + Threads + Wait + Sync,
+>(rt: &R, shared: &Exchange<L, W, H>, seat: &mut Seat<L>, held: Held)
+    requires { seat.old.exchange ≡ Some shared.now.word }
+    ensures { seat.new.exchange ≡ seat.old.exchange }
+{
+    match held {
+        Held::Running => {
+            answer(rt, shared, seat, Ask::Submit(PUSH));
+            answer(rt, shared, seat, Ask::Settle(1, PUSH));
+        }
+        Held::Writing => {
+            goes_well(rt, shared, seat, Peek(0));
+            goes_well(rt, shared, seat, Settle(0));
+            goes_well(rt, shared, seat, Peek(0));
+        }
+    }
+}
+
 /// Whether the seat does that in which it is held.
 fn is_done<
     L: ExchangeName,
@@ -354,17 +377,7 @@ where
         mut second,
     } = two;
     answer(rt, &shared, &mut second, Ask::Peek(0, FIRST));
-    match held {
-        Held::Running => {
-            answer(rt, &shared, &mut first, Ask::Submit(PUSH));
-            answer(rt, &shared, &mut first, Ask::Settle(1, PUSH));
-        }
-        Held::Writing => {
-            goes_well(rt, &shared, &mut first, Peek(0));
-            goes_well(rt, &shared, &mut first, Settle(0));
-            goes_well(rt, &shared, &mut first, Peek(0));
-        }
-    }
+    prepare(rt, &shared, &mut first, held);
     let lent = &shared;
     let (is_done, is_settled) = join(
         rt,

@@ -9,7 +9,7 @@ use Rattle.rack_tests.proofs.tests.book.settles.is_settled_beside.Goals as goal
 use denote.Param.{param}
 use denote.Param.Send.{sendable}
 
-pub join-is_done-requires-send-F : goal.join-is_run-requires-send-F
+pub join-is_done-requires-send-F : goal.join-is_done-requires-send-F
 join-is_done-requires-send-F g c κs within =
     let r = c.type_bounds.sync-R in
     let x = any_shared_sync (param 0 g.row.L) g.L.ExchangeName g.L.HistoryName g.L.Ledger
