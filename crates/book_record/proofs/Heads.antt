@@ -137,7 +137,7 @@ pub counted : (names : List (List ℕ)) (n : ℕ) → AreNames names n → AreNa
 counted names n are = subst (AreNames names) (sym are.count) are
 
 -- so many are a number
-few_number : (n : ℕ) → n ≤ MAX_SESSIONS → IsNumber n
+pub few_number : (n : ℕ) → n ≤ MAX_SESSIONS → IsNumber n
 few_number n few = let least : n ≤ 16 = few in omega (arith, least)
 
 -- ---- one line

@@ -15,7 +15,7 @@ use std::alloc::{AllocError, Global};
 
 /// The first line of a record: the shape of its rack, the sum of the image of its opening words,
 /// and how many clients have names.
-fn rack_line(shape: Shape, sum: u32, names: usize) -> Line
+pub fn rack_line(shape: Shape, sum: u32, names: usize) -> Line
     requires { IsNumber names }
     ensures { result ≡ rack_line shape sum names }
 {

@@ -9,13 +9,13 @@
 //! same text (`laws::one_record`).
 //!
 //! [`head_text`] and [`read_head`] put and read the line `record MxKxW SUM N` and the N clients'
-//! names, exactly where they stand (`head_of` of `specs/Heads.antt`). [`sum_of`] makes the sum,
-//! which `laws::worked_sum` shows by an example. The sessions of a record are those of its named
-//! clients, where there are any ([`session_limit`]). [`read_begun`] reads an entry whose call
-//! stands there, or of whose call the text is a front, exactly where there is such, by one of these
-//! sessions (`HasBegun` of `specs/Fronts.antt`). A text has one reading at most, whole entries and
-//! a rest, and each front of the text of entries has one; the last line, for which [`is_ended`]
-//! looks, is such a rest (`laws::fronts`).
+//! names, exactly where they stand (`head_of` of `specs/Heads.antt`), and [`rack_line`] puts that
+//! line alone. [`sum_of`] makes the sum, which `laws::worked_sum` shows by an example. The sessions
+//! of a record are those of its named clients, where there are any ([`session_limit`]).
+//! [`read_begun`] reads an entry whose call stands there, or of whose call the text is a front,
+//! exactly where there is such, by one of these sessions (`HasBegun` of `specs/Fronts.antt`). A
+//! text has one reading at most, whole entries and a rest, and each front of the text of entries has
+//! one; the last line, for which [`is_ended`] looks, is such a rest (`laws::fronts`).
 //!
 //! A history may be a stream: the texts of entries wait in a buffer, and one write hands all of
 //! them to a writer before their replies are told. A [`StreamName`] says what the writer held as
@@ -42,7 +42,7 @@ mod written;
 
 pub use begun_entry::{BegunEntry, read_begun};
 pub use going::{stream_off, stream_on};
-pub use head::{head_text, is_ended, read_head, session_limit};
+pub use head::{head_text, is_ended, rack_line, read_head, session_limit};
 pub use naming::StreamName;
 pub use reading::read_entry;
 pub use streamed::Streamed;

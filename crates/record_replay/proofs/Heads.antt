@@ -1,5 +1,5 @@
 -- What the head of a record says of the rack.
-use Rattle.std.proofs.Common.{◌≡◌, ℕ, true, false, not, ◌&&◌, eq-eqb, List, [], ◌∷◌, ◌≤◌, ◌++◌, append_assoc, length, length-append, Option, None, refl, sym, ap, arith, ◌∙◌, subst}
+use Rattle.std.proofs.Common.{◌≡◌, ℕ, true, false, not, ◌&&◌, eq-eqb, List, [], ◌∷◌, ◌≤◌, ◌++◌, append_assoc, length, length-append, Option, None, Some, refl, sym, ap, arith, ◌∙◌, subst}
 use lib.Dec.{eqb}
 use Rattle.std.specs.Fmt.{decimal}
 use Rattle.batch.specs.Extent.{Extent, IsShape}
@@ -7,10 +7,10 @@ use Rattle.batch.specs.ShapeText.{shape_text}
 use Rattle.line_words.specs.HexWords.{IsWord}
 use Rattle.module_memory.specs.Images.{image_of}
 use Rattle.module_memory.specs.Store.{Store}
-use Rattle.book_record.specs.Heads.{AreNames, BeginsWithNoHead, adler, head_of}
+use Rattle.book_record.specs.Heads.{AreNames, BeginsWithNoHead, adler, head_of, rack_line}
 use Rattle.book_record.proofs.Heads.{counted, one_head}
 use Rattle.book_record.proofs.Sums.{sum_is_word}
-use Rattle.record_replay.specs.ReplayAnswers.{IsNoRecordOn, IsRecordOn, IsShapeOf}
+use Rattle.record_replay.specs.ReplayAnswers.{HasHead, IsHeadDue, IsNoRecordOn, IsRecordOn, IsShapeOf}
 
 -- what is read of a head
 abbrev IsRead : List ℕ → Extent → ℕ → ℕ → List ℕ → Type 0
@@ -48,19 +48,23 @@ spelled e a b c text is modules blocks words =
     is ∙ spelled_so (decimal a) (decimal b) (decimal c) ∙ ap (λ (n : ℕ). (((decimal n ++ 120 ∷ []) ++ decimal b) ++ 120 ∷ []) ++ decimal c) modules
     ∙ ap (λ (n : ℕ). (((decimal e.modules ++ 120 ∷ []) ++ decimal n) ++ 120 ∷ []) ++ decimal c) blocks ∙ ap (λ (n : ℕ). (((decimal e.modules ++ 120 ∷ []) ++ decimal e.blocks) ++ 120 ∷ []) ++ decimal n) words
 
+abbrev has_head : (recorded body : List ℕ) (e : Extent) (sum n : ℕ) → IsRead recorded e sum n body → HasHead recorded
+has_head recorded body e sum n read = record {
+  shape = e;
+  sum = sum;
+  names = read.2.0;
+  body = body;
+  allowed = read.0;
+  word = read.1;
+  are = counted read.2.0 n read.2.1;
+  head = read.2.2;
+}
+
 -- the shape is that of the head, where none is given
 pub shape_of_head : (shape : Option (List ℕ)) (recorded body text : List ℕ) (e : Extent) (sum n : ℕ) → shape ≡ None → IsRead recorded e sum n body → text ≡ shape_text e → IsShapeOf shape recorded text
 shape_of_head shape recorded body text e sum n none read is =
-    subst (λ (o : Option (List ℕ)). IsShapeOf o recorded text) (sym none) (
-      record {
-        shape = e;
-        sum = sum;
-        names = read.2.0;
-        body = body;
-        allowed = read.0;
-        word = read.1;
-        are = counted read.2.0 n read.2.1;
-        head = read.2.2;
-      },
-      is,
-    )
+    subst (λ (o : Option (List ℕ)). IsShapeOf o recorded text) (sym none) (has_head recorded body e sum n read, is)
+
+-- the first line that is due where a head stands
+pub line_due : (opening : Store) (recorded body line : List ℕ) (e : Extent) (sum n : ℕ) → IsRead recorded e sum n body → line ≡ rack_line opening.shape (adler (image_of opening)) n → IsHeadDue opening recorded (Some line)
+line_due opening recorded body line e sum n read is = (has_head recorded body e sum n read, is ∙ ap (rack_line opening.shape (adler (image_of opening))) (sym read.2.1.count))

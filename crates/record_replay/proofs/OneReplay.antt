@@ -10,7 +10,7 @@ use Rattle.batch_book.specs.declared.entry.Entry.{Entry}
 use Rattle.book_record.specs.Untold.{told_entry}
 use Rattle.rack_answers.specs.Openings.{IsRackOf, IsWrongRack}
 use Rattle.rack_answers.proofs.Openings.{not_wrong_rack, one_rack, one_wrong_rack, rack_blocks}
-use Rattle.book_record.specs.Heads.{BeginsWithNoHead, session_limit}
+use Rattle.book_record.specs.Heads.{BeginsWithNoHead, adler, rack_line, session_limit}
 use Rattle.book_record.proofs.Heads.{one_head}
 use Rattle.book_record.proofs.Sums.{sum_is_word}
 use Rattle.record_replay.specs.declared.fault.RecordError.{RecordError}
@@ -23,7 +23,7 @@ use Rattle.plan_answers.specs.Refusals.{Printed, Refuses, IsRefused}
 use Rattle.plan_answers.proofs.Printing.{printed_same, refused_same}
 use Rattle.record_replay.specs.declared.answering.Replayed.{Replayed}
 use Rattle.record_replay.specs.declared.answering.Torn.{Torn}
-use Rattle.record_replay.specs.ReplayAnswers.{IsBehindHead, IsOnlyTold, IsRecordAnswer, IsRecordOn, IsReplayAnswer, IsReplayPrinted, IsShapeOf, IsTornSo, RefusesHead, of_record, told_of, led, record_wrong, replayed, no_head, rack_wrong, other_head}
+use Rattle.record_replay.specs.ReplayAnswers.{IsBehindHead, IsHeadDue, IsOnlyTold, IsRecordAnswer, IsRecordOn, IsReplayAnswer, IsReplayPrinted, IsShapeOf, IsTornSo, RefusesHead, of_record, told_of, led, record_wrong, replayed, no_head, rack_wrong, other_head}
 
 -- ---- the head
 
@@ -42,6 +42,16 @@ one_body opening recorded b c m n shape p q =
     let word = sum_is_word (image_of opening) in
     let one = one_head opening.shape opening.shape _ _ p.names q.names b c shape shape word word p.are q.are (sym p.head ∙ q.head) in
     (one.rest, p.limited ∙ ap (λ (names : List (List ℕ)). session_limit (length names)) one.names ∙ sym q.limited)
+
+one_due : (opening : Store) (recorded : List ℕ) (d e : Option (List ℕ)) → IsHeadDue opening recorded d → IsHeadDue opening recorded e → d ≡ e
+one_due opening recorded None None a b = refl
+one_due opening recorded None (Some y) a b = absurd (headless recorded (shape_text b.0.shape) (b.0, refl) a)
+one_due opening recorded (Some x) None a b = absurd (headless recorded (shape_text a.0.shape) (a.0, refl) b)
+one_due opening recorded (Some x) (Some y) a b =
+    let h = a.0 in
+    let k = b.0 in
+    let one = one_head h.shape k.shape h.sum k.sum h.names k.names h.body k.body h.allowed k.allowed h.word k.word h.are k.are (sym h.head ∙ k.head) in
+    ap Some (a.1 ∙ ap (λ (names : List (List ℕ)). rack_line opening.shape (adler (image_of opening)) (length names)) one.names ∙ sym b.1)
 
 -- ---- what is told
 
@@ -112,11 +122,11 @@ same_record opening recorded body limit first p q u v s t all (record_wrong f m 
       torn = cut ∙ sym torn;
     }
 
-same_heads : (p q : Printed) (u v : Option RecordError) (s t : Option Torn) → RefusesHead p u s → RefusesHead q v t → Same p q u v s t
-same_heads p q u v s t a b = record {
+same_heads : (d e : Option (List ℕ)) (p q : Printed) (u v : Option RecordError) (s t : Option Torn) → d ≡ e → RefusesHead d p u s → RefusesHead e q v t → Same p q u v s t
+same_heads d e p q u v s t same a b = record {
   printed = same_refused refusal.RecordHead refusal.RecordHead p q refl a.refuses b.refuses;
   told =
-      ap told_of b.told_so ∙ same_told b.error a.error (b.fault ∙ sym a.fault) (b.offset ∙ sym a.offset) (ap (option_map (λ line. line.items)) (b.due ∙ sym a.due)) ∙ sym (ap told_of a.told_so);
+      ap told_of b.told_so ∙ same_told b.error a.error (b.fault ∙ sym a.fault) (b.offset ∙ sym a.offset) (b.due_is ∙ sym same ∙ sym a.due_is) ∙ sym (ap told_of a.told_so);
   torn = b.untorn ∙ sym a.untorn;
 }
 
@@ -138,13 +148,13 @@ same_answer shape recorded image first p q u v s t (replayed x b o m named rack 
 same_answer shape recorded image first p q u v s t (replayed x b o m named rack on a) (no_head none headless_too d) = absurd (headless recorded x (subst (λ (z : Option (List ℕ)). IsShapeOf z recorded x) none named) headless_too)
 same_answer shape recorded image first p q u v s t (replayed x b o m named rack on a) (rack_wrong y w other_named wrong d none cut) =
     absurd (not_wrong_rack x image o w rack (subst (λ (z : List ℕ). IsWrongRack z image w) (sym (one_shape_of shape recorded x y named other_named)) wrong))
-same_answer shape recorded image first p q u v s t (replayed x b o m named rack on a) (other_head y r other_named other_rack off d) =
+same_answer shape recorded image first p q u v s t (replayed x b o m named rack on a) (other_head y r g other_named other_rack off due d) =
     let rack_too : IsRackOf x image r = subst (λ (z : List ℕ). IsRackOf z image r) (sym (one_shape_of shape recorded x y named other_named)) other_rack in
     absurd (off b m (subst (λ (z : Store). IsRecordOn z recorded b m) (sym (one_rack x image o r rack rack_too)) on))
 same_answer shape recorded image first p q u v s t (no_head none headless_here a) (replayed y c r n other_named other_rack other_on d) = absurd (headless recorded y (subst (λ (z : Option (List ℕ)). IsShapeOf z recorded y) none other_named) headless_here)
-same_answer shape recorded image first p q u v s t (no_head none headless_here a) (no_head none_too headless_too d) = same_heads p q u v s t a d
+same_answer shape recorded image first p q u v s t (no_head none headless_here a) (no_head none_too headless_too d) = same_heads None None p q u v s t refl a d
 same_answer shape recorded image first p q u v s t (no_head none headless_here a) (rack_wrong y w other_named wrong d none_too cut) = absurd (headless recorded y (subst (λ (z : Option (List ℕ)). IsShapeOf z recorded y) none other_named) headless_here)
-same_answer shape recorded image first p q u v s t (no_head none headless_here a) (other_head y r other_named other_rack off d) = absurd (headless recorded y (subst (λ (z : Option (List ℕ)). IsShapeOf z recorded y) none other_named) headless_here)
+same_answer shape recorded image first p q u v s t (no_head none headless_here a) (other_head y r g other_named other_rack off due d) = absurd (headless recorded y (subst (λ (z : Option (List ℕ)). IsShapeOf z recorded y) none other_named) headless_here)
 same_answer shape recorded image first p q u v s t (rack_wrong x w named wrong a none cut) (replayed y c r n other_named other_rack other_on d) =
     absurd (not_wrong_rack y image r w other_rack (subst (λ (z : List ℕ). IsWrongRack z image w) (one_shape_of shape recorded x y named other_named) wrong))
 same_answer shape recorded image first p q u v s t (rack_wrong x w named wrong a none cut) (no_head none_too headless_too d) = absurd (headless recorded x (subst (λ (z : Option (List ℕ)). IsShapeOf z recorded x) none_too named) headless_too)
@@ -154,15 +164,18 @@ same_answer shape recorded image first p q u v s t (rack_wrong x w named wrong a
       told = none_told u v none absent;
       torn = whole ∙ sym cut;
     }
-same_answer shape recorded image first p q u v s t (rack_wrong x w named wrong a none cut) (other_head y r other_named other_rack off d) =
+same_answer shape recorded image first p q u v s t (rack_wrong x w named wrong a none cut) (other_head y r g other_named other_rack off due d) =
     absurd (not_wrong_rack y image r w other_rack (subst (λ (z : List ℕ). IsWrongRack z image w) (one_shape_of shape recorded x y named other_named) wrong))
-same_answer shape recorded image first p q u v s t (other_head x o named rack off a) (replayed y c r n other_named other_rack other_on d) =
+same_answer shape recorded image first p q u v s t (other_head x o e named rack off due a) (replayed y c r n other_named other_rack other_on d) =
     let rack_too : IsRackOf x image r = subst (λ (z : List ℕ). IsRackOf z image r) (sym (one_shape_of shape recorded x y named other_named)) other_rack in
     absurd (off c n (subst (λ (z : Store). IsRecordOn z recorded c n) (one_rack x image o r rack rack_too) other_on))
-same_answer shape recorded image first p q u v s t (other_head x o named rack off a) (no_head none headless_too d) = absurd (headless recorded x (subst (λ (z : Option (List ℕ)). IsShapeOf z recorded x) none named) headless_too)
-same_answer shape recorded image first p q u v s t (other_head x o named rack off a) (rack_wrong y w other_named wrong d none cut) =
+same_answer shape recorded image first p q u v s t (other_head x o e named rack off due a) (no_head none headless_too d) = absurd (headless recorded x (subst (λ (z : Option (List ℕ)). IsShapeOf z recorded x) none named) headless_too)
+same_answer shape recorded image first p q u v s t (other_head x o e named rack off due a) (rack_wrong y w other_named wrong d none cut) =
     absurd (not_wrong_rack x image o w rack (subst (λ (z : List ℕ). IsWrongRack z image w) (sym (one_shape_of shape recorded x y named other_named)) wrong))
-same_answer shape recorded image first p q u v s t (other_head x o named rack off a) (other_head y r other_named other_rack off_too d) = same_heads p q u v s t a d
+same_answer shape recorded image first p q u v s t (other_head x o e named rack off due a) (other_head y r g other_named other_rack off_too due_too d) =
+    let rack_too : IsRackOf x image r = subst (λ (z : List ℕ). IsRackOf z image r) (sym (one_shape_of shape recorded x y named other_named)) other_rack in
+    let there : IsHeadDue o recorded g = subst (λ (z : Store). IsHeadDue z recorded g) (one_rack x image o r rack rack_too) due_too in
+    same_heads e g p q u v s t (one_due o recorded e g due there) a d
 
 pub one_replay : (shape : Option (List ℕ)) (recorded : List ℕ) (image : Option (List ℕ)) (first : Option ℕ) (p : Printed) (told : Option RecordError) (torn : Option Torn) → IsReplayAnswer shape recorded image first p told torn
     → (q : Printed) → IsReplayPrinted shape recorded image first q → q ≡ p

@@ -8,7 +8,7 @@ use Rattle.module_memory.specs.Store.{Store}
 use Rattle.batch_book.specs.declared.entry.Entry.{Entry}
 use Rattle.batch_book.specs.Machine.{Machine}
 use Rattle.book_record.specs.Fronts.{end_line}
-use Rattle.book_record.specs.Heads.{AreNames, BeginsWithNoHead, IsHeadOf, head_of, session_limit}
+use Rattle.book_record.specs.Heads.{AreNames, BeginsWithNoHead, IsHeadOf, adler, head_of, rack_line, session_limit}
 use Rattle.record_replay.specs.declared.fault.RecordError.{RecordError}
 use Rattle.record_replay.specs.declared.fault.RecordFault.{RecordFault}
 use Rattle.record_replay.specs.declared.fault.RecordFault.TheVariants as record_fault
@@ -93,13 +93,21 @@ pub data IsRecordAnswer (opening : Store) (recorded body : List ℕ) (limit : �
 
 -- ---- the answer
 
--- the record's head is refused, at its beginning
-pub record RefusesHead (printed : Printed) (told : Option RecordError)
+-- Where a record begins with a head, this is the first line that the head of one on a rack that
+-- begins with this store has, by as many clients. Where it begins with none, no line is due.
+abbrev pub IsHeadDue : Store → List ℕ → Option (List ℕ) → Type 0
+IsHeadDue opening recorded None = BeginsWithNoHead recorded
+IsHeadDue opening recorded (Some line) =
+    (h : HasHead recorded)
+    × (line ≡ rack_line opening.shape (adler (image_of opening)) (length h.names))
+
+-- the record's head is refused, at its beginning, and this line is due there
+pub record RefusesHead (due : Option (List ℕ)) (printed : Printed) (told : Option RecordError)
     (torn : Option Torn) : Type 0 where
   pub error : RecordError
   pub fault : error.fault ≡ record_fault.Head
   pub offset : error.offset ≡ 0
-  pub due : error.due ≡ None
+  pub due_is : option_map (λ line. line.items) error.due ≡ due
   pub refuses : Refuses refusal.RecordHead printed
   pub told_so : told ≡ Some error
   pub untorn : torn ≡ None
@@ -115,14 +123,15 @@ pub data IsReplayAnswer (shape : Option (List ℕ)) (recorded : List ℕ) (image
       → IsRecordAnswer opening recorded body limit first
       (record { answer = printed; error = told; torn = torn })
       → IsReplayAnswer shape recorded image first printed told torn
-  no_head : shape ≡ None → BeginsWithNoHead recorded → RefusesHead printed told torn
+  no_head : shape ≡ None → BeginsWithNoHead recorded → RefusesHead None printed told torn
       → IsReplayAnswer shape recorded image first printed told torn
   rack_wrong : (text : List ℕ) (refusal : Refusal) → IsShapeOf shape recorded text
       → IsWrongRack text image refusal → Refuses refusal printed → told ≡ None → torn ≡ None
       → IsReplayAnswer shape recorded image first printed told torn
-  other_head : (text : List ℕ) (opening : Store) → IsShapeOf shape recorded text
-      → IsRackOf text image opening → IsNoRecordOn opening recorded
-      → RefusesHead printed told torn
+  other_head : (text : List ℕ) (opening : Store) (due : Option (List ℕ))
+      → IsShapeOf shape recorded text → IsRackOf text image opening
+      → IsNoRecordOn opening recorded → IsHeadDue opening recorded due
+      → RefusesHead due printed told torn
       → IsReplayAnswer shape recorded image first printed told torn
 
 -- that answer, whatever is told beside it

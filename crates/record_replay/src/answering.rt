@@ -1,15 +1,15 @@
 //! The command `replay`.
 
-ghost use Rattle.std.specs.Prelude.{◌≡◌, ◌⊎◌, ◌+◌, ◌<◌, ◌≤◌, ◌^◌, IfOk, IfErr, IfSome, IfNone, None, Some, length};
+ghost use Rattle.std.specs.Prelude.{◌≡◌, ◌⊎◌, ◌+◌, ◌<◌, ◌≤◌, ◌^◌, IfOk, IfErr, IfSome, IfNone, None, Some, length, option_map};
 ghost use Rattle.plan_answers.specs.Answers.{IsOnly};
 ghost use Rattle.plan_answers.specs.Lent.{bytes_of};
 ghost use Rattle.plan_answers.specs.Refusals.{Refuses};
 ghost use Rattle.book_record.specs.Heads.{BeginsWithNoHead};
 ghost use Rattle.record_replay.specs.Replays.{AreFewer};
-ghost use Rattle.record_replay.specs.ReplayAnswers.{IsBehindHead, IsNoRecordOn, IsOnlyTold, IsRecordAnswer, IsRecordOn, IsReplayAnswer, IsReplayPrinted, IsShapeOf, IsTornSo, RefusesHead, of_record};
+ghost use Rattle.record_replay.specs.ReplayAnswers.{IsBehindHead, IsHeadDue, IsNoRecordOn, IsOnlyTold, IsRecordAnswer, IsRecordOn, IsReplayAnswer, IsReplayPrinted, IsShapeOf, IsTornSo, RefusesHead, of_record};
 
 use crate::{RecordError, RecordFault, replay};
-use book_record::{is_ended, read_head, session_limit, sum_of};
+use book_record::{is_ended, rack_line, read_head, session_limit, sum_of};
 use exchange_limits::WorkerCount;
 use module_memory::Rack;
 use plan_answers::Answer;
@@ -64,17 +64,18 @@ fn unbegun(alloc: Global, refusal: Refusal) -> Result<Replayed, AllocError>
     })
 }
 
-/// The refusal of a record's head.
-fn unheaded(alloc: Global) -> Result<Replayed, AllocError>
+/// The refusal of a record's head, where this line of one is due.
+fn unheaded(alloc: Global, due: Option<Vec<u8>>) -> Result<Replayed, AllocError>
     ensures { IfOk result (λ replayed.
-        RefusesHead replayed.answer replayed.error replayed.torn) }
+        RefusesHead (option_map (λ line. line.items) due) replayed.answer replayed.error
+        replayed.torn) }
 {
     Ok(Replayed {
         answer: Answer::refused(alloc, Refusal::RecordHead)?,
         error: Some(RecordError {
             fault: RecordFault::Head,
             offset: 0,
-            due: None,
+            due,
         }),
         torn: None,
     })
@@ -120,6 +121,21 @@ fn body_on<'a>(rack: &Rack, recorded: &'a [u8]) -> Result<Option<(&'a [u8], usiz
         return Ok(None);
     }
     Ok(Some((body, session_limit(clients))))
+}
+
+/// The first line that the head of a record on this rack has, by as many clients as the record's
+/// names, where that has a head.
+fn head_due(alloc: Global, rack: &Rack, recorded: &[u8]) -> Result<Option<Vec<u8>>, AllocError>
+    ensures { IfOk result (λ due.
+        IsHeadDue rack.now recorded.now (option_map (λ line. line.items) due)) }
+{
+    let Some(head) = read_head(recorded) else {
+        return Ok(None);
+    };
+    let (_, _, clients, _) = head;
+    let image = rack.image()?;
+    let line = rack_line(rack.shape(), sum_of(image.as_slice()), clients);
+    Ok(Some(Vec::from_slice(alloc, line.as_bytes())?))
 }
 
 /// The error of what stands behind a head of so many bytes, as it is told of the whole record.
@@ -192,7 +208,7 @@ fn answer_texts<R: Threads + Sync>(
         (bytes_of image.entry) first replayed.answer replayed.error replayed.torn) }
 {
     let Some(text) = wanted_shape(alloc, shape, recorded)? else {
-        return unheaded(alloc);
+        return unheaded(alloc, None);
     };
     let rack = match read_rack(alloc, text.as_slice(), image) {
         Ok(rack) => rack,
@@ -202,7 +218,10 @@ fn answer_texts<R: Threads + Sync>(
         Some((body, limit)) => {
             answer_record(rt, alloc, rack, recorded, body, limit, first, workers)
         }
-        None => unheaded(alloc),
+        None => {
+            let due = head_due(alloc, &rack, recorded)?;
+            unheaded(alloc, due)
+        }
     }
 }
 

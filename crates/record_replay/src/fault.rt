@@ -52,7 +52,8 @@ pub struct RecordError {
     pub fault: RecordFault,
     /// How many of its bytes stand before that.
     pub offset: usize,
-    /// The line of the reply that is due there, with its line feed, where one is.
+    /// The line that is due there, with its line feed, where one is: that of a reply, or the first
+    /// of a head. Whoever has a whole head that is due puts all of it here.
     pub due: Option<Vec<u8>>,
 }
 

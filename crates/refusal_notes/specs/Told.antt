@@ -39,11 +39,11 @@ abbrev pub IsDueTold : (Quote → Wanted) → ℕ → Texts → LineNote → Typ
 IsDueTold wanted n texts note =
     (due : Quote) × IsQuoteOf (line_at texts.due.now n) due × IsRecordTold texts (wanted due) note
 
--- where no head is due, the first line of any is wanted there; else the line of that
+-- where nothing is due, the first line of any head is wanted there; else the line of what is due
 abbrev pub IsHeadTold : Texts → LineNote → Type 0
 IsHeadTold texts note =
     ((texts.due.now ≡ []) × IsRecordTold texts RecordHead note)
-    ⊎ ((texts.due.now ≢ []) × IsDueTold HeadLine (wrong_line texts) texts note)
+    ⊎ ((texts.due.now ≢ []) × IsDueTold (HeadLine texts.opening) (wrong_line texts) texts note)
 
 -- of these refusals a line is told, and of no other; a module that a board lacks is told otherwise
 abbrev pub IsLineTold : Refusal → Texts → Option LineNote → Type 0

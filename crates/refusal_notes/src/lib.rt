@@ -35,4 +35,4 @@ mod wanted;
 
 pub use listed::Listing;
 pub use second::{file_line, second_line, session_line};
-pub use told::{Named, Texts};
+pub use told::{Named, Opening, Texts};

@@ -10,7 +10,7 @@ use crate::pieces::Count::{Above, Blocks, Modules};
 use crate::pieces::Piece;
 use crate::pieces::Piece::{Number, Numbered, Text};
 use crate::quote::Quote;
-use crate::told::Named;
+use crate::told::{Named, Opening};
 use crate::wanted::Wanted;
 use batch::MAX_TRANSFERS;
 
@@ -101,9 +101,15 @@ impl<'a> LineNote<'a> {
                 Text(" comes after the last line; nothing may follow")],
             (_, Wanted::RecordHead) => &[Piece::Place, Text(": "), Piece::Quote,
                 Text(" doesn't begin a record of this rack; expected "), Piece::Wanted],
-            (_, Wanted::HeadLine(_)) => &[Piece::Place, Text(": "), Piece::Quote,
+            (_, Wanted::HeadLine(Opening::Resumed, _)) => &[Piece::Place, Text(": "), Piece::Quote,
                 Text("; this command's record has "), Piece::Wanted,
                 Text(" there: --resume takes the record's shape, words and clients, in its order")],
+            (_, Wanted::HeadLine(Opening::Zeros, _)) => &[Piece::Place, Text(": "), Piece::Quote,
+                Text("; this command's rack, whose words are 0, has "), Piece::Wanted,
+                Text(" there: --image takes the record's words, and --shape its shape")],
+            (_, Wanted::HeadLine(Opening::Image, _)) => &[Piece::Place, Text(": "), Piece::Quote,
+                Text("; this command's rack, with the words of --image, has "), Piece::Wanted,
+                Text(" there: --image takes the record's words, and --shape its shape")],
             _ => self.difference_sentence(),
         }
     }

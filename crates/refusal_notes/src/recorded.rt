@@ -38,7 +38,7 @@ pub(crate) fn note_of_head<'a>(texts: Texts<'a>) -> LineNote<'a>
     let number = line_behind(texts.recorded.text, texts.offset);
     note_wanting(
         texts,
-        Wanted::HeadLine(Quote::of(line_at(texts.due, number))),
+        Wanted::HeadLine(texts.opening, Quote::of(line_at(texts.due, number))),
     )
 }
 

@@ -23,6 +23,17 @@ pub struct Named<'a> {
     pub text: &'a [u8],
 }
 
+/// The rack of which the head of a record has to be.
+#[derive(Clone, Copy)]
+pub enum Opening {
+    /// That of sessions that go on with the record.
+    Resumed,
+    /// One on which the record is replayed, whose words are 0.
+    Zeros,
+    /// One on which it is replayed, whose words are those of an image.
+    Image,
+}
+
 /// What a command was asked: its texts and words, and what its answer found out. What it hasn't is
 /// as in [`Texts::NONE`].
 #[derive(Clone, Copy)]
@@ -39,9 +50,11 @@ pub struct Texts<'a> {
     pub recorded: Named<'a>,
     /// How many bytes of the record stand before what is wrong with it.
     pub offset: usize,
-    /// The line of the reply that is due there, with its line feed, or the whole head that is due;
-    /// nothing where none is.
+    /// The line of the reply that is due there, with its line feed, or what is due of the head, as
+    /// whole lines; nothing where nothing is.
     pub due: &'a [u8],
+    /// The rack of which the record's head has to be.
+    pub opening: Opening,
     /// The word of the rack's shape.
     pub shape: &'a str,
     /// The word of the settings to draw.
@@ -68,6 +81,7 @@ impl<'a> Texts<'a> {
         recorded: Named::NONE,
         offset: 0,
         due: &[],
+        opening: Opening::Resumed,
         shape: "",
         range: "",
         validity: Validity::Unknown,

@@ -7,6 +7,7 @@ use crate::forms::{self, English, Form};
 use crate::lines::{announced, line_at};
 use crate::listed::Listing;
 use crate::quote::Quote;
+use crate::told::Opening;
 use batch::MAX_MODULES;
 use c004_commands::PORTS;
 use crossbar::JOINED_MODULES;
@@ -41,8 +42,8 @@ pub(crate) enum Wanted<'a> {
     End,
     /// The first line of a record.
     RecordHead,
-    /// The line of a record's head that begins so.
-    HeadLine(Quote<'a>),
+    /// The line of the head of a record on this rack, which begins so.
+    HeadLine(Opening, Quote<'a>),
     /// The call of this entry of a record.
     Call(usize),
     /// The reply of this entry of a record, whose line begins so.
@@ -85,7 +86,7 @@ impl<'a> Wanted<'a> {
             Wanted::Sent => forms::SENT,
             Wanted::End
             | Wanted::RecordHead
-            | Wanted::HeadLine(_)
+            | Wanted::HeadLine(..)
             | Wanted::Call(_)
             | Wanted::Reply(..)
             | Wanted::RecordEnd => &[],
@@ -116,7 +117,7 @@ impl<'a> Display for Wanted<'a> {
     fn fmt<W: Write>(&self, f: &mut Formatter<W>) -> fmt::Result {
         match *self {
             Wanted::RecordHead => f.write_str(RECORD_HEAD),
-            Wanted::HeadLine(due) => due.fmt(f),
+            Wanted::HeadLine(_, due) => due.fmt(f),
             Wanted::Call(e) => {
                 write!(
                     f,

@@ -1,4 +1,5 @@
 use Rattle.std.proofs.Common.{◌≡◌, ℕ, List, None, Ok, Err, Result, IfOk, rules, subst, sym}
+use Rattle.std.specs.Prelude.{option_map}
 use Rattle.std.proofs.lemmas.Result.{IfOk-weaker}
 use Rattle.plan_answers.specs.Lent.{bytes_of}
 use Rattle.plan_answers.specs.Refusals.{Refuses}
@@ -13,7 +14,7 @@ all_three (Err e) P Q S R p q s f = tt
 pub returns-in_default : goal.returns-in_default
 returns-in_default g c =
     let none = rw c.in_default.is at c.in_ok-text.ensures.none in
-    IfOk-weaker c.unheaded.result (λ r. RefusesHead r.answer r.error r.torn) (λ r. IsReplayAnswer (bytes_of c.args.shape) c.args.recorded.now (bytes_of c.args.image) c.args.first r.answer r.error r.torn)
+    IfOk-weaker c.unheaded.result (λ r. RefusesHead None r.answer r.error r.torn) (λ r. IsReplayAnswer (bytes_of c.args.shape) c.args.recorded.now (bytes_of c.args.image) c.args.first r.answer r.error r.torn)
     (λ r heads. no_head none.0 none.1 heads) c.unheaded.ensures
 
 pub returns-in-Err : goal.returns-in-Err
@@ -39,5 +40,6 @@ pub returns : goal.returns
 returns g c =
     let text = c.as_slice.result.now in
     let named = subst (λ (t : List ℕ). IsShapeOf (bytes_of c.args.shape) c.args.recorded.now t) (sym c.as_slice.ensures.value) (rw c.in-Some.is at c.in_ok-text.ensures.some) in
-    IfOk-weaker c.unheaded-in-None.result (λ r. RefusesHead r.answer r.error r.torn) (λ r. IsReplayAnswer (bytes_of c.args.shape) c.args.recorded.now (bytes_of c.args.image) c.args.first r.answer r.error r.torn)
-    (λ r heads. other_head text c.in-Ok.rack named c.in-Ok.ensures.rack (rw c.in-None.is at c.in_ok-body.ensures.none) heads) c.unheaded-in-None.ensures
+    let due = option_map (λ line. line.items) c.in_ok-due-in-None.due in
+    IfOk-weaker c.unheaded-in-None.result (λ r. RefusesHead due r.answer r.error r.torn) (λ r. IsReplayAnswer (bytes_of c.args.shape) c.args.recorded.now (bytes_of c.args.image) c.args.first r.answer r.error r.torn)
+    (λ r heads. other_head text c.in-Ok.rack due named c.in-Ok.ensures.rack (rw c.in-None.is at c.in_ok-body.ensures.none) c.in_ok-due-in-None.ensures heads) c.unheaded-in-None.ensures
