@@ -16,7 +16,7 @@ use denote.Struct.Declared.{shape}
 past_send : IsSend PastEntries.the_row
 past_send = search rules
 
-waiting_send : IsSend WaitingText.the_row
+pub waiting_send : IsSend WaitingText.the_row
 waiting_send =
     let T = Inside.the_type in
     view_send Inside.the_row _ _ _ _

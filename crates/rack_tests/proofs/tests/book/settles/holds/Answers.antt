@@ -1,5 +1,5 @@
 use Rattle.std.proofs.Crossing.{crosses}
-use Rattle.rack_tests.proofs.Crossing.{waiting_send}
+use Rattle.book_record.proofs.Crossing.{waiting_send}
 use Rattle.rack_tests.proofs.tests.book.settles.holds.Goals as goal
 use denote.Param.Send.{sendable}
 
