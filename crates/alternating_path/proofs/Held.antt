@@ -18,16 +18,13 @@ use Rattle.batch.specs.Overlap.{transfer_at, no_transfer}
 use Rattle.alternating_path.specs.Ends.{link_at, end_link}
 use Rattle.alternating_path.specs.Colouring.{colour_at}
 use Rattle.link_graph.specs.Counts.{count_below, module_at, uses}
+use Rattle.link_graph.proofs.Sums.{count_below_same}
 use Rattle.alternating_path.specs.Counts.{uses_link, placed_uses}
 use Rattle.alternating_path.specs.Cells.{place_at, holder_at, AreCellsOf}
 use Rattle.alternating_path.proofs.Links.{place_low, same_end, same_link, place-link, uses_at, uses_within}
 use Rattle.alternating_path.proofs.Writes.{some_within}
 
 -- ---- counts of numbers that pass a test
-
-pub count_below_same : (n : ℕ) (p q : ℕ → Bool) → ((i : ℕ) → i < n → p i ≡ q i) → count_below n p ≡ count_below n q
-count_below_same zero p q same = refl
-count_below_same (suc n) p q same = rw (same n (omega arith)) (ap (λ m. cond (q n) 1 0 + m) (count_below_same n p q (λ i h. same i (omega arith))))
 
 pub count_below_none : (n : ℕ) (p : ℕ → Bool) → ((i : ℕ) → i < n → p i ≡ false) → count_below n p ≡ 0
 count_below_none zero p none = refl

@@ -15,11 +15,12 @@ use Rattle.link_graph.specs.declared.link.End.TheVariants.{Zero, Three}
 use Rattle.link_graph.specs.Certificates.{AreDistinct}
 use Rattle.alternating_path.specs.Colouring.{Colouring, colour_at}
 use Rattle.link_graph.specs.Counts.{count_below}
+use Rattle.link_graph.proofs.Sums.{sum_below, sum_below-add, sum_below_none, count_below_same}
 use Rattle.alternating_path.specs.Classes.{is_colour, class_size, placed_count, without_colour, IsSmallestClass, IsTakenBack}
 use Rattle.alternating_path.specs.Cells.{place_at, holder_at, AreCellsOf, StartBelow, AreStarts}
 use Rattle.alternating_path.proofs.Links.{answer_high}
 use Rattle.alternating_path.proofs.Writes.{some_within}
-use Rattle.alternating_path.proofs.Held.{count_below_same, as_many}
+use Rattle.alternating_path.proofs.Held.{as_many}
 
 -- ---- the transfers of a row
 
@@ -111,18 +112,6 @@ row_counts s c row starts =
     sym all ∙ (sym counted ∙ (sym matched ∙ sym tests))
 
 -- ---- a smallest class
-
-abbrev sum_below : ℕ → (ℕ → ℕ) → ℕ
-sum_below zero f = 0
-sum_below (suc n) f = f n + sum_below n f
-
-sum_below-add : (n : ℕ) (f g : ℕ → ℕ) → sum_below n (λ i. f i + g i) ≡ sum_below n f + sum_below n g
-sum_below-add zero f g = refl
-sum_below-add (suc n) f g = omega (arith, sum_below-add n f g)
-
-sum_below_none : (n : ℕ) → sum_below n (λ i. 0) ≡ 0
-sum_below_none zero = refl
-sum_below_none (suc n) = omega (arith, sum_below_none n)
 
 many_least : (k s : ℕ) (f : ℕ → ℕ) → ((d : ℕ) → d < k → s ≤ f d) → s * k ≤ sum_below k f
 many_least zero s f least = omega arith

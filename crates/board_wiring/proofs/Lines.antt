@@ -7,18 +7,15 @@ use Rattle.batch.specs.Text.{IsNumber, number, space, line_feed}
 use Rattle.batch.proofs.Lines.{Ends, ends_line, ends_space, one_number}
 use Rattle.c004_commands.specs.declared.port.TheConstants.{PORTS}
 use Rattle.crossbar.specs.declared.switch.TheConstants.{JOINED_MODULES}
+use Rattle.line_words.proofs.Numbers.{behind_word}
 use Rattle.board_wiring.specs.Faults.{AreModules, HasPorts, IsPort}
 use Rattle.board_wiring.specs.Modules.{are_wired}
 use Rattle.board_wiring.specs.Text.{links, line, lines_of, place}
 use Rattle.board_wiring.specs.declared.wired_module.WiredModule.{WiredModule}
 
--- what stands behind words is one
-pub behind_words : (bytes words a b : List ℕ) → bytes ≡ words ++ a → bytes ≡ words ++ b → a ≡ b
-behind_words bytes words a b p q = append_cancel_left words a b (sym p ∙ q)
-
 -- what stands behind a number is one, and so is the number
 pub behind_number : (bytes words : List ℕ) (n m e : ℕ) (a b : List ℕ) → Ends e → IsNumber n → IsNumber m → bytes ≡ words ++ (number n e ++ a) → bytes ≡ words ++ (number m e ++ b) → (n ≡ m) × (a ≡ b)
-behind_number bytes words n m e a b ends ln lm p q = one_number n m e a b ln lm ends (behind_words bytes words (number n e ++ a) (number m e ++ b) p q)
+behind_number bytes words n m e a b ends ln lm p q = one_number n m e a b ln lm ends (behind_word bytes words (number n e ++ a) (number m e ++ b) p q)
 
 -- ports and modules are numbers of a text
 port_number : (n : ℕ) → n < PORTS → IsNumber n
@@ -52,17 +49,17 @@ one_place (Some a) (Some b) e x y ends p q same =
     (ap (λ l. Some l) one.0, one.1)
 
 pub behind_place : (bytes words : List ℕ) (a b : Option ℕ) (e : ℕ) (x y : List ℕ) → Ends e → IsPort a → IsPort b → bytes ≡ words ++ (place a e ++ x) → bytes ≡ words ++ (place b e ++ y) → (a ≡ b) × (x ≡ y)
-behind_place bytes words a b e x y ends p q same other = one_place a b e x y ends p q (behind_words bytes words (place a e ++ x) (place b e ++ y) same other)
+behind_place bytes words a b e x y ends p q same other = one_place a b e x y ends p q (behind_word bytes words (place a e ++ x) (place b e ++ y) same other)
 
 -- `none` without the byte that ends it is no place
 pub not_ended : (bytes words rest more : List ℕ) (link : Option ℕ) (e : ℕ) (after : List ℕ) → bytes ≡ words ++ rest → rest ≡ codes "none" ++ more → ((x : List ℕ) → more ≢ e ∷ x) → bytes ≡ words ++ (place link e ++ after) → ⊥
-not_ended bytes words rest more None e after p q none same = none after (append_cancel_left (codes "none") more (e ∷ after) (sym q ∙ behind_words bytes words rest (place None e ++ after) p same))
-not_ended bytes words rest more (Some l) e after p q none same = never_none l e more after (sym q ∙ behind_words bytes words rest (place (Some l) e ++ after) p same)
+not_ended bytes words rest more None e after p q none same = none after (append_cancel_left (codes "none") more (e ∷ after) (sym q ∙ behind_word bytes words rest (place None e ++ after) p same))
+not_ended bytes words rest more (Some l) e after p q none same = never_none l e more after (sym q ∙ behind_word bytes words rest (place (Some l) e ++ after) p same)
 
 -- and so is what is neither `none` nor a link
 pub not_placed : (bytes words rest : List ℕ) (link : Option ℕ) (e : ℕ) (after : List ℕ) → bytes ≡ words ++ rest → ((x : List ℕ) → rest ≢ codes "none" ++ x) → ((n : ℕ) (x : List ℕ) → n < PORTS → rest ≢ codes "at " ++ (number n e ++ x)) → IsPort link → bytes ≡ words ++ (place link e ++ after) → ⊥
-not_placed bytes words rest None e after p none no_link port same = none (e ∷ after) (behind_words bytes words rest (place None e ++ after) p same)
-not_placed bytes words rest (Some l) e after p none no_link port same = no_link l after port (behind_words bytes words rest (place (Some l) e ++ after) p same ∙ at_link l e after)
+not_placed bytes words rest None e after p none no_link port same = none (e ∷ after) (behind_word bytes words rest (place None e ++ after) p same)
+not_placed bytes words rest (Some l) e after p none no_link port same = no_link l after port (behind_word bytes words rest (place (Some l) e ++ after) p same ∙ at_link l e after)
 
 -- ---- a line
 

@@ -1,5 +1,5 @@
 -- The modules of a wiring: one more, and those in front.
-use Rattle.std.proofs.Common.{◌≡◌, ◌<◌, ◌≤◌, ◌+◌, ◌-◌, ◌==◌, ◌&&◌, ◌||◌, ℕ, zero, suc, Bool, true, false, not, List, [], ◌∷◌, ◌++◌, length, take, get_or, Option, None, Some, refl, sym, ap, ap₂, ◌∙◌, subst, IsTrue, arith, append_assoc, nat_lt, nat_le}
+use Rattle.std.proofs.Common.{◌≡◌, ◌<◌, ◌≤◌, ◌+◌, ◌-◌, ◌==◌, ◌&&◌, ◌||◌, ℕ, zero, suc, Bool, true, false, not, List, [], ◌∷◌, ◌++◌, length, take, get_or, Option, None, Some, refl, sym, ap, ap₂, ◌∙◌, subst, IsTrue, arith, nat_lt, nat_le}
 use Rattle.std.specs.List.{AllByRecursion, list_any, list_all}
 use Rattle.std.proofs.lemmas.Bool.Decides.{nat_tests}
 use Rattle.std.proofs.lemmas.List.{append-nil, length_push, take_more}
@@ -8,29 +8,14 @@ use Rattle.std.proofs.lemmas.Grind.{flat_map-append}
 use Rattle.c004_commands.specs.declared.port.TheConstants.{PORTS}
 use Rattle.crossbar.specs.Boards.{are_distinct}
 use Rattle.crossbar.specs.declared.switch.TheConstants.{JOINED_MODULES}
+use Rattle.crossbar.proofs.Boards.{is_on, has_all, and_left, and_right, distinct_more, distinct_two}
 use Rattle.board_wiring.specs.Faults.{HasPorts, IsPort}
 use Rattle.board_wiring.specs.Modules.{given, given_links, all_given, are_rising, are_wired, behind_last, is_at, is_free_in, is_one}
 use Rattle.board_wiring.specs.declared.wired_module.WiredModule.{WiredModule}
 
--- whether a link stands among others
-abbrev pub is_on : ℕ → List ℕ → Bool
-is_on link links = list_any (λ other. other == link) links
-
--- whether the switch has the links
-abbrev pub has_all : List ℕ → Bool
-has_all links = list_all (λ link. nat_lt link PORTS) links
-
 -- whether one switch joins modules of these numbers
 abbrev pub are_joined : List WiredModule → Bool
 are_joined ms = list_all (λ on. nat_lt on.number JOINED_MODULES) ms
-
-pub and_left : (a b : Bool) → (a && b) ≡ true → a ≡ true
-and_left true b e = refl
-and_left false b e = e
-
-pub and_right : (a b : Bool) → (a && b) ≡ true → b ≡ true
-and_right true b e = e
-and_right false b e = absurd cc
 
 pub and_both : (a b : Bool) → a ≡ true → b ≡ true → (a && b) ≡ true
 and_both true b p q = q
@@ -114,27 +99,6 @@ pub few_modules : (ms : List WiredModule) → IsTrue (are_wired ms) → length m
 few_modules ms own = let up = goes_up 0 ms (wired_parts ms own).rising in omega (arith, up)
 
 -- ---- links
-
-same_test : (a b : ℕ) → (a == b) ≡ (b == a)
-same_test a b = grind arith
-
-regroup : (a b d e : Bool) → (not (a || (b || false)) && (d && not e)) ≡ ((not a && d) && not (b || e))
-regroup true b d e = refl
-regroup false true true e = refl
-regroup false true false e = refl
-regroup false false d e = refl
-
-distinct_more : (xs : List ℕ) (x : ℕ) → are_distinct (xs ++ x ∷ []) ≡ (are_distinct xs && not (is_on x xs))
-distinct_more [] x = refl
-distinct_more (y ∷ ys) x =
-    ap₂ (λ a d. not a && d) (list_any-append (λ other. other == y) ys (x ∷ [])) (distinct_more ys x)
-    ∙ ap (λ b. not (is_on y ys || (b || false)) && (are_distinct ys && not (is_on x ys))) (same_test x y)
-    ∙ regroup (is_on y ys) (y == x) (are_distinct ys) (is_on x ys)
-
-distinct_two : (xs : List ℕ) (x y : ℕ) → are_distinct (xs ++ x ∷ y ∷ []) ≡ ((are_distinct xs && not (is_on x xs)) && not (is_on y xs || ((x == y) || false)))
-distinct_two xs x y =
-    ap are_distinct (sym (append_assoc xs (x ∷ []) (y ∷ []))) ∙ distinct_more (xs ++ x ∷ []) y
-    ∙ ap₂ (λ a b. a && not b) (distinct_more xs x) (list_any-append (λ other. other == y) xs (x ∷ []))
 
 -- with one link more they are had and distinct just where it is free
 one_free : (p on : Bool) → ((true && (p && true)) && (true && not on)) ≡ ((p && not on) && (true && true))

@@ -11,11 +11,11 @@ use Rattle.crossbar.specs.Boards.{all_links, are_distinct, both_links, is_wiring
 use Rattle.crossbar.specs.Wired.{unwired}
 use Rattle.crossbar.specs.declared.module_links.ModuleLinks.{ModuleLinks}
 use Rattle.crossbar.specs.declared.switch.TheConstants.{JOINED_MODULES}
-use Rattle.crossbar.proofs.Boards.{are_wired as wiring_parts, never_one, one_link0, one_link3}
+use Rattle.crossbar.proofs.Boards.{are_wired as wiring_parts, never_one, one_link0, one_link3, and_left, and_right, has_all, is_on}
 use Rattle.board_wiring.specs.Modules.{given, given_links, all_given, are_rising, are_wired, behind_last, is_free_in, is_one}
 use Rattle.board_wiring.specs.declared.wired_module.WiredModule.{WiredModule}
 use Rattle.board_wiring.specs.Filling.{exchange, exchange_on, usual_links, usual_on}
-use Rattle.board_wiring.proofs.Modules.{and_both, and_left, and_right, distinct_front, has_all, has_room, is_on, last_ports, goes_up, width_few, wired_front, wired_more, wired_parts}
+use Rattle.board_wiring.proofs.Modules.{and_both, distinct_front, has_room, last_ports, goes_up, width_few, wired_front, wired_more, wired_parts}
 
 -- ---- wirings
 

@@ -11,9 +11,10 @@ use Rattle.board_wiring.specs.Lacks.{HasWaysOn, has_way}
 use Rattle.board_wiring.specs.Modules.{are_rising, behind_last, has_link0, has_link3}
 use Rattle.board_wiring.specs.declared.board.Board.{Board}
 use Rattle.board_wiring.specs.declared.wired_module.WiredModule.{WiredModule}
-use Rattle.board_wiring.proofs.Modules.{and_left, and_right, goes_up, wired_parts}
+use Rattle.board_wiring.proofs.Modules.{goes_up, wired_parts}
 use Rattle.crossbar.specs.Wired.{links_of}
 use Rattle.crossbar.specs.declared.board.BoardWiring.{BoardWiring}
+use Rattle.crossbar.proofs.Boards.{and_left, and_right}
 
 -- a module that is there, of which something holds, isn't behind the last
 below_last : (holds : WiredModule → Bool) (m l : ℕ) (ms : List WiredModule) → are_rising l ms ≡ true → list_any (λ on. on.number == m && holds on) ms ≡ true → m < behind_last l ms

@@ -39,7 +39,7 @@ one_reading bytes commands others rest left s t =
     let none = none_later g.later rest left s.partial g.bytes_are in
     (sym (append-nil commands) ∙ ap (λ later. commands ++ later) (sym none.0) ∙ sym g.others_are, none.1)
 
-AreCommands-append : (cs ds : List Command) → AreCommands cs → AreCommands ds → AreCommands (cs ++ ds)
+pub AreCommands-append : (cs ds : List Command) → AreCommands cs → AreCommands ds → AreCommands (cs ++ ds)
 AreCommands-append [] ds p q = q
 AreCommands-append (c ∷ cs) ds p q = (p.0, AreCommands-append cs ds p.1 q)
 

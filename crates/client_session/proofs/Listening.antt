@@ -3,12 +3,12 @@ use Rattle.std.proofs.Common.{◌≡◌, ℕ, List, [], ◌∷◌, ◌++◌, fla
 use Rattle.std.proofs.lemmas.Grind.{flat_map-append}
 use Rattle.std.specs.Io.KnownBytes.{Appends}
 use Rattle.refusals.specs.declared.refusal.Refusal.{Refusal}
+use Rattle.byte_streams.proofs.Carrying.{appends_none, appends_then}
 use Rattle.client_session.specs.Listening.{Told, Telling, Tells, TellsOfRefusals}
-use Rattle.client_session.proofs.Known.{Appends-nil, Appends-more}
 use Rattle.client_session.proofs.Lists.{every_append}
 
 pub tells_nothing : {MayTell : Refusal → List ℕ → Type 0} (a : Told) → TellsOfRefusals MayTell a a
-tells_nothing a = record { tellings = []; each = tt; appended = Appends-nil a.bytes; loan = refl }
+tells_nothing a = record { tellings = []; each = tt; appended = appends_none a.bytes; loan = refl }
 
 pub tells_one : {MayTell : Refusal → List ℕ → Type 0} {refusal : Refusal} {a b : Told} → Tells MayTell refusal a b → TellsOfRefusals MayTell a b
 tells_one {MayTell} {refusal} {a} {b} t = record {
@@ -25,7 +25,7 @@ tells_more {MayTell} {a} {b} {c} s t =
     record {
       tellings = s.tellings ++ t.tellings;
       each = every_append (λ x. MayTell x.refusal x.bytes) s.tellings t.tellings s.each t.each;
-      appended = subst (λ more. Appends a.bytes c.bytes more) (sym all) (Appends-more a.bytes b.bytes c.bytes (flat_map bytes_of s.tellings) (flat_map bytes_of t.tellings) s.appended t.appended);
+      appended = subst (λ more. Appends a.bytes c.bytes more) (sym all) (appends_then a.bytes b.bytes c.bytes (flat_map bytes_of s.tellings) (flat_map bytes_of t.tellings) s.appended t.appended);
       loan = t.loan ∙ s.loan;
     }
 

@@ -5,6 +5,7 @@ use Rattle.std.proofs.lemmas.List.{append_cancel_left, length_push, length-appen
 use Rattle.std.specs.Io.KnownBytes.{IsAtEnd}
 use Rattle.std.specs.List.{AllByRecursion}
 use Rattle.batch_book.specs.declared.entry.Entry.{Entry}
+use Rattle.byte_streams.proofs.Carrying.{appends_none, appends_then, consumes_none, consumes_then}
 use Rattle.client_session.specs.declared.input.InputFault.{InputFault}
 use Rattle.client_session.specs.declared.input.InputFault.TheVariants as input
 use Rattle.client_session.specs.declared.fault.ServeFault.{ServeFault}
@@ -19,7 +20,6 @@ use Rattle.client_session.specs.Seats.{SeatView, GoesOnFrom, seat_view}
 use Rattle.client_session.specs.Turns.{Turn, IsTurn, LostTurn, IsLostTurn, SessionGoesOn, lost_text, turn_text}
 use Rattle.client_session.specs.Sessions.{IsSession, IsPartialCommand, IsAllRecorded, IsBroken, IsCutOff, IsEndOfLastLine, IsHolding, IsWholeSession, RestAt, GoOn, MayEnd, HasEnded, HoldsAtEnd, GoesThrough, cuts_off, lines_of, lost_entries, lost_texts}
 use Rattle.client_session.specs.Steps.{AreTold, AreUntold, MayTell, TurnFails, TurnLost, TurnTaken, TurnStopped, of_input}
-use Rattle.client_session.proofs.Known.{Consumes-nil, Consumes-more, Appends-nil, Appends-more}
 use Rattle.client_session.proofs.Lists.{every-push}
 use Rattle.client_session.proofs.Doing.{stays, goes_on}
 use Rattle.client_session.proofs.Readings.{HaveShown, readings_later, readings_none, readings_push, shown_push}
@@ -49,9 +49,9 @@ Serving-none a w p h held e zero none = subst (Serving 1 a a w w p p h) (sym non
   bytes = [];
   entries = [];
   written = [];
-  consumed = Consumes-nil a;
+  consumed = consumes_none a;
   asked = sym (append-nil p.asked);
-  appended = Appends-nil w;
+  appended = appends_none w;
   is_so = record {
     holding = record {
       all = [];
@@ -97,7 +97,7 @@ Serving-read most a b c w v from to old new held p more = record {
   bytes = p.bytes ++ more.bytes;
   entries = p.entries;
   written = p.written;
-  consumed = Consumes-more a b c p.bytes more.bytes p.consumed more.consumed;
+  consumed = consumes_then a b c p.bytes more.bytes p.consumed more.consumed;
   asked = p.asked;
   appended = p.appended;
   is_so = let s = p.is_so in record {
@@ -158,7 +158,7 @@ Serving-told a b w v u from to next h held was p t = subst (λ (q : SeatView). S
   written = p.written ++ held;
   consumed = p.consumed;
   asked = p.asked;
-  appended = Appends-more w v u p.written held p.appended t.appended;
+  appended = appends_then w v u p.written held p.appended t.appended;
   is_so = record {
     holding = holding_told from to p.bytes h.pending p.entries p.written held was p.asked p.is_so.holding;
     few = λ all. omega arith;
@@ -235,7 +235,7 @@ passed_more a b c w v from to next old new held line ends IsSo p t so = record {
   bytes = p.bytes ++ t.bytes;
   entries = p.entries ++ t.turn.did.entries;
   written = p.written;
-  consumed = Consumes-more a b c p.bytes t.bytes p.consumed t.consumed;
+  consumed = consumes_then a b c p.bytes t.bytes p.consumed t.consumed;
   asked = t.did.asked ∙ ap (λ l. l ++ t.turn.did.entries) p.asked ∙ append_assoc from.asked p.entries t.turn.did.entries;
   appended = p.appended;
   is_so = so;
@@ -319,7 +319,7 @@ stopped_turn most e a b c w v from to next h held p t = subst (λ (q : SeatView)
   bytes = p.bytes ++ t.bytes;
   entries = p.entries;
   written = p.written;
-  consumed = Consumes-more a b c p.bytes t.bytes p.consumed t.consumed;
+  consumed = consumes_then a b c p.bytes t.bytes p.consumed t.consumed;
   asked = p.asked;
   appended = p.appended;
   is_so = stopped_as e c from to (p.bytes ++ t.bytes) (h.pending ++ t.bytes) p.entries p.written held
@@ -370,7 +370,7 @@ lost_turn most a b c w v from to next h held p few t =
       bytes = p.bytes ++ t.bytes;
       entries = p.entries ++ lost_entries (t.turn ∷ []);
       written = p.written;
-      consumed = Consumes-more a b c p.bytes t.bytes p.consumed t.consumed;
+      consumed = consumes_then a b c p.bytes t.bytes p.consumed t.consumed;
       asked = t.asked ∙ ap (λ l. l ++ t.turn.entries) p.asked ∙ append_assoc from.asked p.entries t.turn.entries ∙ ap (λ l. from.asked ++ (p.entries ++ l)) (sym more);
       appended = p.appended;
       is_so = broken from to next (p.bytes ++ t.bytes) t.rest held p.entries p.written (t.turn ∷ [])
@@ -432,7 +432,7 @@ untold Write a b w v u from to next held p was t =
       written = p.written ++ cut.front;
       consumed = p.consumed;
       asked = p.asked;
-      appended = Appends-more w v u p.written cut.front p.appended cut.appended;
+      appended = appends_then w v u p.written cut.front p.appended cut.appended;
       is_so = cut_off from to p.bytes p.is_so.0 p.entries p.written held cut.front cut.missing was p.asked cut.bytes_are t.1 t.3 h p.is_so.2;
     }
 untold Record a b w v u from to next held p was t =
@@ -533,7 +533,7 @@ told_last fault a b w v u from to next held is was p t = subst (λ (q : SeatView
   written = p.written ++ held;
   consumed = p.consumed;
   asked = p.asked;
-  appended = Appends-more w v u p.written held p.appended t.appended;
+  appended = appends_then w v u p.written held p.appended t.appended;
   is_so = ended_so fault b from to held p.bytes p.entries p.written is was p.asked p.is_so;
 }
 

@@ -3,8 +3,7 @@ use Rattle.std.proofs.Common.{◌≡◌, ℕ, ◌+◌, ◌≤◌, List, [], ◌�
 use Rattle.std.proofs.Math.Seq.{length-take-le}
 use Rattle.std.proofs.lemmas.List.{take_more, take-append-drop, length_push, length-append}
 use Rattle.std.proofs.lemmas.Grind.{flat_map-append}
-use Rattle.std.proofs.lemmas.Slice.{between_to_end}
-use Rattle.std.specs.List.{between}
+use Rattle.byte_streams.proofs.Carrying.{consumes_none, consumes_then}
 use Rattle.client_session.specs.Bytes.{PendingInput, HasLine, IsSessionLine, TakesIn}
 use Rattle.client_session.specs.Faults.{IsFaultAt}
 use Rattle.client_session.specs.declared.input.InputFault.{InputFault}
@@ -13,13 +12,6 @@ use Rattle.client_session.specs.declared.limits.TheConstants.{LINE_BYTES}
 use Rattle.client_session.specs.Replies.{with_feed}
 use Rattle.client_session.specs.Steps.{LinesTaken, PendingAt, of_input}
 use Rattle.client_session.proofs.Lists.{every-push}
-use Rattle.client_session.proofs.Known.{Consumes-nil, Consumes-more}
-
--- what is left behind the first n of the rest
-pub cut : (line front rest : List ℕ) (n : ℕ) → line ≡ front ++ rest → line ≡ (front ++ take n rest) ++ between n (length rest) rest
-cut line front rest n e =
-    e ∙ ap (λ l. front ++ l) (sym (take-append-drop n rest) ∙ ap (λ l. take n rest ++ l) (sym (between_to_end rest n (length rest) (omega arith))))
-    ∙ sym (append_assoc front (take n rest) _)
 
 -- a line with its line feed is the first n + 1 bytes
 pub line_front : (bytes : List ℕ) (n : ℕ) → HasLine bytes n → with_feed (take n bytes) ≡ take (n + 1) bytes
@@ -31,7 +23,7 @@ line_is bytes n has short = (has.2, omega (arith, length-take-le n bytes (omega 
 pub LinesTaken-none : (a : Option (List ℕ)) (h : PendingInput) (text : List ℕ) → LinesTaken a a h h text text 0
 LinesTaken-none a h text = record {
   bytes = [];
-  consumed = Consumes-nil a;
+  consumed = consumes_none a;
   lines = [];
   each = tt;
   count = refl;
@@ -43,7 +35,7 @@ LinesTaken-none a h text = record {
 pub LinesTaken-read : (a b c : Option (List ℕ)) (old mid new : PendingInput) (before after : List ℕ) (n : ℕ) → LinesTaken a b old mid before after n → TakesIn b c mid new → LinesTaken a c old new before after n
 LinesTaken-read a b c old mid new before after n t more = record {
   bytes = t.bytes ++ more.bytes;
-  consumed = Consumes-more a b c t.bytes more.bytes t.consumed more.consumed;
+  consumed = consumes_then a b c t.bytes more.bytes t.consumed more.consumed;
   lines = t.lines;
   each = t.each;
   count = t.count;

@@ -1,21 +1,21 @@
 -- How one read follows another.
 use Rattle.std.proofs.Common.{◌≡◌, ◌+◌, ◌<◌, ◌≤◌, ℕ, zero, suc, List, [], ◌++◌, length, Option, Some, None, Result, Ok, Err, IfOk, IfErr, MatchOption, subst, refl, sym, ap, ◌∙◌, append_assoc, append-nil, arith}
 use Rattle.std.proofs.lemmas.List.{length-append, nil_from_length}
+use Rattle.byte_streams.proofs.Carrying.{consumes_none, consumes_then}
 use Rattle.client_session.specs.declared.limits.TheConstants.{INPUT_BYTES, LINE_BYTES, MAX_READS}
 use Rattle.std.specs.Io.KnownBytes.{IsAtEnd}
 use Rattle.client_session.specs.declared.input.InputFault.{InputFault}
 use Rattle.client_session.specs.declared.input.InputFault.TheVariants.{Read, LineTooLong, Cut, Turns}
 use Rattle.client_session.specs.Bytes.{PendingInput, TakesIn, HasLine, IsSessionLine, fuel}
 use Rattle.client_session.specs.Faults.{HasBroughtNothing, IsFaultAt}
-use Rattle.client_session.proofs.Known.{Consumes-more, Consumes-nil}
 
 pub TakesIn-none : (a : Option (List ℕ)) (h : PendingInput) → TakesIn a a h h
-TakesIn-none a h = record { bytes = []; consumed = Consumes-nil a; kept = append-nil h.pending; reads = omega arith }
+TakesIn-none a h = record { bytes = []; consumed = consumes_none a; kept = append-nil h.pending; reads = omega arith }
 
 pub TakesIn-more : (a b c : Option (List ℕ)) (old mid new : PendingInput) → TakesIn a b old mid → TakesIn b c mid new → TakesIn a c old new
 TakesIn-more a b c old mid new t u = record {
   bytes = t.bytes ++ u.bytes;
-  consumed = Consumes-more a b c t.bytes u.bytes t.consumed u.consumed;
+  consumed = consumes_then a b c t.bytes u.bytes t.consumed u.consumed;
   kept = sym (append_assoc old.pending t.bytes u.bytes) ∙ ap (λ l. l ++ u.bytes) t.kept ∙ u.kept;
   reads = omega (arith, t.reads, u.reads, length-append t.bytes u.bytes);
 }

@@ -3,6 +3,7 @@ use Rattle.std.proofs.Common.{◌≡◌, ℕ, ◌+◌, ◌<◌, ◌≤◌, List,
 use Rattle.std.proofs.lemmas.List.{take-append-drop, length-append, length-drop}
 use Rattle.std.proofs.lemmas.Bool.{lt-ltb, le-ltb}
 use Rattle.batch.specs.declared.limits.TheConstants.{MAX_TRANSFERS}
+use Rattle.byte_streams.proofs.Carrying.{consumes_none}
 use Rattle.client_session.specs.declared.limits.TheConstants.{INPUT_BYTES, LINE_BYTES}
 use Rattle.client_session.specs.declared.command.SessionCommand.{SessionCommand}
 use Rattle.client_session.specs.declared.command.SessionCommand.TheVariants.{Batch, Plan, Run, Show, Drop, Peek, Poke, Progress, Bye}
@@ -16,7 +17,6 @@ use Rattle.batch_book.specs.declared.entry.Entry.{Entry}
 use Rattle.client_session.specs.Turns.{Submits, DoesCommand, IsBegun, SessionGoesOn, lines_after}
 use Rattle.client_session.specs.Sessions.{BeginsBatch, IsPartialCommand, RestAt}
 use Rattle.client_session.specs.Steps.{Acts, Breaks, LinesTaken, LinesStopped, PendingAt, StandsAlone, TurnFails, TurnLost, TurnTaken, TurnStopped}
-use Rattle.client_session.proofs.Known.{Consumes-nil}
 use Rattle.client_session.proofs.Taken.{line_front, line_is}
 
 pub fuel_skip : (old new : PendingInput) (k : ℕ) → new.pending ≡ drop (k + 1) old.pending → new.reads ≡ old.reads → k < length old.pending → fuel new < fuel old
@@ -30,7 +30,7 @@ front_is bytes n has = sym (take-append-drop (n + 1) bytes) ∙ ap (λ l. l ++ d
 pub stopped_at_once : (a : Option (List ℕ)) (old : PendingInput) (seat : SeatView) (n count : ℕ) → HasLine old.pending n → n ≤ LINE_BYTES → length old.pending ≤ INPUT_BYTES → BeginsBatch (take n old.pending) count → TurnStopped NoMemory a a old seat seat
 stopped_at_once a old seat n count has short room begins = record {
   bytes = [];
-  consumed = Consumes-nil a;
+  consumed = consumes_none a;
   same = refl;
   rest = record {
     head = take n old.pending;
@@ -188,7 +188,7 @@ alone_taken a old new from to n command line ends has short means alone rest sam
         does = done.is_so;
       };
       bytes = [];
-      consumed = Consumes-nil a;
+      consumed = consumes_none a;
       kept = append-nil old.pending ∙ front_is old.pending n has ∙ ap (λ l. with_feed (take n old.pending) ++ l) (sym rest) ∙ ap (λ l. l ++ new.pending) (sym (append-nil (with_feed (take n old.pending))));
       reads = omega (arith, same);
       did = done.did;
@@ -203,7 +203,7 @@ alone_lost e a old new from to n command has short means alone rest broken = los
   turn = record { head = take n old.pending; body = []; command = command; entries = broken.entries };
   is = record { head = line_is old.pending n has short; body = tt; means = means; whole = sym (none_after command alone); begun = broken.begun };
   bytes = [];
-  consumed = Consumes-nil a;
+  consumed = consumes_none a;
   rest = new.pending;
   kept = append-nil old.pending ∙ front_is old.pending n has ∙ ap (λ l. with_feed (take n old.pending) ++ l) (sym rest) ∙ ap (λ l. l ++ new.pending) (sym (append-nil (with_feed (take n old.pending))));
   goes_on = broken.goes_on;

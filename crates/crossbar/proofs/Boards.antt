@@ -15,7 +15,7 @@ abbrev pub is_on : ℕ → List ℕ → Bool
 is_on link links = list_any (λ other. other == link) links
 
 -- whether the switch has the links
-abbrev has_all : List ℕ → Bool
+abbrev pub has_all : List ℕ → Bool
 has_all links = list_all (λ link. nat_lt link PORTS) links
 
 same_test : (a b : ℕ) → (a == b) ≡ (b == a)
@@ -29,7 +29,7 @@ regroup false true true e = refl
 regroup false true false e = refl
 regroup false false d e = refl
 
-distinct_more : (xs : List ℕ) (x : ℕ) → are_distinct (xs ++ x ∷ []) ≡ (are_distinct xs && not (is_on x xs))
+pub distinct_more : (xs : List ℕ) (x : ℕ) → are_distinct (xs ++ x ∷ []) ≡ (are_distinct xs && not (is_on x xs))
 distinct_more [] x = refl
 distinct_more (y ∷ ys) x =
     ap₂ (λ a d. not a && d) (list_any-append (λ other. other == y) ys (x ∷ [])) (distinct_more ys x)
@@ -39,7 +39,7 @@ distinct_more (y ∷ ys) x =
 pub all_links_more : (ms : List ModuleLinks) (m : ModuleLinks) → all_links (ms ++ m ∷ []) ≡ all_links ms ++ m.link0 ∷ m.link3 ∷ []
 all_links_more ms m = flat_map-append both_links ms (m ∷ [])
 
-distinct_two : (xs : List ℕ) (x y : ℕ) → are_distinct (xs ++ x ∷ y ∷ []) ≡ ((are_distinct xs && not (is_on x xs)) && not (is_on y xs || ((x == y) || false)))
+pub distinct_two : (xs : List ℕ) (x y : ℕ) → are_distinct (xs ++ x ∷ y ∷ []) ≡ ((are_distinct xs && not (is_on x xs)) && not (is_on y xs || ((x == y) || false)))
 distinct_two xs x y =
     ap are_distinct (sym (append_assoc xs (x ∷ []) (y ∷ []))) ∙ distinct_more (xs ++ x ∷ []) y
     ∙ ap₂ (λ a b. a && not b) (distinct_more xs x) (list_any-append (λ other. other == y) xs (x ∷ []))
@@ -50,11 +50,11 @@ pub record AreWired (ms : List ModuleLinks) : Type 0 where
   pub had : has_all (all_links ms) ≡ true
   pub distinct : are_distinct (all_links ms) ≡ true
 
-and_left : (a b : Bool) → (a && b) ≡ true → a ≡ true
+pub and_left : (a b : Bool) → (a && b) ≡ true → a ≡ true
 and_left true b e = refl
 and_left false b e = e
 
-and_right : (a b : Bool) → (a && b) ≡ true → b ≡ true
+pub and_right : (a b : Bool) → (a && b) ≡ true → b ≡ true
 and_right true b e = e
 and_right false b e = absurd cc
 

@@ -95,7 +95,7 @@ ran_all come bytes reader start now h all commands rest s =
     h.switch ∙ ap (λ cs. after_all cs start) same
 
 -- whole commands leave no rest
-spells_whole : (bytes : List ℕ) (commands : List Command) → AreCommands commands → bytes ≡ text commands → Spells bytes commands []
+pub spells_whole : (bytes : List ℕ) (commands : List Command) → AreCommands commands → bytes ≡ text commands → Spells bytes commands []
 spells_whole bytes commands a e = record { whole = e ∙ sym (append-nil (text commands)); ports = a; partial = nothing_come }
 
 pub spells_conversation : (bytes : List ℕ) (replies : ℕ) (e : IsConversation bytes replies) → Spells bytes e.commands []

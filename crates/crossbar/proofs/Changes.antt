@@ -40,7 +40,7 @@ abbrev any : Wiring → List Pair → ℕ → Bool
 any w [] o = false
 any w (p ∷ ps) o = meets w o p || any w ps o
 
-abbrev In : Pair → List Pair → Type 0
+abbrev pub In : Pair → List Pair → Type 0
 In p [] = ⊥
 In p (q ∷ qs) = (q ≡ p) ⊎ In p qs
 
@@ -423,7 +423,7 @@ others_in_change b old new link o n free =
     (left_by b link (cut (Board b)) (left_cut b link free) new old o)
     (left_both link (map (join (Board b)) (without old new)) (Settle ∷ []) (left_by b link (join (Board b)) (left_join b link free) old new n) (left_settle link))
 
-without_none : (ps : List Pair) → without [] ps ≡ ps
+pub without_none : (ps : List Pair) → without [] ps ≡ ps
 without_none [] = refl
 without_none (p ∷ ps) = ap (λ t. p ∷ t) (without_none ps)
 

@@ -20,12 +20,13 @@ use Rattle.euler_split.specs.Split.{uses_among, IsSplit}
 use Rattle.euler_split.specs.Pairs.{module_in, modules_in}
 use Rattle.euler_split.specs.Walks.{partner_at, half_at, IsHalved}
 use Rattle.link_graph.specs.Masks.{has_pair}
+use Rattle.link_graph.proofs.Masks.{bit}
 use Rattle.euler_split.specs.Masks.{AreToggled}
 use Rattle.euler_split.specs.Trails.{pairs_of_module, AreHalved}
 use Rattle.euler_split.specs.Deals.{in_left, odd_among, differ, AreDealt}
 use Rattle.euler_split.specs.Evenness.{uses_pair, pair_count}
 use Rattle.euler_split.proofs.Modules.{known_transfer, module_is, module_in_low}
-use Rattle.euler_split.proofs.Masks.{bit, none_at, pairs_sum, pairs_toggled}
+use Rattle.euler_split.proofs.Masks.{none_at, pairs_sum, pairs_toggled}
 use Rattle.euler_split.proofs.Turns.{not-not, some_of}
 
 -- the left half tells partners apart

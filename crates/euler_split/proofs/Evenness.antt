@@ -1,5 +1,5 @@
 -- Pairs of links whose numbers of transfers are even, and the bits of these numbers.
-use Rattle.std.proofs.Common.{◌≡◌, ◌==◌, ℕ, ◌+◌, ◌*◌, ◌%◌, ◌<◌, ◌≤◌, ◌⊎◌, inl, inr, List, [], ◌∷◌, length, get_or, slice_index, set, take, replicate, All, Bool, true, false, ◌&&◌, cond, refl, sym, ap, ◌∙◌, arith, below_more, bit_or, get_or-set_same, get_or-set_other, length-set, w16, eq-eqb, ◌^◌, ◌/◌}
+use Rattle.std.proofs.Common.{◌≡◌, ◌==◌, ℕ, ◌+◌, ◌*◌, ◌%◌, ◌<◌, ◌≤◌, ◌⊎◌, inl, inr, List, [], ◌∷◌, length, get_or, slice_index, set, take, replicate, All, true, false, ◌&&◌, cond, refl, sym, ap, ◌∙◌, arith, below_more, bit_or, get_or-set_same, get_or-set_other, length-set, w16, eq-eqb, ◌^◌, ◌/◌}
 use Rattle.std.specs.Int.{bit_at, trailing_zeros}
 use Rattle.std.proofs.lemmas.Bool.{cases_lt, ne_eqb}
 use Rattle.std.proofs.lemmas.Bool.Decides.{eqb_tells}
@@ -11,12 +11,10 @@ use Rattle.batch.specs.declared.limits.TheConstants.{MAX_MODULES}
 use Rattle.batch.specs.declared.transfer.Transfer.{Transfer}
 use Rattle.batch.specs.Batches.{IsBatch}
 use Rattle.link_graph.specs.declared.link.End.TheVariants.{Zero, Three}
+use Rattle.link_graph.proofs.Masks.{bit}
 use Rattle.euler_split.specs.Pairs.{module_in}
 use Rattle.euler_split.specs.Evenness.{uses_pair, pair_count, ArePairCounts, HasBits, CanBeHalved}
 use Rattle.euler_split.proofs.Modules.{module_in_low}
-
-abbrev one : Bool → ℕ
-one b = cond b 1 0
 
 -- ---- the numbers of all pairs, in one list
 
@@ -36,7 +34,7 @@ module _ (batch : List Transfer) (whole counts : List ℕ) (n a b : ℕ) (n_in :
   abbrev now : List ℕ
   now = set counts place (slice_index counts place + 1)
 
-  one_more : (u v : ℕ) → pair_count batch (take (n + 1) whole) u v ≡ pair_count batch (take n whole) u v + one (uses_pair batch u v t)
+  one_more : (u v : ℕ) → pair_count batch (take (n + 1) whole) u v ≡ pair_count batch (take n whole) u v + bit (uses_pair batch u v t)
   one_more u v = rw (take_more whole n 0 n_in) (omega (arith, sum_by_push (λ y. cond (uses_pair batch u v y) 1 0) (take n whole) t))
 
   pub counted_more : ArePairCounts batch (take (n + 1) whole) now
@@ -48,15 +46,15 @@ module _ (batch : List Transfer) (whole counts : List ℕ) (n a b : ℕ) (n_in :
           | inl p ↦ elim (eqb_tells (module_in batch Three t) v) [
             | inl q ↦
                 let here : u * MAX_MODULES + v ≡ place = omega (arith, p.1, q.1, zero_is, three_is) in
-                let bit : one (uses_pair batch u v t) ≡ 1 = rw (p.0, q.0) refl in
-                omega (arith, one_more u v, bit, old, ap (λ (i : ℕ). slice_index counts i) here, ap (λ (i : ℕ). get_or now i 0) here, get_or-set_same counts place (slice_index counts place + 1) 0 (omega (arith, so_far.places, a_in, b_in)))
+                let found : bit (uses_pair batch u v t) ≡ 1 = rw (p.0, q.0) refl in
+                omega (arith, one_more u v, found, old, ap (λ (i : ℕ). slice_index counts i) here, ap (λ (i : ℕ). get_or now i 0) here, get_or-set_same counts place (slice_index counts place + 1) 0 (omega (arith, so_far.places, a_in, b_in)))
             | inr q ↦
-                let bit : one (uses_pair batch u v t) ≡ 0 = rw (p.0, q.0) refl in
-                omega (arith, one_more u v, bit, old, get_or-set_other counts place (u * MAX_MODULES + v) (slice_index counts place + 1) 0 (λ same. q.1 (omega (arith, same, p.1, zero_is, three_is))))
+                let found : bit (uses_pair batch u v t) ≡ 0 = rw (p.0, q.0) refl in
+                omega (arith, one_more u v, found, old, get_or-set_other counts place (u * MAX_MODULES + v) (slice_index counts place + 1) 0 (λ same. q.1 (omega (arith, same, p.1, zero_is, three_is))))
           ]
           | inr p ↦
-              let bit : one (uses_pair batch u v t) ≡ 0 = rw p.0 refl in
-              omega (arith, one_more u v, bit, old, get_or-set_other counts place (u * MAX_MODULES + v) (slice_index counts place + 1) 0 (λ same. p.1 (omega (arith, same, u_in, v_in, a_in, b_in, zero_is))))
+              let found : bit (uses_pair batch u v t) ≡ 0 = rw p.0 refl in
+              omega (arith, one_more u v, found, old, get_or-set_other counts place (u * MAX_MODULES + v) (slice_index counts place + 1) 0 (λ same. p.1 (omega (arith, same, u_in, v_in, a_in, b_in, zero_is))))
         ];
   }
 
@@ -83,13 +81,13 @@ none_past batch (t ∷ ts) u v fits known past =
       | inl far ↦ rw (ne_eqb (module_in batch Zero t) u (λ e. omega (arith, e, far, module_in_low batch Zero t fits t_in))) refl
       | inr far ↦ rw (ne_eqb (module_in batch Three t) v (λ e. omega (arith, e, far, module_in_low batch Three t fits t_in))) (elim (module_in batch Zero t == u) as (λ b. (b && false) ≡ false) [ true ↦ refl | false ↦ refl ])
     ] in
-    omega (arith, sum_by-cons (λ y. one (uses_pair batch u v y)) t ts, ap one away, none_past batch ts u v fits (All-tail (λ x. x < length batch) t ts known) past)
+    omega (arith, sum_by-cons (λ y. bit (uses_pair batch u v y)) t ts, ap bit away, none_past batch ts u v fits (All-tail (λ x. x < length batch) t ts known) past)
 
 none_without_pairs : (batch : List Transfer) (ts : List ℕ) → ((u v : ℕ) → pair_count batch ts u v ≡ 0) → ts ≡ []
 none_without_pairs batch [] none = refl
 none_without_pairs batch (t ∷ ts) none =
     let here : uses_pair batch (module_in batch Zero t) (module_in batch Three t) t ≡ true = rw (eq-eqb (module_in batch Zero t) (module_in batch Zero t) refl, eq-eqb (module_in batch Three t) (module_in batch Three t) refl) refl in
-    absurd (omega (arith, sum_by-cons (λ y. one (uses_pair batch (module_in batch Zero t) (module_in batch Three t) y)) t ts, ap one here, none (module_in batch Zero t) (module_in batch Three t)))
+    absurd (omega (arith, sum_by-cons (λ y. bit (uses_pair batch (module_in batch Zero t) (module_in batch Three t) y)) t ts, ap bit here, none (module_in batch Zero t) (module_in batch Three t)))
 
 module _ (batch : List Transfer) (ts counts : List ℕ) (bits : ℕ) (fits : IsBatch batch) (known : All (λ t. t < length batch) ts) (counted : ArePairCounts batch ts counts) (has : HasBits counts (length counts) bits) where
   bits_below : (u v i : ℕ) → bit_at bits i ≡ 0 → bit_at (pair_count batch ts u v) i ≡ 0

@@ -11,10 +11,11 @@ use Rattle.batch.specs.declared.limits.TheConstants.{MAX_MODULES}
 use Rattle.batch.specs.declared.transfer.Transfer.{Transfer}
 use Rattle.euler_split.specs.Split.{IsSplit}
 use Rattle.link_graph.specs.Masks.{has_pair}
+use Rattle.link_graph.proofs.Masks.{bit, no_pair}
 use Rattle.euler_split.specs.Trails.{AreHalved}
 use Rattle.euler_split.specs.Deals.{AreDealt}
 use Rattle.euler_split.specs.Evenness.{uses_pair, pair_count, CanBeHalved, HaveSamePairs}
-use Rattle.euler_split.proofs.Masks.{bit, no_pair, none_at}
+use Rattle.euler_split.proofs.Masks.{none_at}
 use Rattle.euler_split.proofs.Dealt.{is_split}
 
 -- the transfers of a pair in two parts

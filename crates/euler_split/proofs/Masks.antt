@@ -1,30 +1,16 @@
--- Bits of masks, and how many pairs there are at a link.
-use Rattle.std.proofs.Common.{◌≡◌, ◌==◌, ℕ, zero, suc, ◌+◌, ◌<◌, ltb, List, get_or, replicate, Bool, false, not, ◌&&◌, cond, refl, sym, ◌∙◌, arith}
+-- How many pairs there are at a link.
+use Rattle.std.proofs.Common.{◌≡◌, ◌==◌, ℕ, zero, suc, ◌+◌, ◌<◌, ltb, List, get_or, Bool, false, not, ◌&&◌, cond, refl, sym, ◌∙◌, arith}
 use Rattle.std.proofs.lemmas.Bool.Decides.{nat_tests}
-use Rattle.std.proofs.lemmas.Grind.{elements}
-use Rattle.std.proofs.lemmas.List.{get_or_past}
-use Rattle.std.proofs.lemmas.Nat.Bits.{bit_at-zero}
 use Rattle.batch.specs.declared.limits.TheConstants.{MAX_MODULES}
 use Rattle.link_graph.specs.declared.link.End.{End}
 use Rattle.link_graph.specs.declared.link.End.TheVariants.{Zero, Three}
 use Rattle.link_graph.specs.Counts.{count_below}
 use Rattle.link_graph.specs.Masks.{has_pair}
+use Rattle.link_graph.proofs.Masks.{empty_mask, bit}
 use Rattle.euler_split.specs.Masks.{AreMirrored}
 use Rattle.euler_split.specs.Trails.{pairs_of_module, end_of}
 
--- ---- masks
-
-pub empty_mask : (masks : List ℕ) (u v : ℕ) → get_or masks u 0 ≡ 0 → has_pair masks u v ≡ false
-empty_mask masks u v empty = grind (arith, bit_at-zero v)
-
-pub no_pair : (n u v : ℕ) → has_pair (replicate n 0) u v ≡ false
-no_pair n u v = empty_mask (replicate n 0) u v (grind (arith, elements, get_or_past {X = ℕ} (replicate n 0) u 0))
-
 -- ---- counts
-
--- whether it counts
-abbrev pub bit : Bool → ℕ
-bit b = cond b 1 0
 
 count_sum : (n : ℕ) (p q r s : ℕ → Bool) → ((i : ℕ) → bit (p i) + bit (q i) ≡ bit (r i) + bit (s i)) → count_below n p + count_below n q ≡ count_below n r + count_below n s
 count_sum zero p q r s h = refl

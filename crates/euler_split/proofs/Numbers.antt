@@ -4,12 +4,8 @@ use Rattle.std.proofs.lemmas.Bool.{cases_eq, cases_lt}
 use Rattle.std.proofs.lemmas.List.Elements.{All-head, All-tail}
 use Rattle.std.proofs.lemmas.List.Sums.{sum_by-cons}
 use Rattle.link_graph.specs.Certificates.{AreDistinct}
-use Rattle.link_graph.proofs.Sums.{hit, hit_same}
+use Rattle.link_graph.proofs.Sums.{hit, hit_same, sum_below}
 use Rattle.link_graph.proofs.Once.{standings, once_from_distinct, stands_from_count}
-
-abbrev sum_below : ℕ → (ℕ → ℕ) → ℕ
-sum_below zero f = 0
-sum_below (suc n) f = f n + sum_below n f
 
 one_hit : (n x : ℕ) → x < n → 1 ≤ sum_below n (λ t. hit t x)
 one_hit zero x lt = absurd (omega arith)

@@ -8,9 +8,10 @@ use Rattle.link_graph.specs.declared.link.End.{End}
 use Rattle.link_graph.specs.declared.link.End.TheVariants.{Zero, Three}
 use Rattle.link_graph.specs.Links.{other_end}
 use Rattle.link_graph.specs.Masks.{has_pair}
+use Rattle.link_graph.proofs.Masks.{bit, empty_mask, no_pair}
 use Rattle.euler_split.specs.Masks.{AreToggled}
 use Rattle.euler_split.specs.Trails.{end_of, pairs_of_module, IsEvenAt, AreEven, no_surplus, is_left_next, walk_surplus, AreHalved}
-use Rattle.euler_split.proofs.Masks.{bit, empty_mask, no_pair, none_at, none_zero, pairs_toggled}
+use Rattle.euler_split.proofs.Masks.{none_at, none_zero, pairs_toggled}
 
 -- ---- a pair is taken
 

@@ -4,6 +4,7 @@ use Rattle.std.proofs.Common.{◌≡◌, ◌∙◌, ◌↔◌, ap, sym, inl, inr
 use Rattle.std.specs.Prelude.{◌≤◌, MatchOption, find, option_and_then, slice_get}
 use Rattle.std.specs.Str.{bytes_eq}
 use Rattle.std.specs.Str.Parse.{IsNumeral, digits_value, without_leading_plus}
+use Rattle.std.proofs.lemmas.Option.{same_Some}
 use Rattle.clap.specs.Words.{Row, Text, IsAmong, one_of, subcommand_of}
 use Rattle.clap.specs.Walk.{row_text}
 use Rattle.clap.specs.Values.{kind_of}
@@ -47,11 +48,8 @@ numeral id last rows None (Some n) a b = absurd (no_numeral (one_of id rows) las
 numeral id last rows (Some m) None a b = absurd (no_numeral (one_of id rows) last m (no_value (find (λ r. bytes_eq r.id id) rows) b) a)
 numeral id last rows (Some m) (Some n) a b = ap Some (one_value (one_of id rows) last m n a b)
 
-number : (m n : ℕ) → Some m ≡ Some n → m ≡ n
-number m n same = cc
-
 workers : (rows : List Row) (m n : ℕ) → HasWorkers rows m → HasWorkers rows n → m ≡ n
-workers rows m n a b = number m n (numeral _ _ rows (Some m) (Some n) a.0 b.0)
+workers rows m n a b = same_Some m n (numeral _ _ rows (Some m) (Some n) a.0 b.0)
 
 flag : (P : Type 0) (a b : Bool) → (IsTrue a ↔ P) → (IsTrue b ↔ P) → a ≡ b
 flag P true true x y = refl
@@ -110,7 +108,7 @@ job_of_rows rows (Switch f s i w) other same x y = absurd (let bad = same in cc)
 job_of_rows rows (Orders f s m w) (Orders g t n v) same x y = rw (text _ f g x.0 y.0, sourced rows s t x.1 y.1, numeral _ _ rows m n x.2 y.2, workers rows w v x.3 y.3) refl
 job_of_rows rows (Orders f s m w) other same x y = absurd (let bad = same in cc)
 job_of_rows rows (Drive f p o s i k l w) (Drive g q r t j m n v) same x y =
-    rw (text _ f g x.0 y.0, text _ p q x.1 y.1, sym x.2 ∙ y.2, sourced rows s t x.3 y.3, sym x.4 ∙ y.4, number k m (numeral _ _ rows (Some k) (Some m) x.5 y.5), flag _ l n x.6 y.6, workers rows w v x.7 y.7) refl
+    rw (text _ f g x.0 y.0, text _ p q x.1 y.1, sym x.2 ∙ y.2, sourced rows s t x.3 y.3, sym x.4 ∙ y.4, same_Some k m (numeral _ _ rows (Some k) (Some m) x.5 y.5), flag _ l n x.6 y.6, workers rows w v x.7 y.7) refl
 job_of_rows rows (Drive f p o s i k l w) other same x y = absurd (let bad = same in cc)
 job_of_rows rows C004 C004 same x y = refl
 job_of_rows rows C004 other same x y = absurd (let bad = same in cc)

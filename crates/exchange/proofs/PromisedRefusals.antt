@@ -1,7 +1,7 @@
 -- The promise at status 1.
 use Rattle.std.proofs.Common.{◌≡◌, ◌∙◌, ℕ, List, Option, Some, None, inl, inr, ◌⊎◌, refl, sym, ap, subst, arith}
 use Rattle.batch.proofs.OneReading as batch_reading
-use Rattle.batch.proofs.Shapes.{one_shape}
+use Rattle.batch.proofs.Shapes.{one_shape, widest_shape}
 use Rattle.batch.specs.Extent.{Extent, IsShape, widest}
 use Rattle.batch.specs.Overlap.{IsApart}
 use Rattle.batch.specs.Text.{Denotes}
@@ -22,7 +22,6 @@ use Rattle.move_directions.proofs.OneReading as moves_reading
 use Rattle.plan_answers.proofs.OneDrawing.{read_right}
 use Rattle.plan_answers.proofs.OneSource.{from_right, right_denoted, right_or_wrong}
 use Rattle.plan_answers.proofs.OneVerdict.{one_verdict}
-use Rattle.plan_answers.proofs.Widest.{widest_fits}
 use Rattle.plan_answers.specs.Answers as answers
 use Rattle.plan_answers.specs.Answers.{IsFirstWrong, shortest_line}
 use Rattle.plan_answers.specs.Directing as directing
@@ -108,7 +107,7 @@ checks_right text other transfers count refusal denotes shown wrong =
       certificate = shown.certificate;
       counted = shown.counted;
     }) refl refl in
-    let same : refuses ≡ line = one_verdict widest widest_fits text other line refuses is (answers.refused refusal wrong (record { line = refl; status = refl })) in
+    let same : refuses ≡ line = one_verdict widest widest_shape text other line refuses is (answers.refused refusal wrong (record { line = refl; status = refl })) in
     done_is REFUSED (ap (λ (p : Printed). p.status) same) refl
 
 of_apart : (shape : Extent) → IsShape shape → (from : Source (List ℕ)) (text : List ℕ) (one other : List Transfer) → AreRight from shape text one → AreRight from shape text other → IsApart one → IsApart other
@@ -125,14 +124,14 @@ runs_right from shape text image refusal can (run_wrong extent transfers denotes
     of_apart extent denotes.allowed from text can.batch transfers (subst (λ (e : Extent). AreRight from e text can.batch) (one_shape shape can.extent extent can.shaped denotes) can.right) right can.apart over.0 over.1 over.2.overlap
 
 orders_right : (from : Source (List ℕ)) (text : List ℕ) (transfers : List Transfer) (refusal : Refusal) → AreRight from widest text transfers → IsApart transfers → (IsWrongFrom from widest text refusal ⊎ IsFirstOverlapIn from text refusal) → ⊥
-orders_right from text transfers refusal right apart (inl wrong) = right_or_wrong from widest widest_fits text transfers refusal right wrong
-orders_right from text transfers refusal right apart (inr over) = of_apart widest widest_fits from text transfers over.0 right over.3 apart over.1 over.2 over.4.overlap
+orders_right from text transfers refusal right apart (inl wrong) = right_or_wrong from widest widest_shape text transfers refusal right wrong
+orders_right from text transfers refusal right apart (inr over) = of_apart widest widest_shape from text transfers over.0 right over.3 apart over.1 over.2 over.4.overlap
 
 not_right : (job : Job) (texts : Files (List ℕ)) (refusal : Refusal) → IsFirstWrongIn job texts refusal → AreRightTexts job texts → ⊥
-not_right (Plan file planning workers) texts refusal wrong right = batch_reading.apart widest widest_fits (text_in texts.list) right.0 wrong.0 right.1 wrong.1
+not_right (Plan file planning workers) texts refusal wrong right = batch_reading.apart widest widest_shape (text_in texts.list) right.0 wrong.0 right.1 wrong.1
 not_right (Check batch schedule) texts refusal wrong right = checks_right (text_in texts.list) (text_in texts.other) right.0 right.1 refusal right.2 right.3 wrong
 not_right (Draw batch schedule chosen) texts refusal wrong right = drawings_right (text_in texts.list) (text_in texts.other) chosen refusal right wrong
-not_right (Prices batch schedule) texts refusal wrong right = read_right widest widest_fits (text_in texts.list) (text_in texts.other) right.0 right.1 refusal right.2 wrong
+not_right (Prices batch schedule) texts refusal wrong right = read_right widest widest_shape (text_in texts.list) (text_in texts.other) right.0 right.1 refusal right.2 wrong
 not_right (SwitchJob batch scheduled wiring workers) texts refusal wrong right = switches_right (source_in scheduled (text_in texts.other)) (text_in texts.list) texts.wiring refusal right wrong
 not_right (Orders batch scheduled only workers) texts refusal wrong right = orders_right (source_in scheduled (text_in texts.other)) (text_in texts.list) right.0 refusal right.1 right.2 wrong
 not_right (Direct moves) texts refusal wrong right = moves_reading.apart (text_in texts.list) right.0 wrong.0 right.1 wrong.1

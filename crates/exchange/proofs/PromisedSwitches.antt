@@ -27,13 +27,9 @@ use Rattle.exchange.specs.Promises.{HasOrdered, HasSwitched, HoldsGiven, IsSched
 use Rattle.exchange.specs.Responses.{source_in, text_in}
 use Rattle.exchange.specs.declared.limits.TheConstants.{UNWRITTEN}
 use Rattle.link_graph.specs.Schedules.{IsScheduleOf}
-use Rattle.module_memory.specs.Core.{IsComplete, setting_of}
-use Rattle.module_memory.specs.Settings.{IsRun, after_steps}
-use Rattle.module_memory.specs.Store.{Store}
+use Rattle.module_memory.proofs.StepLists.{any_run}
 use Rattle.module_orders.proofs.Obeyed.{obeyed_is_placed, run_is_obeyed}
-use Rattle.module_orders.proofs.Steps.{led_by}
 use Rattle.module_orders.proofs.Told.{text_tells}
-use Rattle.module_orders.specs.Obeying.{AreAllWords}
 use Rattle.module_orders.specs.Orders.{orders_of, told_to}
 use Rattle.module_orders.specs.OrdersText.{orders_text}
 use Rattle.plan_answers.proofs.PlanText.{plan_can_say}
@@ -159,20 +155,6 @@ few_settings : (from : Source Text) (other : Option (List ℕ)) (text : List ℕ
 few_settings (source.Plan planning) other text batch settings fits is = (plan_can_say planning batch settings is.1.0 fits is.1.1).settings_fit.count
 few_settings (source.Text file) other text batch settings fits is = is.texts.schedule_read.can_say.settings_fit.count
 
--- all words can pass in some order
-some_steps : (n words : ℕ) → (steps : List ℕ) × AreAllWords n words steps
-some_steps n zero = ([], record { known = λ k d lt. absurd (omega (arith, lt)); all = λ i lt. refl })
-some_steps n (suc words) = let led = led_by n (suc words) 0 (omega arith) in (led.0, led.1)
-
--- so a run of any settings leads somewhere
-some_run : (opening s : Store) (batch : List Transfer) (settings : List (List ℕ)) → (left : Store) × IsRun opening s batch settings left
-some_run opening s batch [] = (s, refl)
-some_run opening s batch (numbers ∷ settings) =
-    let steps = some_steps (length (setting_of batch numbers)) s.shape.words in
-    let all : IsComplete (setting_of batch numbers) s.shape.words steps.0 = record { known = steps.1.known; complete = steps.1.all } in
-    let rest = some_run opening (after_steps opening s batch numbers steps.0).store batch settings in
-    (rest.0, (steps.0, all, rest.1))
-
 ordered : (run : Run) (batch : Text) (from : Source Text) (only : Option ℕ) (text : List ℕ) (other : Option (List ℕ)) (printed : Printed)
     → run.holds batch text → HoldsGiven run.holds (schedule_in from) other → run.prints printed.text → printed.status ≡ DONE
     → IsOrdered (source_in from (text_in other)) only text printed → HasOrdered run batch from only
@@ -191,7 +173,7 @@ ordered run batch from only text other printed held held_schedule prints status 
       apart = apart;
       schedule = schedule;
       obeyed = λ opening left whole places are. obeyed_is_placed transfers settings opening left (record { apart = apart; schedule = valid; whole = whole; places = places }) are;
-      can = λ opening whole places. let some = some_run opening opening transfers settings in (some.0, run_is_obeyed transfers settings opening some.0 (record { apart = apart; schedule = valid; whole = whole; places = places }) some.1);
+      can = λ opening whole places. let some = any_run opening opening transfers settings in (some.0, run_is_obeyed transfers settings opening some.0 (record { apart = apart; schedule = valid; whole = whole; places = places }) some.1);
       tells = text_tells transfers settings only fits valid (few_settings from other text transfers settings fits is);
       prints = subst run.prints told prints;
     }

@@ -28,10 +28,6 @@ front_fits rest r = omega (arith, row_fits r.command, ap length r.row_is, length
 pub nothing_whole : (rest : List ℕ) → IsCommandFront rest → Spells rest [] rest
 nothing_whole rest front = record { whole = refl; ports = tt; partial = front }
 
--- nothing has come of a command
-pub nothing_begun : IsCommandFront []
-nothing_begun = record { command = Settle; ports = tt; next = 3; more = []; row_is = refl }
-
 -- a byte that ends no command stands behind what had come
 pub more_begun : (rest left : List ℕ) (byte : ℕ) (given : Option Command) → given ≡ None → IsCommandFront rest → GoesOn rest byte given left → left ≡ rest ++ byte ∷ []
 more_begun rest left byte None is front on = sym (on rest [] (nothing_whole rest front)).whole

@@ -1,5 +1,5 @@
 -- Parts of one length, one behind the other: bytes in the midst of them.
-use Rattle.std.proofs.Common.{◌≡◌, ◌<◌, ◌≤◌, ◌+◌, ◌*◌, ℕ, zero, suc, List, [], ◌∷◌, ◌++◌, get_or, length, take, drop, set, sym, ap, ap₂, ◌∙◌, arith, append_assoc, length-append}
+use Rattle.std.proofs.Common.{◌≡◌, ◌<◌, ◌≤◌, ◌+◌, ◌*◌, ℕ, zero, suc, List, [], ◌∷◌, ◌++◌, get_or, length, take, drop, set, sym, ap, ap₂, ◌∙◌, arith, append_assoc}
 use Rattle.std.specs.List.{flat_map}
 use Rattle.std.proofs.lemmas.List.{take-append-le, drop-append-le}
 use Rattle.std.proofs.Math.Seq.{take-append-add, drop-append-add}
@@ -7,13 +7,6 @@ use Rattle.std.proofs.Math.Seq.{take-append-add, drop-append-add}
 -- bytes with others at a place
 abbrev pub put_at : List ℕ → ℕ → List ℕ → List ℕ
 put_at bytes place more = take place bytes ++ more ++ drop (place + length more) bytes
-
-pub parts_length : {X : Type 0} (f : X → List ℕ) (n : ℕ) (xs : List X) (d : X) → ((i : ℕ) → i < length xs → length (f (get_or xs i d)) ≡ n) → length (flat_map f xs) ≡ n * length xs
-parts_length f n [] d h = omega arith
-parts_length f n (x ∷ xs) d h =
-    let first : length (f x) ≡ n = h 0 (omega arith) in
-    let others : length (flat_map f xs) ≡ n * length xs = parts_length f n xs d (λ (i : ℕ) l. h (suc i) (omega arith)) in
-    length-append (f x) (flat_map f xs) ∙ omega (arith, first, others)
 
 -- bytes put within the first part, and behind it
 put_first : (part rest more : List ℕ) (j : ℕ) → j + length more ≤ length part → put_at (part ++ rest) j more ≡ put_at part j more ++ rest

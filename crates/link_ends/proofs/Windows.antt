@@ -16,7 +16,7 @@ use Rattle.module_memory.specs.declared.address.TheConstants.{WINDOW_START, WORD
 use Rattle.module_memory.specs.declared.fault.MemoryFault.{MemoryFault}
 use Rattle.module_memory.specs.declared.fault.MemoryFault.TheVariants.{NoModule as RackNoModule, Misaligned as RackMisaligned, Outside as RackOutside}
 use Rattle.module_memory.proofs.Addresses.{windows_are_whole}
-use Rattle.module_memory.proofs.Images.{block_bytes, part_at}
+use Rattle.module_memory.proofs.Images.{block_bytes, part_at, parts_length}
 use Rattle.peek_poke.specs.Blocks.{then_do}
 use Rattle.peek_poke.specs.Housed.{Housed}
 use Rattle.peek_poke.specs.Windows.{unless}
@@ -24,7 +24,7 @@ use Rattle.peek_poke.specs.declared.fault.StoreFault.{StoreFault}
 use Rattle.peek_poke.specs.declared.fault.StoreFault.TheVariants.{Misaligned, Outside}
 use Rattle.link_ends.specs.Laws.{WindowsAreMemory, module_bytes, own_blocks}
 use Rattle.link_ends.specs.Memory.{byte_place, word_from, with_word_from}
-use Rattle.link_ends.proofs.Parts.{parts_length, part_put, put_at}
+use Rattle.link_ends.proofs.Parts.{part_put, put_at}
 
 -- ---- where there is a word
 

@@ -15,3 +15,4 @@ pub mod Sharing
 pub mod Once
 pub mod OneFault
 pub mod Masks
+pub mod UserCounts

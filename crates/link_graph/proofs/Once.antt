@@ -5,6 +5,7 @@ use Rattle.std.specs.List.{concat}
 use Rattle.std.proofs.lemmas.Bool.Decides.{eqb_tells}
 use Rattle.std.proofs.lemmas.List.Elements.{All-append, All-contains, All-head, All-tail, All-nil, All-cons, Contains-get_or}
 use Rattle.std.proofs.lemmas.List.Sums.{sum_by-cons, sum_by-append}
+use Rattle.std.proofs.lemmas.Bool.{cases_lt}
 use Rattle.batch.specs.declared.transfer.Transfer.{Transfer}
 use Rattle.batch.proofs.Lists.{at_cons}
 pub use Rattle.batch.proofs.Lists.{count_of as standings}
@@ -44,6 +45,12 @@ once_from_distinct t (x ∷ xs) distinct stands =
       | inl e ↦ omega (arith, standings-cons t x xs, hit_same t x e, none_stands t xs (subst (λ (v : ℕ). All (λ u. v ≢ u) xs) e others))
       | inr rest ↦ omega (arith, standings-cons t x xs, hit_other t x (λ e. All-contains (λ u. x ≢ u) xs t others rest e), once_from_distinct t xs (later (λ a b. a ≢ b) x xs distinct) rest)
     ]
+
+pub at_most_once : (xs : List ℕ) (u : ℕ) → AreDistinct xs → standings u xs ≤ 1
+at_most_once xs u distinct = elim (cases_lt 0 (standings u xs)) [
+  | inl some ↦ omega (arith, once_from_distinct u xs distinct (stands_from_count u xs some))
+  | inr none ↦ omega arith
+]
 
 one_standing : (t : ℕ) (xs : List ℕ) (i d : ℕ) → i < length xs → get_or xs i d ≡ t → 0 < standings t xs
 one_standing t [] i d lt at = absurd (omega arith)

@@ -51,13 +51,13 @@ pub record Further (before : List ℕ) (x : ℕ) (other : List ℕ) : Type 0 whe
   pub more : List ℕ
   pub list : other ≡ before ++ x ∷ more
 
-abbrev cons : ℕ → List ℕ → List ℕ
+abbrev pub cons : ℕ → List ℕ → List ℕ
 cons x xs = x ∷ xs
 
 head_same : (x y : ℕ) (xs ys : List ℕ) → cons x xs ≡ cons y ys → x ≡ y
 head_same x y xs ys e = cc
 
-tail_same : (x y : ℕ) (xs ys : List ℕ) → cons x xs ≡ cons y ys → xs ≡ ys
+pub tail_same : (x y : ℕ) (xs ys : List ℕ) → cons x xs ≡ cons y ys → xs ≡ ys
 tail_same x y xs ys e = cc
 
 further_cons : (c d x : ℕ) (b other : List ℕ) → c ≡ d → Further b x other → Further (c ∷ b) x (d ∷ other)

@@ -127,7 +127,7 @@ shared_no_matching batch setting link matching s =
 
 -- ---- the table of a setting
 
-in_rack : (batch : List Transfer) (t : ℕ) (link : Link) → IsBatch batch → Uses batch t link → link.«module» < MAX_MODULES
+pub in_rack : (batch : List Transfer) (t : ℕ) (link : Link) → IsBatch batch → Uses batch t link → link.«module» < MAX_MODULES
 in_rack batch t link b used = subst (λ (m : ℕ). m < MAX_MODULES) (at_used batch t link used.0 used.1 used) (module_fits link.end used.0 (modules_of batch t used.0 used.1 b))
 
 -- the first place with a count above 1

@@ -1,10 +1,11 @@
--- Sums over two lists.
-use Rattle.std.proofs.Common.{◌≡◌, ◌≢◌, ℕ, ◌+◌, ◌≤◌, suc, List, [], ◌∷◌, length, refl, sym, arith}
+-- Sums over lists and over numbers below one.
+use Rattle.std.proofs.Common.{◌≡◌, ◌≢◌, ℕ, ◌+◌, ◌≤◌, suc, List, [], ◌∷◌, length, refl, sym, arith, zero, ◌<◌, Bool, cond, ap}
 use Rattle.std.specs.Prelude.{sum_by, AllPairs, All}
 use Rattle.batch.proofs.Lists.{one_same, one_other}
 pub use Rattle.batch.proofs.Lists.{one as hit}
 use Rattle.std.specs.List.{AllByRecursion}
 use Rattle.std.proofs.lemmas.List.Sums.{sum_by-cons}
+use Rattle.link_graph.specs.Counts.{count_below}
 
 pub sum_zero : {B : Type 0} (ys : List B) → sum_by (λ (b : B). 0) ys ≡ 0
 sum_zero [] = refl
@@ -56,3 +57,21 @@ hit_same t u e = one_same t u (sym e)
 
 pub hit_other : (t u : ℕ) → u ≢ t → hit t u ≡ 0
 hit_other t u ne = one_other t u (λ e. ne (sym e))
+
+-- ---- sums and counts below a number
+
+abbrev pub sum_below : ℕ → (ℕ → ℕ) → ℕ
+sum_below zero f = 0
+sum_below (suc n) f = f n + sum_below n f
+
+pub sum_below-add : (n : ℕ) (f g : ℕ → ℕ) → sum_below n (λ i. f i + g i) ≡ sum_below n f + sum_below n g
+sum_below-add zero f g = refl
+sum_below-add (suc n) f g = omega (arith, sum_below-add n f g)
+
+pub sum_below_none : (n : ℕ) → sum_below n (λ i. 0) ≡ 0
+sum_below_none zero = refl
+sum_below_none (suc n) = omega (arith, sum_below_none n)
+
+pub count_below_same : (n : ℕ) (p q : ℕ → Bool) → ((i : ℕ) → i < n → p i ≡ q i) → count_below n p ≡ count_below n q
+count_below_same zero p q same = refl
+count_below_same (suc n) p q same = rw (same n (omega arith)) (ap (λ m. cond (q n) 1 0 + m) (count_below_same n p q (λ i h. same i (omega arith))))

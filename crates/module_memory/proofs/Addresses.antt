@@ -1,6 +1,7 @@
 -- The addresses of a shape are those of its words, and a write changes one word.
-use Rattle.std.proofs.Common.{ℕ, List, length, get_or, set, length-set, get_or-set_same, get_or-set_other, ap₂, ◌⊎◌, inl, inr, ◌≢◌, ◌≡◌, ◌<◌, ◌≤◌, ◌+◌, ◌-◌, ◌*◌, ◌/◌, ◌%◌, ◌&&◌, ◌==◌, Bool, true, false, refl, sym, ap, ◌∙◌, subst, arith, eq-eqb, lt-ltb, le-leb, eqb-true, ltb-true, leb-true, nat_lt, nat_le, Some, None, if◌then◌else◌, div-add-mod'}
+use Rattle.std.proofs.Common.{ℕ, List, length, get_or, set, length-set, get_or-set_same, get_or-set_other, ap₂, ◌⊎◌, inl, inr, ◌≢◌, ◌≡◌, ◌<◌, ◌≤◌, ◌+◌, ◌-◌, ◌*◌, ◌/◌, ◌%◌, ◌==◌, Bool, true, false, refl, sym, ap, ◌∙◌, subst, arith, eq-eqb, lt-ltb, le-leb, eqb-true, ltb-true, leb-true, nat_lt, nat_le, Some, None, if◌then◌else◌, div-add-mod'}
 use Rattle.std.proofs.lemmas.Nat.{div-mul-add, mod-mul-add, mul-add-lt, div_below, mod_below}
+use Rattle.std.proofs.lemmas.Bool.{and_parts}
 use Rattle.batch.specs.Extent.{IsShape}
 use Rattle.batch.specs.Places.{place_index}
 use Rattle.batch.specs.declared.transfer.Place.{Place}
@@ -24,12 +25,6 @@ no_fault true true false e = absurd (some_fault Outside e)
 no_fault true false d e = absurd (some_fault Misaligned e)
 no_fault false c d e = absurd (some_fault NoModule e)
 
--- both of two tests
-both : (b c : Bool) → (b && c) ≡ true → (b ≡ true) × (c ≡ true)
-both true true e = (refl, refl)
-both true false e = absurd (cc)
-both false c e = absurd (cc)
-
 pub by_four : (start x : ℕ) → (start + WORD_BYTES * x - start) / WORD_BYTES ≡ x
 by_four start x = omega arith
 
@@ -43,7 +38,7 @@ back_by_four a h e = omega arith
 pub windows_are_whole : WindowsAreWhole
 windows_are_whole s m a h e =
     let t = no_fault _ _ _ e in
-    let u = both (nat_le WINDOW_START a) (nat_lt (word_number a) (s.blocks * s.words)) t.2 in
+    let u = and_parts (nat_le WINDOW_START a) (nat_lt (word_number a) (s.blocks * s.words)) t.2 in
     let n = word_number a in
     let below : n < s.blocks * s.words = ltb-true n (s.blocks * s.words) u.1 in
     record {

@@ -79,7 +79,7 @@ room_left m b w n all left e f l = let more : n + 1 ≤ m * b = omega arith in o
 -- ---- parts of one length, one behind the other
 
 -- all of them
-parts_length : {X : Type 0} (f : X → List ℕ) (n : ℕ) (xs : List X) (d : X) → ((i : ℕ) → i < length xs → length (f (get_or xs i d)) ≡ n) → length (flat_map f xs) ≡ n * length xs
+pub parts_length : {X : Type 0} (f : X → List ℕ) (n : ℕ) (xs : List X) (d : X) → ((i : ℕ) → i < length xs → length (f (get_or xs i d)) ≡ n) → length (flat_map f xs) ≡ n * length xs
 parts_length f n [] d h = omega arith
 parts_length f n (x ∷ xs) d h =
     let first : length (f x) ≡ n = h 0 (omega arith) in

@@ -16,7 +16,7 @@ pub record HaveCome (places : List Place) (i : ℕ) (taken : List Bool) : Type 0
   pub all : (k : ℕ) → k < i → get_or taken (index_in places k) false ≡ true
   pub differ : DifferBefore places i
 
-none_up : (n k : ℕ) → get_or (replicate n false) k false ≡ false
+pub none_up : (n k : ℕ) → get_or (replicate n false) k false ≡ false
 none_up zero k = refl
 none_up (suc n) zero = refl
 none_up (suc n) (suc k) = none_up n k

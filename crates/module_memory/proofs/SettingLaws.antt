@@ -63,7 +63,7 @@ moved_after opening old mid new ts us m n ft fu later a b =
 -- ---- of a batch, by numbers
 
 -- the first numbers of a setting, and the others
-ready_first : (opening s : Store) (batch : List Transfer) (numbers more : List ℕ) → IsReady opening s batch (numbers ++ more) → IsReady opening s batch numbers
+pub ready_first : (opening s : Store) (batch : List Transfer) (numbers more : List ℕ) → IsReady opening s batch (numbers ++ more) → IsReady opening s batch numbers
 ready_first opening s batch numbers more r = record {
   opening_whole = r.opening_whole;
   whole = r.whole;
@@ -78,7 +78,7 @@ ready_first opening s batch numbers more r = record {
 }
 
 -- a number of the others
-in_more : (numbers more : List ℕ) (j d : ℕ) → get_or (numbers ++ more) (length numbers + j) d ≡ get_or more j d
+pub in_more : (numbers more : List ℕ) (j d : ℕ) → get_or (numbers ++ more) (length numbers + j) d ≡ get_or more j d
 in_more numbers more j d = get_or-append_right numbers more (length numbers) (length numbers + j) d refl (omega arith) ∙ ap (λ (x : ℕ). get_or more x d) (omega arith)
 
 ready_more : (opening s : Store) (batch : List Transfer) (numbers more : List ℕ) → IsReady opening s batch (numbers ++ more) → IsReady opening s batch more

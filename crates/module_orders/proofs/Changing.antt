@@ -1,5 +1,5 @@
 -- The flags of the blocks that transfers change.
-use Rattle.std.proofs.Common.{ℕ, zero, suc, Bool, true, false, not, ◌&&◌, ◌||◌, ◌≡◌, ◌≢◌, ◌<◌, List, [], ◌∷◌, ◌++◌, length, get_or, set, replicate, refl, sym, ap, ap₂, ◌∙◌, append_assoc, subst, inl, inr, get_or-set_same, get_or-set_other}
+use Rattle.std.proofs.Common.{ℕ, Bool, true, false, not, ◌&&◌, ◌||◌, ◌≡◌, ◌≢◌, ◌<◌, List, [], ◌∷◌, ◌++◌, length, get_or, set, replicate, refl, sym, ap, ap₂, ◌∙◌, append_assoc, subst, inl, inr, get_or-set_same, get_or-set_other}
 use Rattle.std.proofs.lemmas.Bool.{false≢true}
 use Rattle.std.proofs.lemmas.List.Folds.{list_any-append}
 use Rattle.batch.proofs.HeldSources.{same_place_tells}
@@ -9,6 +9,7 @@ use Rattle.batch.specs.Held.{same_place}
 use Rattle.batch.specs.Places.{HasPlace, place_index, source_of, destination_of}
 use Rattle.batch.specs.declared.transfer.Place.{Place}
 use Rattle.batch.specs.declared.transfer.Transfer.{Transfer}
+use Rattle.module_memory.proofs.Repeats.{none_up}
 use Rattle.module_orders.specs.Flags.{AreChanged}
 use Rattle.module_orders.specs.Orders.{changed_by, changes}
 
@@ -49,11 +50,6 @@ changes-other t p ne = elim (same_place_tells (destination_of t) p) [
   | inl s ↦ absurd (ne s.1)
   | inr s ↦ ap (λ (b : Bool). b && not (same_place (source_of t) p)) s.0
 ]
-
-pub none_up : (n k : ℕ) → get_or (replicate n false) k false ≡ false
-none_up zero k = refl
-none_up (suc n) zero = refl
-none_up (suc n) (suc k) = none_up n k
 
 pub none_changed : (n : ℕ) → AreChanged [] (replicate n false)
 none_changed n p hp = none_up n (place_index widest p)

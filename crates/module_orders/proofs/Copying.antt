@@ -6,10 +6,10 @@ use Rattle.std.proofs.lemmas.List.{ext_get_or}
 use Rattle.std.proofs.lemmas.List.FromFn.{get_or-map-range_with_len, length-map-range_with_len}
 use Rattle.std.proofs.lemmas.List.Sums.{length-filter, sum_by-cons}
 use Rattle.batch.specs.declared.limits.TheConstants.{MAX_BLOCKS}
+use Rattle.module_memory.proofs.Repeats.{none_up}
 use Rattle.module_orders.specs.Flags.{copy_flags, numbers_up, up_in}
 use Rattle.module_orders.specs.Orders.{copies_in, is_copied}
 use Rattle.module_orders.specs.declared.order.Order.{Order}
-use Rattle.module_orders.proofs.Changing.{none_up}
 
 -- the flags of just the blocks below a limit whose copies are sent are up
 abbrev pub AreCopied : List Order → List Bool → Type 0

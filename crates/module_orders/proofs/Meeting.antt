@@ -2,7 +2,7 @@
 use Rattle.std.proofs.Common.{ℕ, Bool, true, false, cond, ◌==◌, ◌≡◌, ◌≢◌, ◌≤◌, ◌<◌, List, [], ◌∷◌, length, length-append, map, get_or, None, refl, sym, ap, ap₂, ◌∙◌, subst, arith, inl, inr, eq-eqb}
 use Rattle.std.specs.Prelude.{All, Contains, filter, nat_lt}
 use Rattle.std.specs.List.{flat_map, range_with_len}
-use Rattle.std.proofs.lemmas.Bool.{and_from, and_parts, cases_lt, eqb-true, false≢true, lt-ltb}
+use Rattle.std.proofs.lemmas.Bool.{and_from, and_parts, cases_lt, eqb-true, false≢true, lt-ltb, false_from_ne_true}
 use Rattle.std.proofs.lemmas.Bool.Decides.{eqb_tells}
 use Rattle.std.proofs.lemmas.List.{get_or_default, length-map}
 use Rattle.std.proofs.lemmas.List.Elements.{All-contains, All-head, All-tail, Contains-append_cases, Contains-append_left, Contains-append_right, filter-append}
@@ -33,7 +33,7 @@ use Rattle.module_orders.specs.Laws.{IsPairIn, JoinedHaveOrders, LinksHaveOne, O
 use Rattle.module_orders.specs.Obeying.{AreJoined, AreOpposite, HasOrder, first_end, is_for, orders_for, orders_to, other_end}
 use Rattle.module_orders.specs.Orders.{ModuleTold, act_at, all_modules, is_changed, is_told, module_told, order_at, orders_before, orders_in, orders_of, orders_over, sending}
 use Rattle.module_orders.specs.declared.order.Order.{Order}
-use Rattle.module_orders.proofs.Members.{down, fewer_pieces, filter_none, filter_pieces, in_filter, in_flat_map, in_map, in_range, one_piece, to_filter, to_flat_map, to_map, to_range}
+use Rattle.module_orders.proofs.Members.{fewer_pieces, filter_none, filter_pieces, in_filter, in_flat_map, in_map, in_range, one_piece, to_filter, to_flat_map, to_map, to_range}
 
 -- the link of a transfer at an end
 abbrev pub link_at : End → Transfer → Link
@@ -197,7 +197,7 @@ one_number batch numbers end t u matching known ct cu same =
       | inl less ↦ absurd (apart ct.0 cu.0 t u less cu.1 at_t at_u uses_t uses_u)
       | inr up ↦ elim (cases_lt cu.0 ct.0) [
         | inl less ↦ absurd (apart cu.0 ct.0 u t less ct.1 at_u at_t uses_u uses_t)
-        | inr down ↦ let here : ct.0 ≡ cu.0 = omega arith in sym at_t ∙ ap (λ (k : ℕ). get_or numbers k 0) here ∙ at_u
+        | inr false_from_ne_true ↦ let here : ct.0 ≡ cu.0 = omega arith in sym at_t ∙ ap (λ (k : ℕ). get_or numbers k 0) here ∙ at_u
       ]
     ]
 
@@ -214,7 +214,7 @@ one_at batch (t ∷ numbers) end m matching known =
     let apart : AreApart batch t number.0 = All-contains (AreApart batch t) numbers number.0 (first_with (AreApart batch) t numbers matching) number.1 in
     apart.none_common (record { end = end; «module» = m }) (uses t (All-head within t numbers known) up) (uses number.0 (All-contains within numbers number.0 (All-tail within t numbers known) number.1) (ap test number.2 ∙ too))
     ) in
-    let alone : test (transfer_at batch t) ≡ true → filter test ts ≡ [] = λ up. filter_none test ts (λ x c. down (test x) (other up x c)) in
+    let alone : test (transfer_at batch t) ≡ true → filter test ts ≡ [] = λ up. filter_none test ts (λ x c. false_from_ne_true (test x) (other up x c)) in
     let rest = one_at batch numbers end m (later (AreApart batch) t numbers matching) (All-tail within t numbers known) in
     elim (test (transfer_at batch t)) as (λ b. test (transfer_at batch t) ≡ b → length (cond b (transfer_at batch t ∷ filter test ts) (filter test ts)) ≤ 1) [
       | true ↦ λ up. omega (arith, ap length (alone up))
@@ -224,7 +224,7 @@ one_at batch (t ∷ numbers) end m matching known =
 not_for : (k : ℕ) (link : Link) (o : Order) → (o.setting ≡ k → o.end ≡ link.end → ⊥) → is_for k link o ≡ false
 not_for k link o none =
     let tells : is_for k link o ≡ true → ⊥ = λ up. (let both = and_parts (o.setting == k) (same_end o.end link.end) up in none (eqb-true o.setting k both.0) (same_end_tells o.end link.end both.1)) in
-    down (is_for k link o) tells
+    false_from_ne_true (is_for k link o) tells
 
 -- over an end of a link, in a setting of a schedule, a module has one order at most
 few_in : (batch : List Transfer) (settings : List (List ℕ)) (k m : ℕ) (link : Link) → IsScheduleOf batch settings → k < length settings → length (filter (is_for k link) (orders_in batch settings m k)) ≤ 1

@@ -2,7 +2,7 @@
 use Rattle.std.proofs.Common.{ℕ, zero, suc, Bool, true, false, cond, ◌≡◌, ◌≢◌, ◌≤◌, ◌<◌, ◌+◌, List, [], ◌∷◌, ◌++◌, length, length-append, map, refl, sym, ap, ◌∙◌, subst, arith, inl, inr, ◌||◌}
 use Rattle.std.specs.Prelude.{Contains, filter}
 use Rattle.std.specs.List.{flat_map, list_any, range_with_len}
-use Rattle.std.proofs.lemmas.Bool.{cases_eq, false≢true}
+use Rattle.std.proofs.lemmas.Bool.{cases_eq, false≢true, false_from_ne_true}
 use Rattle.std.proofs.lemmas.List.Elements.{Contains-append_cases, Contains-append_left, Contains-append_right, filter-append}
 use Rattle.std.proofs.lemmas.List.FromFn.{get_or-range_with_len, length-range_with_len}
 use Rattle.batch.proofs.Lists.{at_cons}
@@ -90,14 +90,9 @@ in_any {X} p (x ∷ xs) up =
       | false ↦ λ _ some. let r = rest some in (r.0, there x r.0 xs r.1, r.2)
     ] refl up
 
--- a test that doesn't pass
-pub down : (b : Bool) → (b ≡ true → ⊥) → b ≡ false
-down true n = absurd (n refl)
-down false n = refl
-
 -- none passes
 pub none_from : {X : Type 0} (p : X → Bool) (xs : List X) (x : X) → list_any p xs ≡ false → Contains xs x → p x ≡ false
-none_from p xs x none c = down (p x) (λ up. false≢true (sym none ∙ any_from p xs x c up))
+none_from p xs x none c = false_from_ne_true (p x) (λ up. false≢true (sym none ∙ any_from p xs x c up))
 
 -- ---- how many stand there
 

@@ -1,9 +1,9 @@
 -- Modules that obey move the words of transfers, and so place all blocks.
-use Rattle.std.proofs.Common.{ℕ, suc, Bool, true, false, cond, ◌==◌, ◌||◌, ◌≡◌, ◌≢◌, ◌<◌, ◌+◌, List, [], ◌∷◌, ◌++◌, length, map, take, drop, get_or, slice_index, refl, sym, ap, ap₂, ◌∙◌, subst, arith, inl, inr, add-one, append_assoc, length-append}
+use Rattle.std.proofs.Common.{ℕ, suc, Bool, true, false, cond, ◌==◌, ◌||◌, ◌≡◌, ◌≢◌, ◌<◌, ◌+◌, List, [], ◌∷◌, ◌++◌, length, map, take, drop, get_or, slice_index, refl, sym, ap, ap₂, ◌∙◌, subst, arith, inl, inr, add-one, append_assoc}
 use Rattle.std.specs.Prelude.{All, Contains}
 use Rattle.std.specs.List.{concat}
 use Rattle.std.proofs.lemmas.Bool.{cases_lt, false≢true}
-use Rattle.std.proofs.lemmas.List.{drop_more, get_or-map, get_or_append_left, length-drop, length-map, take-append-drop, map-append}
+use Rattle.std.proofs.lemmas.List.{drop_more, get_or-map, length-drop, length-map, take-append-drop, map-append}
 use Rattle.std.proofs.lemmas.List.Elements.{All-contains, All-head, Contains-get_or}
 use Rattle.std.proofs.lemmas.List.Sums.{sum_by-append}
 use Rattle.std.proofs.lemmas.List.Folds.{list_any-append}
@@ -26,7 +26,7 @@ use Rattle.link_graph.specs.declared.link.End.{End}
 use Rattle.link_graph.specs.declared.link.End.TheVariants.{Zero, Three}
 use Rattle.module_memory.proofs.Blocks.{same_or_not}
 use Rattle.module_memory.proofs.CoreLaw.{Premises-from_ready, complete_moves, each_prefix, find_destination, source_found, transfer_at-setting_of}
-use Rattle.module_memory.proofs.SettingLaws.{ready_after, run_is_placed, whole_batch_is_placed}
+use Rattle.module_memory.proofs.SettingLaws.{ready_after, run_is_placed, whole_batch_is_placed, ready_first}
 use Rattle.module_memory.specs.Core.{Core, IsComplete, IsMovedFrom, IsReady, IsSetting, IsStepList, at_start, found, run, setting_of, step, times}
 use Rattle.module_memory.specs.Settings.{IsRun, after_steps}
 use Rattle.module_memory.specs.Store.{Store, block_of, set_word}
@@ -345,23 +345,6 @@ setting_is_obeyed batch settings opening k s t steps b whole e =
     )
 
 -- ---- one setting after another
-
-first_setting : (batch : List Transfer) (numbers more : List ℕ) → IsSetting batch (numbers ++ more) → IsSetting batch numbers
-first_setting batch numbers more h = record {
-  known = all_left (λ t. t < length batch) numbers more h.known;
-  distinct = λ i j l m e. h.distinct i j (omega (arith, length-append numbers more)) (omega (arith, length-append numbers more)) (get_or_append_left numbers more 0 i l ∙ e ∙ sym (get_or_append_left numbers more 0 j m));
-}
-
-ready_first : (opening s : Store) (batch : List Transfer) (numbers more : List ℕ) → IsReady opening s batch (numbers ++ more) → IsReady opening s batch numbers
-ready_first opening s batch numbers more r = record {
-  opening_whole = r.opening_whole;
-  whole = r.whole;
-  same_shape = r.same_shape;
-  agrees = r.agrees;
-  places = r.places;
-  apart = r.apart;
-  setting = first_setting batch numbers more r.setting;
-}
 
 -- what is still to come, from a setting on
 pub record IsAhead (batch : List Transfer) (settings : List (List ℕ)) (opening : Store) (k : ℕ) (s : Store) (more : List (List ℕ)) : Type 0 where

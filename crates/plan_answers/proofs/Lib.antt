@@ -1,4 +1,3 @@
-pub mod Widest
 pub mod PlanText
 pub mod Printing
 pub mod OneReading

@@ -53,7 +53,7 @@ same_shown (Some range) settings a b p q =
     let made : ℕ → ℕ → Shown = λ f c. record { first = f; count = c } in
     ap (λ (f : ℕ). made f a.count) (p.1 ∙ sym q.1) ∙ ap (made b.first) (omega (arith, p.1, p.2, q.1, q.2))
 
-not_outside : (range : Option SettingRange) (settings k : ℕ) (shown : Shown) → AreShown range settings shown → IsOutside range settings k → ⊥
+pub not_outside : (range : Option SettingRange) (settings k : ℕ) (shown : Shown) → AreShown range settings shown → IsOutside range settings k → ⊥
 not_outside None settings k shown a b = b
 not_outside (Some range) settings k shown a b = omega (arith, a.0, b.0)
 

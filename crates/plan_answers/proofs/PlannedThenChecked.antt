@@ -2,6 +2,7 @@
 use Rattle.std.proofs.Common.{length, Some, refl, ap, ◌≡◌}
 use Rattle.batch.specs.Extent.{widest}
 use Rattle.batch.proofs.OneReading.{apart}
+use Rattle.batch.proofs.Shapes.{widest_shape}
 use Rattle.link_graph.specs.ScheduleText.{Said, said}
 use Rattle.link_graph.proofs.Koenig.{certified}
 use Rattle.link_graph.proofs.SaidLines.{one_said}
@@ -12,7 +13,6 @@ use Rattle.plan_answers.specs.Laws.{PlannedThenChecked}
 use Rattle.plan_answers.specs.Refusals.{Printed}
 use Rattle.plan_answers.proofs.OneVerdict.{one_verdict}
 use Rattle.plan_answers.proofs.PlanText.{certified_plan}
-use Rattle.plan_answers.proofs.Widest.{widest_fits}
 
 -- there is one answer to a certified schedule
 pub planned_then_checked : PlannedThenChecked
@@ -28,6 +28,6 @@ planned_then_checked batch ts planning printed checked denotes (answered.planned
       counted = refl;
     } in
     let line : Printed = record { text = shortest_line (length plan.settings); status = DONE } in
-    let same : checked ≡ line = one_verdict widest widest_fits batch printed.text line checked (answered.shortest (length plan.settings) shown refl refl) answers in
+    let same : checked ≡ line = one_verdict widest widest_shape batch printed.text line checked (answered.shortest (length plan.settings) shown refl refl) answers in
     record { settings = plan.settings; named = plan.named; says = plan.says; only = λ others naming says. ap (λ (s : Said). s.settings) (one_said printed.text (said others (Some naming)) (said plan.settings (Some plan.named)) says plan.says); line = ap (λ (p : Printed). p.text) same; status = ap (λ (p : Printed). p.status) same }
-planned_then_checked batch ts planning printed checked denotes (answered.refused fault first line) answers = absurd (apart widest widest_fits batch ts fault denotes first)
+planned_then_checked batch ts planning printed checked denotes (answered.refused fault first line) answers = absurd (apart widest widest_shape batch ts fault denotes first)

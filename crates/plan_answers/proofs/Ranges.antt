@@ -4,6 +4,7 @@ use Rattle.std.specs.Fmt.{decimal}
 use Rattle.std.proofs.lemmas.Fmt.{decimal_injective}
 use Rattle.batch.specs.Text.{IsNumber, number}
 use Rattle.batch.proofs.Lines.{Ends, one_number}
+use Rattle.link_graph.proofs.OneFault.{tail_same}
 use Rattle.plan_answers.specs.declared.setting_range.SettingRange.{SettingRange}
 use Rattle.plan_answers.specs.Drawings.{range_text, DenotesRange}
 
@@ -15,13 +16,6 @@ ends_point = λ digit. omega arith
 
 pub range_parts : (range : SettingRange) → range_text range ≡ number range.first point ++ (point ∷ decimal range.last)
 range_parts range = simp append_assoc
-
-cons : ℕ → List ℕ → List ℕ
-cons x xs = x ∷ xs
-
-tail_same : (x y : ℕ) (xs ys : List ℕ) → cons x xs ≡ cons y ys → xs ≡ ys
-unfolding cons
-tail_same x y xs ys e = cc
 
 -- the parts that were read are those of each range that the text spells
 pub to_first : (text : List ℕ) (n : ℕ) (rest : List ℕ) (b : SettingRange) → IsNumber n × (text ≡ number n point ++ rest) → DenotesRange text b → (n ≡ b.first) × (rest ≡ point ∷ decimal b.last)

@@ -3,6 +3,7 @@ use Rattle.std.proofs.Common.{◌≡◌, ℕ, List, Option, None, Some, Result, 
 use Rattle.std.specs.Borrow.{Bor}
 use Rattle.batch.specs.declared.transfer.Transfer.{Transfer}
 use Rattle.batch.specs.Extent.{widest}
+use Rattle.batch.proofs.Shapes.{widest_shape}
 use Rattle.refusals.specs.declared.refusal.Refusal.{Refusal}
 use Rattle.refusals.specs.Refusals.{refusal_words}
 use Rattle.plan_answers.specs.Answers.{IsOnly}
@@ -14,11 +15,10 @@ use Rattle.plan_answers.specs.declared.source.Source.TheVariants.{Plan, Text}
 use Rattle.plan_answers.proofs.OneDrawing.{read_right, one_invalid}
 use Rattle.plan_answers.proofs.OneReading.{same_texts}
 use Rattle.plan_answers.proofs.Printing.{printed_same, refused_same}
-use Rattle.plan_answers.proofs.Widest.{widest_fits}
 use Rattle.rack_answers.specs.Switching.{settings_bytes_text, IsOn, IsSwitched, lacking, switched, wrong}
 
 same_text : (batch schedule : List ℕ) (ts us : List Transfer) (xs ys : List (List ℕ)) → IsScheduleRead widest batch schedule ts xs → IsScheduleRead widest batch schedule us ys → settings_bytes_text None ts xs ≡ settings_bytes_text None us ys
-same_text batch schedule ts us xs ys a b = same_texts (λ t x m. settings_bytes_text None t x ≡ settings_bytes_text None us ys) widest widest_fits batch schedule ts us xs ys a.certificate b.certificate a.texts b.texts refl
+same_text batch schedule ts us xs ys a b = same_texts (λ t x m. settings_bytes_text None t x ≡ settings_bytes_text None us ys) widest widest_shape batch schedule ts us xs ys a.certificate b.certificate a.texts b.texts refl
 
 one_switching : (schedule batch : List ℕ) (p q : Printed) → IsSwitched (Text schedule) None batch p → IsSwitched (Text schedule) None batch q → q ≡ p
 one_switching schedule batch p q (switched (Some w) ts xs a ways fills tells) is = absurd fills
@@ -28,10 +28,10 @@ one_switching schedule batch p q (switched None ts xs a ways fills tells) (lacki
 one_switching schedule batch p q (wrong f a ways is) (switched (Some w) us ys b has filled told) = absurd filled
 one_switching schedule batch p q (wrong f a ways is) (lacking g lack other) = absurd lack.2
 one_switching schedule batch p q (switched None ts xs a ways fills tells) (switched None us ys b has filled told) = printed_same q p (told.0 ∙ same_text batch schedule us ts ys xs b a ∙ sym tells.0) (told.1 ∙ sym tells.1)
-one_switching schedule batch p q (switched None ts xs a ways fills tells) (wrong g b has is) = absurd (read_right widest widest_fits batch schedule ts xs g a b)
-one_switching schedule batch p q (wrong f a ways is) (switched None us ys b has filled told) = absurd (read_right widest widest_fits batch schedule us ys f b a)
+one_switching schedule batch p q (switched None ts xs a ways fills tells) (wrong g b has is) = absurd (read_right widest widest_shape batch schedule ts xs g a b)
+one_switching schedule batch p q (wrong f a ways is) (switched None us ys b has filled told) = absurd (read_right widest widest_shape batch schedule us ys f b a)
 one_switching schedule batch p q (wrong f a ways is) (wrong g b has was) =
-    refused_same (refusal_words g) q p was (subst (λ (r : Refusal). IsRefused (refusal_words r) p) (one_invalid widest widest_fits batch schedule f g a b) is)
+    refused_same (refusal_words g) q p was (subst (λ (r : Refusal). IsRefused (refusal_words r) p) (one_invalid widest widest_shape batch schedule f g a b) is)
 
 -- so an answer to them is the only one
 one_of_text : {E : Type 0} (r : Result Printed E) (source : Source (Bor (List ℕ))) (batch : List ℕ) → IsText source → IfOk r (IsSwitched (said_by source) None batch) → IfOk r (IsOnly (IsSwitched (said_by source) None batch))

@@ -12,13 +12,14 @@ use Rattle.link_graph.specs.declared.link.Link.{Link}
 use Rattle.link_graph.specs.Uses.{Uses}
 use Rattle.link_graph.specs.Counts.{count_below, module_at, uses}
 use Rattle.link_graph.specs.Marks.{members}
+use Rattle.link_graph.proofs.Sums.{count_below_same}
 use Rattle.euler_split.specs.Split.{uses_among}
 use Rattle.euler_split.proofs.Modules.{known_transfer}
 use Rattle.batch.specs.Overlap.{no_transfer, transfer_at}
 use Rattle.alternating_path.specs.Colouring.{colour_at, HasColour}
 use Rattle.alternating_path.specs.Counts.{uses_link, placed_uses}
 use Rattle.alternating_path.specs.Classes.{placed_count}
-use Rattle.alternating_path.proofs.Held.{and_true, and_false, count_below_none, count_below_same, uses_yes}
+use Rattle.alternating_path.proofs.Held.{and_true, and_false, count_below_none, uses_yes}
 
 count_cons : (p : ℕ → Bool) (x : ℕ) (xs : List ℕ) → count_by p (x ∷ xs) ≡ cond (p x) 1 0 + count_by p xs
 count_cons p x xs = sum_by-cons (λ y. cond (p y) 1 0) x xs

@@ -1,7 +1,7 @@
 -- The halves of a part, and how its colouring comes from theirs.
 use Rattle.std.proofs.Common.{◌≡◌, ◌==◌, ℕ, zero, suc, ◌+◌, ◌-◌, ◌*◌, ◌/◌, ◌<◌, ◌≤◌, ◌⊎◌, ◌↔◌, inl, inr, List, ◌++◌, length, map, take, drop, All, Option, Some, None, IsSome, Result, Ok, Err, IfOk, get_or, cond, refl, sym, ap, ◌∙◌, subst, arith}
 use Rattle.std.specs.Prelude.{Contains}
-use Rattle.std.proofs.lemmas.Bool.{false≢true, cases_lt}
+use Rattle.std.proofs.lemmas.Bool.{false≢true}
 use Rattle.std.proofs.lemmas.Bool.Decides.{eqb_tells}
 use Rattle.std.proofs.lemmas.Option.{same_Some}
 use Rattle.std.proofs.lemmas.List.{length-append, length-take, length-drop, take-append-drop, get_or_default}
@@ -13,9 +13,8 @@ use Rattle.batch.specs.declared.transfer.Transfer.{Transfer}
 use Rattle.link_graph.specs.declared.link.Link.{Link}
 use Rattle.link_graph.specs.Uses.{IsMatching}
 use Rattle.link_graph.specs.Marks.{members}
-use Rattle.link_graph.specs.Certificates.{AreDistinct}
 use Rattle.link_graph.proofs.Firsts.{all_left, all_right}
-use Rattle.link_graph.proofs.Once.{standings, once_from_distinct, stands_from_count, distinct_from_once}
+use Rattle.link_graph.proofs.Once.{standings, once_from_distinct, distinct_from_once, at_most_once}
 use Rattle.link_graph.proofs.Sharing.{members_few, matching_from_none_shared, count_from_shared}
 use Rattle.link_graph.proofs.Users.{uses_few}
 use Rattle.euler_split.specs.Split.{uses_among, IsSplit}
@@ -60,12 +59,6 @@ halves_in_order batch whole d k degree all is = record {
   right_uses = λ link e other. omega (arith, is, all, same_degree batch whole d e degree other, uses_few (members batch (drop k whole)) link, members_few batch (drop k whole), length-drop k whole);
 }
 
-stands_once : (xs : List ℕ) (t : ℕ) → AreDistinct xs → standings t xs ≤ 1
-stands_once xs t distinct = elim (cases_lt 0 (standings t xs)) [
-  | inl some ↦ omega (arith, once_from_distinct t xs distinct (stands_from_count t xs some))
-  | inr none ↦ omega arith
-]
-
 one_of : (a b : ℕ) → 0 < a + b → (0 < a) ⊎ (0 < b)
 one_of zero b h = inr (omega arith)
 one_of (suc a) b h = inl (omega arith)
@@ -80,13 +73,13 @@ module _ (batch : List Transfer) (whole left right : List ℕ) (part : IsPart ba
   pub left_part : IsPart batch left
   left_part = record {
     known = all_left (λ t. t < length batch) left right both_known;
-    distinct = distinct_from_once left (λ t stands. omega (arith, both_standings t, stands_once whole t part.distinct));
+    distinct = distinct_from_once left (λ t stands. omega (arith, both_standings t, at_most_once whole t part.distinct));
   }
 
   pub right_part : IsPart batch right
   right_part = record {
     known = all_right (λ t. t < length batch) left right both_known;
-    distinct = distinct_from_once right (λ t stands. omega (arith, both_standings t, stands_once whole t part.distinct));
+    distinct = distinct_from_once right (λ t stands. omega (arith, both_standings t, at_most_once whole t part.distinct));
   }
 
   both_lengths : length left + length right ≡ length whole
@@ -134,7 +127,7 @@ module _ (batch : List Transfer) (whole left right : List ℕ) (part : IsPart ba
   from_right t stands = Contains-permutation (left ++ right) whole t (IsPermutation-sym whole (left ++ right) s.parts) (Contains-append_right left right t stands)
 
   not_in_both : (t : ℕ) → Contains left t → Contains right t → ⊥
-  not_in_both t in_left in_right = omega (arith, once_from_distinct t left left_part.distinct in_left, once_from_distinct t right right_part.distinct in_right, both_standings t, stands_once whole t part.distinct)
+  not_in_both t in_left in_right = omega (arith, once_from_distinct t left left_part.distinct in_left, once_from_distinct t right right_part.distinct in_right, both_standings t, at_most_once whole t part.distinct)
 
 half_degree : (batch : List Transfer) (whole half : List ℕ) (d e : ℕ) → IsDegree (members batch whole) d → IsDegree (members batch half) e → ((link : Link) → uses_among batch half link ≤ (d + 1) / 2) → e ≤ (d + 1) / 2
 half_degree batch whole half d e degree here less = elim here.reached [

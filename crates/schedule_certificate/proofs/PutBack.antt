@@ -1,5 +1,5 @@
 -- The first i transfers of a class that was given up are put into the other colours.
-use Rattle.std.proofs.Common.{◌≡◌, ℕ, ◌+◌, ◌<◌, ◌≤◌, ◌⊎◌, ◌↔◌, inl, inr, List, [], ◌∷◌, ◌++◌, length, get_or, take, All, Option, Some, None, IsSome, is_some, refl, sym, ap, ◌∙◌, subst, arith}
+use Rattle.std.proofs.Common.{◌≡◌, ℕ, ◌+◌, ◌<◌, ◌≤◌, ◌⊎◌, ◌↔◌, inl, inr, List, [], ◌∷◌, ◌++◌, length, get_or, take, All, None, is_some, sym, ap, ◌∙◌, subst, arith}
 use Rattle.std.specs.Prelude.{Contains}
 use Rattle.std.proofs.lemmas.Bool.{false≢true}
 use Rattle.std.proofs.lemmas.List.{take_more, take_all, get_or-take, get_or_default, length-take}
@@ -8,6 +8,7 @@ use Rattle.batch.specs.declared.transfer.Transfer.{Transfer}
 use Rattle.euler_split.specs.Split.{uses_among}
 use Rattle.alternating_path.specs.Colouring.{Colouring, colour_at, HasColour, PlacesJust}
 use Rattle.alternating_path.specs.Counts.{HasFullLink}
+use Rattle.alternating_path.proofs.Singles.{nothing_if}
 use Rattle.schedule_certificate.specs.Parts.{HasRoomFor}
 use Rattle.schedule_certificate.proofs.Counting.{part_room}
 
@@ -19,10 +20,6 @@ pub record ArePutBack (old : Colouring) (class : List ℕ) (i : ℕ) (s : Colour
 
 pub all_back : (old : Colouring) (class : List ℕ) (i : ℕ) (s : Colouring) → length class ≤ i → ArePutBack old class i s → (t : ℕ) → HasColour s.colour t ↔ (HasColour old.colour t ⊎ Contains class t)
 all_back old class i s past x t = let all : take i class ≡ class = take_all _ _ past in rw all at (x.placed t)
-
-nothing_if : (o : Option ℕ) → (IsSome o → ⊥) → o ≡ None
-nothing_if None h = refl
-nothing_if (Some c) h = absurd (h refl)
 
 from_front : (xs : List ℕ) (i u : ℕ) → Contains (take i xs) u → (j : ℕ) × (j < i) × (j < length xs) × (get_or xs j 0 ≡ u)
 from_front xs i u stands =

@@ -8,6 +8,7 @@ use Rattle.link_graph.specs.Counts.{uses}
 use Rattle.link_graph.specs.Certificates.{Naming, AreDistinct, CertifiesBy}
 use Rattle.link_graph.proofs.Koenig.{at_least, certified}
 use Rattle.link_graph.proofs.Users.{counted, uses_few}
+use Rattle.link_graph.proofs.UserCounts.{unused}
 use Rattle.alternating_path.specs.Classes.{ColouredSettings}
 use Rattle.schedule_certificate.specs.Reinsertions.{AreFew}
 use Rattle.schedule_certificate.specs.Parts.{IsDegree}
@@ -20,9 +21,6 @@ no_settings (s ∷ settings) few = absurd (omega (arith, few))
 -- no more settings than any number that bounds the uses of each link
 at_most : (batch : List Transfer) (coloured : ColouredSettings) (n : ℕ) → IsColoured batch coloured → ((link : Link) → uses batch link ≤ n) → length coloured.settings ≤ n
 at_most batch coloured n c all = elim c.is_degree.reached [ inl none ↦ omega (arith, c.count, none) | inr at ↦ omega (arith, c.count, at.1, all at.0) ]
-
-unused : (batch : List Transfer) (link : Link) → batch ≡ [] → uses batch link ≤ 0
-unused batch link empty = rw empty (omega arith)
 
 certifies : (batch : List Transfer) (coloured : ColouredSettings) (link : Option Link) (named : List ℕ) → IsColoured batch coloured → NamesBusiest batch link named → CertifiesBy batch coloured.settings link named
 certifies batch coloured None named c names = record {

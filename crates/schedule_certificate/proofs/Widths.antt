@@ -10,6 +10,7 @@ use Rattle.link_graph.specs.declared.link.Link.{Link}
 use Rattle.link_graph.specs.Counts.{module_at, uses}
 use Rattle.link_graph.specs.Marks.{members}
 use Rattle.link_graph.proofs.Users.{made, use_of, use_yes}
+use Rattle.link_graph.proofs.Sums.{sum_below, sum_below-add, sum_below_none}
 use Rattle.euler_split.specs.Split.{uses_among}
 use Rattle.euler_split.proofs.Modules.{known_transfer}
 use Rattle.schedule_certificate.specs.Parts.{IsPart, IsDegree, IsWidth}
@@ -22,23 +23,11 @@ used_at batch e t m d t_in at =
 
 -- ---- sums over the first n modules
 
-abbrev sums : ℕ → (ℕ → ℕ) → ℕ
-sums zero f = 0
-sums (suc n) f = f n + sums n f
-
-sums_same : (n : ℕ) (f g : ℕ → ℕ) → ((m : ℕ) → f m ≡ g m) → sums n f ≡ sums n g
+sums_same : (n : ℕ) (f g : ℕ → ℕ) → ((m : ℕ) → f m ≡ g m) → sum_below n f ≡ sum_below n g
 sums_same zero f g e = refl
 sums_same (suc n) f g e = omega (arith, e n, sums_same n f g e)
 
-sums_add : (n : ℕ) (f g : ℕ → ℕ) → sums n (λ m. f m + g m) ≡ sums n f + sums n g
-sums_add zero f g = refl
-sums_add (suc n) f g = omega (arith, sums_add n f g)
-
-sums_none : (n : ℕ) → sums n (λ m. 0) ≡ 0
-sums_none zero = refl
-sums_none (suc n) = omega (arith, sums_none n)
-
-one_hit : (n k : ℕ) → (k < n → sums n (λ m. cond (k == m) 1 0) ≡ 1) × (n ≤ k → sums n (λ m. cond (k == m) 1 0) ≡ 0)
+one_hit : (n k : ℕ) → (k < n → sum_below n (λ m. cond (k == m) 1 0) ≡ 1) × (n ≤ k → sum_below n (λ m. cond (k == m) 1 0) ≡ 0)
 one_hit zero k = (λ less. absurd (omega arith), λ _. refl)
 one_hit (suc n) k =
     let rest = one_hit n k in
@@ -48,7 +37,7 @@ one_hit (suc n) k =
     ]
 
 -- one has so many, or all together are few
-one_or_few : (n d : ℕ) (f : ℕ → ℕ) → ((m : ℕ) × (d ≤ f m)) ⊎ (sums n f ≤ n * (d - 1))
+one_or_few : (n d : ℕ) (f : ℕ → ℕ) → ((m : ℕ) × (d ≤ f m)) ⊎ (sum_below n f ≤ n * (d - 1))
 one_or_few zero d f = inr (omega arith)
 one_or_few (suc n) d f = elim (cases_lt (f n) d) [
   | inl less ↦ elim (one_or_few n d f) [ inl one ↦ inl one | inr few ↦ inr (omega arith) ]
@@ -58,8 +47,8 @@ one_or_few (suc n) d f = elim (cases_lt (f n) d) [
 -- ---- the links of one end have the uses of all transfers
 
 module _ (batch : List Transfer) (e : End) (n : ℕ) (below : All (λ x. module_at e x < n) batch) where
-  spread : (ts : List ℕ) → ((i : ℕ) → i < length ts → get_or ts i 0 < length batch) → sums n (λ m. uses_among batch ts (made e m)) ≡ length ts
-  spread [] known = sums_none n
+  spread : (ts : List ℕ) → ((i : ℕ) → i < length ts → get_or ts i 0 < length batch) → sum_below n (λ m. uses_among batch ts (made e m)) ≡ length ts
+  spread [] known = sum_below_none n
   spread (t ∷ ts) known =
       let t_in : t < length batch = known 0 (omega arith) in
       let found = known_transfer batch t t_in in
@@ -70,7 +59,7 @@ module _ (batch : List Transfer) (e : End) (n : ℕ) (below : All (λ x. module_
       omega (
         arith,
         sums_same n (λ m. uses_among batch (t ∷ ts) (made e m)) (λ m. use_of (made e m) found.0 + uses_among batch ts (made e m)) each,
-        sums_add n (λ m. use_of (made e m) found.0) (λ m. uses_among batch ts (made e m)),
+        sum_below-add n (λ m. use_of (made e m) found.0) (λ m. uses_among batch ts (made e m)),
         (one_hit n (module_at e found.0)).0 low,
         spread ts (λ i lt. known (suc i) (omega arith)),
       )

@@ -9,11 +9,11 @@ use Rattle.link_graph.specs.Links.{StandsBefore}
 use Rattle.link_graph.specs.Counts.{IsBusiest}
 use Rattle.link_graph.specs.Certificates.{Naming}
 use Rattle.link_graph.proofs.Users.{made}
+use Rattle.link_graph.proofs.UserCounts.{unused}
 use Rattle.schedule_picture.specs.declared.verdict.Standing.{Standing}
 use Rattle.schedule_picture.specs.declared.verdict.Standing.TheVariants.{Certified, Wrong, Missing}
 use Rattle.schedule_picture.specs.declared.verdict.Verdict.{Verdict}
 use Rattle.schedule_picture.specs.Verdicts.{IsBusiestOf, uses_of, IsStanding, link_named, AreMostPartners, IsVerdict}
-use Rattle.schedule_picture.proofs.Fewest.{unused}
 
 -- of two links one stands before the other, or they are one
 by_module : (e : End) (m n : ℕ) → StandsBefore (made e m) (made e n) ⊎ ((made e m ≡ made e n) ⊎ StandsBefore (made e n) (made e m))

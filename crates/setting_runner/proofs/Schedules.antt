@@ -3,15 +3,15 @@ use Rattle.std.proofs.Common.{◌≡◌, ◌<◌, ◌≤◌, ◌+◌, ◌-◌, i
 use Rattle.std.specs.Prelude.{All, sum_by}
 use Rattle.std.specs.List.{concat, range_with_len, AllByRecursion}
 use Rattle.std.proofs.lemmas.Bool.{cases_lt}
-use Rattle.std.proofs.lemmas.List.{get_or_append_left, get_or-append_right}
-use Rattle.std.proofs.lemmas.List.Elements.{All-tail}
+use Rattle.std.proofs.lemmas.List.{get_or_append_left}
 use Rattle.batch.specs.declared.transfer.Transfer.{Transfer}
 use Rattle.module_memory.specs.Core.{IsSetting}
+use Rattle.module_memory.proofs.SettingLaws.{in_more}
 use Rattle.link_graph.specs.Schedules.{IsScheduleOf}
 use Rattle.link_graph.specs.Certificates.{AreDistinct}
 use Rattle.link_graph.proofs.Once.{is_known, is_once, once_from_distinct}
 use Rattle.link_graph.proofs.Sums.{hit, swap, sum_ones}
-use Rattle.link_graph.proofs.Firsts.{all_left}
+use Rattle.link_graph.proofs.Firsts.{all_left, all_right}
 use Rattle.switch_settings.proofs.Counting.{each_once, length_range}
 
 -- the numbers before a setting, those of the setting, and those behind it
@@ -29,18 +29,9 @@ distinct_left : (xs ys : List ℕ) → AreDistinct (xs ++ ys) → AreDistinct xs
 distinct_left xs ys h i j d l m e =
     h i j d l (omega (arith, length-append xs ys)) (get_or_append_left xs ys d i (omega arith) ∙ e ∙ sym (get_or_append_left xs ys d j m))
 
-shifted : (xs ys : List ℕ) (k d : ℕ) → get_or (xs ++ ys) (length xs + k) d ≡ get_or ys k d
-shifted xs ys k d =
-    let e : length xs + k - length xs ≡ k = omega arith in
-    get_or-append_right xs ys (length xs) (length xs + k) d refl (omega arith) ∙ ap (λ (x : ℕ). get_or ys x d) e
-
 distinct_right : (xs ys : List ℕ) → AreDistinct (xs ++ ys) → AreDistinct ys
 distinct_right xs ys h i j d l m e =
-    h (length xs + i) (length xs + j) d (omega arith) (omega (arith, length-append xs ys)) (shifted xs ys i d ∙ e ∙ sym (shifted xs ys j d))
-
-all_later : (P : ℕ → Type 0) (xs ys : List ℕ) → All P (xs ++ ys) → All P ys
-all_later P [] ys h = h
-all_later P (x ∷ xs) ys h = all_later P xs ys (All-tail P x (xs ++ ys) h)
+    h (length xs + i) (length xs + j) d (omega arith) (omega (arith, length-append xs ys)) (in_more xs ys i d ∙ e ∙ sym (in_more xs ys j d))
 
 setting_from : (batch : List Transfer) (xs : List ℕ) → All (λ t. t < length batch) xs → AreDistinct xs → IsSetting batch xs
 setting_from batch xs known distinct = record {
@@ -70,7 +61,7 @@ are_settings batch settings k s h =
     let known_front = all_left P (before ++ numbers) after known in
     let distinct_front = distinct_left (before ++ numbers) after distinct in
     record {
-      own = setting_from batch numbers (all_later P before numbers known_front) (distinct_right before numbers distinct_front);
+      own = setting_from batch numbers (all_right P before numbers known_front) (distinct_right before numbers distinct_front);
       up_to = setting_from batch (before ++ numbers) known_front distinct_front;
     }
 

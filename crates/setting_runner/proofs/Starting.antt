@@ -1,5 +1,5 @@
 -- Before a run begins.
-use Rattle.std.proofs.Common.{◌⊎◌, ◌≡◌, ◌<◌, ◌+◌, inl, inr, ℕ, List, length, take, drop, sym, ap₂, arith, refl, subst}
+use Rattle.std.proofs.Common.{◌⊎◌, ◌≡◌, ◌<◌, ◌+◌, ℕ, List, length, take, drop, sym, ap₂, arith, refl, subst}
 use Rattle.std.specs.Prelude.{◌↔◌}
 use Rattle.std.specs.List.{concat}
 use Rattle.batch.specs.Extent.{Extent}
@@ -8,6 +8,7 @@ use Rattle.batch.specs.declared.transfer.Transfer.{Transfer}
 use Rattle.batch.specs.Held.{AreHeldSources}
 use Rattle.batch.specs.Overlap.{IsApart, IsFirstOverlap}
 use Rattle.batch.specs.Places.{HasPlace}
+use Rattle.batch.proofs.FirstOverlap.{one_first}
 use Rattle.std.proofs.lemmas.List.Elements.{Contains-get_or}
 use Rattle.module_memory.specs.Store.{Store}
 use Rattle.module_memory.specs.Core.{FitsIn, IsReady, setting_of}
@@ -27,12 +28,6 @@ use Rattle.setting_runner.proofs.Schedules.{split_concat}
 
 abbrev refused : RunRefusal → Outcome
 refused r = Refused r
-
-one_first : (ts : List Transfer) (a b i j : ℕ) → IsFirstOverlap ts a b → IsFirstOverlap ts i j → (a ≡ i) × (b ≡ j)
-one_first ts a b i j x y = elim (x.first i j y.overlap) [
-  | inl less ↦ elim (y.first a b x.overlap) [ inl more ↦ absurd (omega arith) | inr same ↦ absurd (omega (arith, same.0)) ]
-  | inr one ↦ elim (y.first a b x.overlap) [ inl more ↦ absurd (omega (arith, one.0)) | inr same ↦ (one.0, omega (arith, one.1, same.1)) ]
-]
 
 same_pair : (a b i j : ℕ) → refused (Overlap a b) ≡ refused (Overlap i j) → (a ≡ i) × (b ≡ j)
 same_pair a b i j e = (cc, cc)

@@ -17,6 +17,7 @@ use Rattle.link_graph.specs.Counts.{module_at, uses}
 use Rattle.link_graph.specs.Marks.{members}
 use Rattle.link_graph.specs.Schedules.{IsScheduleOf}
 use Rattle.link_graph.proofs.Users.{at_used, uses_at}
+use Rattle.link_graph.proofs.Masks.{bit}
 use Rattle.steady_schedule.specs.Bounds.{link_of, in_use, most_changes}
 use Rattle.steady_schedule.specs.Changes.{are_partners, join_same, changes_after, changes}
 use Rattle.steady_schedule.specs.Needs.{IsUsed, IsOver, ChangesAtNeed}
@@ -26,7 +27,6 @@ use Rattle.steady_schedule.specs.Waiting.{sum_below}
 use Rattle.steady_schedule.proofs.StepSums.{count_is_sum}
 use Rattle.steady_schedule.proofs.Ends.{modules_low}
 use Rattle.steady_schedule.proofs.Members.{member_any, any_member, pair_stands}
-use Rattle.steady_schedule.proofs.NeedChanges.{bit}
 use Rattle.steady_schedule.proofs.Sums.{sum_most, sum_less, at_most_sum}
 
 -- ---- what some settings join and use

@@ -8,6 +8,8 @@ use Rattle.batch.specs.declared.transfer.Transfer.{Transfer}
 use Rattle.link_graph.specs.declared.link.End.TheVariants.{Zero, Three}
 use Rattle.link_graph.specs.Counts.{count_below}
 use Rattle.link_graph.specs.Marks.{members}
+use Rattle.link_graph.proofs.Sums.{count_below_same}
+use Rattle.link_graph.proofs.Masks.{bit}
 use Rattle.steady_schedule.specs.Changes.{are_partners, join_within, join_same}
 use Rattle.steady_schedule.specs.Gathered.{AreGathered}
 use Rattle.steady_schedule.specs.Longest.{joined_from, used_from, CouldHold, BeginsStep, StaySame, AreLongest, DontGetLonger}
@@ -18,8 +20,7 @@ use Rattle.steady_schedule.specs.Waiting.{count_at, waiting}
 use Rattle.steady_schedule.proofs.Joined.{within_from, join_met}
 use Rattle.steady_schedule.proofs.Matchings.{has_low, partner_low}
 use Rattle.steady_schedule.proofs.Members.{joins_in, joins_out}
-use Rattle.steady_schedule.proofs.NeedChanges.{bit, count_none}
-use Rattle.steady_schedule.proofs.PartnerMasks.{count_same}
+use Rattle.steady_schedule.proofs.NeedChanges.{count_none}
 use Rattle.steady_schedule.proofs.Steps.{at_pair, at_others}
 use Rattle.steady_schedule.proofs.Sums.{only, sum_same}
 
@@ -30,7 +31,7 @@ count_then : (first k : ℕ) (f : ℕ → Bool) (b : Bool) → count_below (firs
 count_then first zero f b =
     let e : first + zero ≡ first = omega arith in
     let none : only b zero ≡ 0 = elim (cases_Bool b) [ inl t ↦ rw t refl | inr n ↦ rw n refl ] in
-    let same = count_same first (λ d. cond (nat_lt d first) (f d) b) f (λ d lt. rw (lt-ltb d first lt) refl) in
+    let same = count_below_same first (λ d. cond (nat_lt d first) (f d) b) f (λ d lt. rw (lt-ltb d first lt) refl) in
     ap (λ (n : ℕ). count_below n (λ d. cond (nat_lt d first) (f d) b)) e ∙ omega (arith, same, none)
 count_then first (suc k) f b =
     let e : first + suc k ≡ suc (first + k) = omega arith in
@@ -41,7 +42,7 @@ count_then first (suc k) f b =
 -- all numbers are those from k on, and those before
 all_before : (n k : ℕ) (f : ℕ → Bool) → k ≡ n → count_below n (λ e. not (nat_lt e k) && f e) + count_below k f ≡ count_below n f
 all_before n k f e =
-    let none = count_same n (λ d. not (nat_lt d k) && f d) (λ d. false) (λ d lt. rw (lt-ltb d k (omega (arith, lt, e))) refl) in
+    let none = count_below_same n (λ d. not (nat_lt d k) && f d) (λ d. false) (λ d lt. rw (lt-ltb d k (omega (arith, lt, e))) refl) in
     omega (arith, none, count_none n (λ d. false) (λ i. refl), ap (λ (m : ℕ). count_below m f) e)
 
 count_from : (n k : ℕ) (f : ℕ → Bool) → k ≤ n → count_below n (λ e. not (nat_lt e k) && f e) + count_below k f ≡ count_below n f
@@ -109,7 +110,7 @@ module _ (totals remaining slots remaining_now slots_now : List ℕ) (zeros thre
       ]
 
   counted_before : (d u v : ℕ) → d ≤ first → count_below d (λ e. joined_now e u v) ≡ count_below d (λ e. so_far.joined e u v)
-  counted_before d u v le = count_same d (λ e. joined_now e u v) (λ e. so_far.joined e u v) (λ e lt. before e u v (omega (arith, lt, le)))
+  counted_before d u v le = count_below_same d (λ e. joined_now e u v) (λ e. so_far.joined e u v) (λ e lt. before e u v (omega (arith, lt, le)))
 
   -- the pairs of the step aren't those of the one before
   other_pairs : 0 < first → ((u v : ℕ) → joined_now (first - 1) u v ≡ joined_now first u v) → ⊥
@@ -221,8 +222,8 @@ module _ (batch : List Transfer) (numbers : List ℕ) (settings : List (List ℕ
     waits_from : (u v : ℕ) → u < MAX_MODULES → v < MAX_MODULES → joined_from batch settings k u v ≡ count_at l.counts u v
     waits_from u v u_in v_in =
         let f : ℕ → Bool = λ e. are_partners (members batch (get_or settings e [])) u v in
-        let all = count_same count f (λ d. long.joined d u v) (λ d lt. sym (joined_is d u v lt)) in
-        let early = count_same k f (λ d. long.joined d u v) (λ d lt. sym (joined_is d u v (omega (arith, lt, k_in)))) in
+        let all = count_below_same count f (λ d. long.joined d u v) (λ d lt. sym (joined_is d u v lt)) in
+        let early = count_below_same k f (λ d. long.joined d u v) (λ d lt. sym (joined_is d u v (omega (arith, lt, k_in)))) in
         let split = count_from count k f (omega (arith, k_in)) in
         let whole : joined_from batch settings k u v ≡ count_below count (λ e. not (nat_lt e k) && f e) = ap (λ (n : ℕ). count_below n (λ e. not (nat_lt e k) && f e)) g.sized in
         omega (arith, all, early, split, whole, l.waits u v u_in v_in)

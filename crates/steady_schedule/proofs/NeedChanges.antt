@@ -1,6 +1,6 @@
 -- Each partner of a link wants a change of its own: a setting joins the link to one partner at
 -- most.
-use Rattle.std.proofs.Common.{◌≡◌, ◌==◌, ℕ, zero, suc, ◌+◌, ◌<◌, ◌≤◌, List, [], ◌∷◌, Bool, true, false, not, ◌&&◌, ◌||◌, cond, All, Some, slice_get, subst, refl, ap, ◌∙◌, inl, inr, arith}
+use Rattle.std.proofs.Common.{◌≡◌, ◌==◌, ℕ, zero, suc, ◌+◌, ◌<◌, ◌≤◌, List, [], ◌∷◌, Bool, true, false, not, ◌&&◌, ◌||◌, All, Some, slice_get, subst, refl, ap, ◌∙◌, inl, inr, arith}
 use Rattle.std.specs.List.{list_any}
 use Rattle.std.proofs.lemmas.Bool.{cases_lt, cases_Bool, and_parts, or_left, or_right}
 use Rattle.std.proofs.lemmas.Bool.Decides.{nat_tests, eqb_tells, same_from_decides}
@@ -22,14 +22,11 @@ use Rattle.link_graph.proofs.Sharing.{shared_from_count, shared_no_matching}
 use Rattle.link_graph.proofs.Sums.{hit, hit_other}
 use Rattle.link_graph.proofs.Once.{standings}
 use Rattle.link_graph.proofs.Users.{use_of}
+use Rattle.link_graph.proofs.Masks.{bit}
 use Rattle.steady_schedule.specs.Changes.{are_partners, join_within, join_same, changes_after, changes}
 use Rattle.steady_schedule.specs.Partners.{joins_to, partners}
 
 -- ---- counts
-
--- whether it counts
-abbrev pub bit : Bool → ℕ
-bit b = cond b 1 0
 
 pub count_within : (n : ℕ) (f g h : ℕ → Bool) → ((i : ℕ) → bit (f i) ≤ bit (g i) + bit (h i)) → count_below n f ≤ count_below n g + count_below n h
 count_within zero f g h is = omega arith

@@ -5,11 +5,9 @@ use Rattle.std.specs.Int.RustNames.{bit_or}
 use Rattle.std.specs.List.{list_any, IsFirstBest}
 use Rattle.std.proofs.lemmas.Bool.{cases_lt, cases_eq, or_left, ltb-true, ltb-false}
 use Rattle.std.proofs.lemmas.Bool.Decides.{nat_tests}
-use Rattle.std.proofs.lemmas.Grind.{elements}
-use Rattle.std.proofs.lemmas.List.{length-replicate, get_or_past, length-set}
+use Rattle.std.proofs.lemmas.List.{length-replicate, length-set}
 use Rattle.std.proofs.lemmas.List.Elements.{All-head}
 use Rattle.std.proofs.lemmas.List.Folds.{list_any-append}
-use Rattle.std.proofs.lemmas.Nat.Bits.{bit_at-zero}
 use Rattle.batch.specs.Batches.{IsBatch}
 use Rattle.batch.specs.Extent.{widest}
 use Rattle.batch.specs.Text.{IsWithin}
@@ -25,10 +23,12 @@ use Rattle.link_graph.specs.Uses.{start_link}
 use Rattle.link_graph.proofs.Tables.{index_below, before_index, uses_outside}
 use Rattle.link_graph.proofs.Users.{made}
 use Rattle.link_graph.specs.Masks.{has_bit, has_pair}
+use Rattle.link_graph.proofs.Sums.{count_below_same}
+use Rattle.link_graph.proofs.Masks.{bit, no_pair}
 use Rattle.steady_schedule.specs.Masks.{bits_set}
 use Rattle.steady_schedule.specs.Partners.{joins_to, partners, HasMostPartners, ArePartnerMasks}
 use Rattle.steady_schedule.proofs.Bits.{pair_added}
-use Rattle.steady_schedule.proofs.NeedChanges.{bit, partners_few}
+use Rattle.steady_schedule.proofs.NeedChanges.{partners_few}
 
 or_none : (b : Bool) → (b || false) ≡ b
 or_none true = refl
@@ -37,11 +37,8 @@ or_none false = refl
 pub any_push : {X : Type 0} (p : X → Bool) (xs : List X) (x : X) → list_any p (xs ++ x ∷ []) ≡ (list_any p xs || p x)
 any_push p xs x = list_any-append p xs (x ∷ []) ∙ ap (λ (b : Bool). list_any p xs || b) (or_none (p x))
 
-empty_mask : (n i m : ℕ) → has_pair (replicate n 0) i m ≡ false
-empty_mask n i m = grind (arith, elements, bit_at-zero m, get_or_past {X = ℕ} (replicate n 0) i 0)
-
 pub no_masks : ArePartnerMasks [] (replicate LINKS 0)
-no_masks = record { places = length-replicate {A = ℕ} LINKS 0; at = λ link m low m_low. empty_mask LINKS (link_index link) m }
+no_masks = record { places = length-replicate {A = ℕ} LINKS 0; at = λ link m low m_low. no_pair LINKS (link_index link) m }
 
 module _ (xs : List Transfer) (x : Transfer) (masks : List ℕ) (a b : ℕ) (so_far : ArePartnerMasks xs masks) (start : a ≡ x.initiator) (answer : b ≡ x.responder) (start_low : a < MAX_MODULES) (answer_low : b < MAX_MODULES) where
   abbrev one : List ℕ
@@ -76,15 +73,11 @@ pub bits_set_is : (mask n : ℕ) → n ≡ MAX_MODULES → count_below n (λ m. 
 unfolding bits_set
 bits_set_is mask n all = ap (λ (k : ℕ). count_below k (λ m. has_bit mask m)) all
 
-pub count_same : (n : ℕ) (p q : ℕ → Bool) → ((m : ℕ) → m < n → p m ≡ q m) → count_below n p ≡ count_below n q
-count_same zero p q same = refl
-count_same (suc n) p q same = omega (arith, ap bit (same n (omega arith)), count_same n p q (λ m lt. same m (omega arith)))
-
 module _ (batch : List Transfer) (masks counts : List ℕ) (fits : IsBatch batch) (are : ArePartnerMasks batch masks) (counted : (k : ℕ) → k < LINKS → get_or counts k 0 ≡ bits_set (get_or masks k 0)) where
   partners_at : (link : Link) → link.«module» < MAX_MODULES → partners batch link ≡ get_or counts (link_index link) 0
   unfolding partners bits_set
   partners_at link low =
-      sym (counted (link_index link) (index_below link low) ∙ count_same MAX_MODULES (λ m. has_pair masks (link_index link) m) (λ m. list_any (joins_to link m) batch) (λ m m_low. are.at link m low m_low))
+      sym (counted (link_index link) (index_below link low) ∙ count_below_same MAX_MODULES (λ m. has_pair masks (link_index link) m) (λ m. list_any (joins_to link m) batch) (λ m m_low. are.at link m low m_low))
 
   partners_outside : (link : Link) → MAX_MODULES ≤ link.«module» → partners batch link ≡ 0
   unfolding partners

@@ -18,10 +18,11 @@ use Rattle.link_graph.specs.Marks.{members}
 use Rattle.link_graph.specs.Schedules.{IsScheduleOf}
 use Rattle.link_graph.specs.Uses.{IsMatching}
 use Rattle.link_graph.proofs.Users.{made}
+use Rattle.link_graph.proofs.Sums.{each}
 use Rattle.steady_schedule.specs.Changes.{join_same, changes}
 use Rattle.steady_schedule.specs.Prices.{AreNeeded, IsLongest, IsCheapest, SCALE, price_at, price_for, AreFair, number_for, AreCosts, ShowChanges}
 use Rattle.steady_schedule.specs.Waiting.{sum_below, count_at, count_between, waiting, ArePairCounts, HaveMost}
-use Rattle.steady_schedule.proofs.StepSums.{sum_equal, swap_below, each_of}
+use Rattle.steady_schedule.proofs.StepSums.{sum_equal, swap_below}
 use Rattle.steady_schedule.proofs.Runs.{Step, steps_from, steps_of, many_steps, has, step_numbers, each_now, number_low, number_idle, at_link, shared}
 use Rattle.steady_schedule.proofs.Sums.{only, only_few, sum_none, sum_same, sum_both, sum_swap, sum_more, sum_zero, at_most_sum}
 use Rattle.steady_schedule.proofs.Waiting.{all_low, waiting_uses}
@@ -180,8 +181,8 @@ module _ {J : Type 0} (n : ℕ) (s : J → ℕ) (pair : J → ℕ → ℕ → Bo
   pub paid_few : (js : List J) → AllByRecursion IsPaid js → sum_below n (λ u. sum_below n (λ v. sum_by (λ j. pair_price j u v) js)) ≤ length js * scale
   paid_few js all =
       let inside = sum_same n (λ u. sum_below n (λ v. sum_by (λ j. pair_price j u v) js)) (λ u. sum_by (λ j. sum_below n (pair_price j u)) js) (λ u lt. swap_below n (λ j. pair_price j u) js) in
-      let each = each_of IsPaid (λ j. sum_below n (λ u. sum_below n (pair_price j u)) ≤ scale) step_few js all in
-      omega (arith, inside, swap_below n (λ j u. sum_below n (pair_price j u)) js, all_few (λ j. sum_below n (λ u. sum_below n (pair_price j u))) scale js each)
+      let steps_few = each IsPaid (λ j. sum_below n (λ u. sum_below n (pair_price j u)) ≤ scale) step_few js all in
+      omega (arith, inside, swap_below n (λ j u. sum_below n (pair_price j u)) js, all_few (λ j. sum_below n (λ u. sum_below n (pair_price j u))) scale js steps_few)
 
 -- ---- the steps of a schedule
 
@@ -349,7 +350,7 @@ module _ (batch : List Transfer) (fits : IsBatch batch) where
 
         paid : AreCosts counts (length settings) prices top pays
         paid u v cost u_few v_few cheap =
-            let by = λ (all : long u v ≡ number_for counts (length settings) u v). paid_by (λ j. joined j u v) (λ j. j.settings) (price_for prices u v) top (number_for counts (length settings) u v) cost js (each_of IsPaidStep (λ j. IsLength top j.settings) (λ j is. is.0) js all_paid) all cheap in
+            let by = λ (all : long u v ≡ number_for counts (length settings) u v). paid_by (λ j. joined j u v) (λ j. j.settings) (price_for prices u v) top (number_for counts (length settings) u v) cost js (each IsPaidStep (λ j. IsLength top j.settings) (λ j is. is.0) js all_paid) all cheap in
             elim (cases_lt u MAX_MODULES) [
               | inl u_in ↦ by (long_zero u v u_in v_few)
               | inr le ↦ elim (cases_lt v MAX_MODULES) [

@@ -18,12 +18,13 @@ use Rattle.link_graph.specs.Marks.{members}
 use Rattle.link_graph.specs.Schedules.{IsScheduleOf}
 use Rattle.link_graph.specs.Uses.{IsMatching}
 use Rattle.link_graph.proofs.Sharing.{shared_from_count, shared_no_matching}
+use Rattle.link_graph.proofs.Masks.{bit}
 use Rattle.steady_schedule.specs.Changes.{join_same, changes_after, changes}
 use Rattle.steady_schedule.specs.Partners.{joins_to}
 use Rattle.steady_schedule.specs.Waiting.{sum_below}
 use Rattle.steady_schedule.proofs.StepSums.{sum_equal}
 use Rattle.steady_schedule.proofs.Ends.{modules_low}
-use Rattle.steady_schedule.proofs.NeedChanges.{bit, same_meets}
+use Rattle.steady_schedule.proofs.NeedChanges.{same_meets}
 use Rattle.steady_schedule.proofs.Sums.{only, sum_same, sum_more, at_most_sum}
 use Rattle.steady_schedule.proofs.Totals.{counted_once}
 use Rattle.steady_schedule.proofs.Waiting.{IsLow, at_end, pair_uses}

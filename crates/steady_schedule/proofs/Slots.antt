@@ -13,11 +13,11 @@ use Rattle.link_graph.specs.declared.link.End.TheVariants.{Zero, Three}
 use Rattle.link_graph.specs.Counts.{module_at}
 use Rattle.link_graph.specs.Uses.{AreApart}
 use Rattle.link_graph.proofs.Users.{at_used}
+use Rattle.link_graph.proofs.Masks.{bit}
 use Rattle.steady_schedule.specs.Matchings.{partner, AreMatched, AreBelow}
 use Rattle.steady_schedule.specs.Waiting.{sum_below, pair_count, pair_index, count_at, HaveMost, ArePairCounts}
 use Rattle.steady_schedule.specs.Slots.{slot, IsWritten, AreOneOrApart, AreNumbered, AreNumberedFrom, AreSlotsFilled, AreReadTo, AreProper, StandsIn, KeepNumbers, JoinsAs}
 use Rattle.steady_schedule.proofs.Matchings.{has_low, partner_low}
-use Rattle.steady_schedule.proofs.NeedChanges.{bit}
 use Rattle.steady_schedule.proofs.Sums.{at_most_sum}
 use Rattle.steady_schedule.proofs.Waiting.{same_place, count_here, count_other}
 

@@ -1,7 +1,6 @@
 -- Sums over steps.
 use Rattle.std.proofs.Common.{◌≡◌, ℕ, zero, suc, ◌+◌, ◌-◌, List, [], ◌∷◌, Bool, refl, ap, inl, inr, arith}
 use Rattle.std.specs.Prelude.{sum_by}
-use Rattle.std.specs.List.{AllByRecursion}
 use Rattle.std.proofs.lemmas.Bool.{cases_Bool}
 use Rattle.std.proofs.lemmas.List.Sums.{sum_by-cons}
 use Rattle.link_graph.specs.Counts.{count_below}
@@ -22,10 +21,6 @@ swap_below n F [] = sum_none n
 swap_below n F (j ∷ js) =
     let split = sum_same n (λ m. sum_by (λ i. F i m) (j ∷ js)) (λ m. F j m + sum_by (λ i. F i m) js) (λ m lt. sum_by-cons (λ i. F i m) j js) in
     omega (arith, sum_by-cons (λ i. sum_below n (F i)) j js, swap_below n F js, sum_both n (F j) (λ m. sum_by (λ i. F i m) js), split)
-
-pub each_of : {J : Type 0} (P Q : J → Type 0) → ((j : J) → P j → Q j) → (js : List J) → AllByRecursion P js → AllByRecursion Q js
-each_of P Q f [] all = tt
-each_of P Q f (j ∷ js) all = (f j all.0, each_of P Q f js all.1)
 
 module _ {J : Type 0} (s : J → ℕ) (a : J → ℕ → Bool) where
   -- how long a place is taken, and by how many steps

@@ -8,7 +8,6 @@ use Rattle.std.proofs.lemmas.List.{length-set, length-replicate, get_or_past, le
 use Rattle.std.proofs.lemmas.List.Elements.{All-head, All-tail, All-take}
 use Rattle.std.proofs.lemmas.List.Sums.{sum_by-cons, sum_by_push}
 use Rattle.std.proofs.lemmas.Nat.{same_from_place}
-use Rattle.std.proofs.lemmas.Nat.Bits.{bit_at-zero}
 use Rattle.batch.specs.Batches.{IsBatch}
 use Rattle.batch.specs.declared.limits.TheConstants.{MAX_MODULES, MAX_TRANSFERS}
 use Rattle.batch.specs.declared.transfer.Transfer.{Transfer}
@@ -17,8 +16,8 @@ use Rattle.link_graph.specs.declared.link.End.TheVariants.{Zero, Three}
 use Rattle.link_graph.specs.Counts.{uses}
 use Rattle.link_graph.proofs.Users.{made, use_of, uses_few}
 use Rattle.link_graph.specs.Masks.{has_bit, has_pair}
+use Rattle.link_graph.proofs.Masks.{bit, no_pair}
 use Rattle.steady_schedule.specs.Waiting.{sum_below, pair_count, pair_index, count_at, count_between, waiting, ArePairCounts, AreTold}
-use Rattle.steady_schedule.proofs.NeedChanges.{bit}
 use Rattle.steady_schedule.proofs.Sums.{sum_same, sum_none, sum_both, sum_changed, at_most_sum}
 
 -- ---- places
@@ -94,9 +93,6 @@ between_few counts Three x m m_in = at_most_sum MAX_MODULES m (λ u. count_at co
 pub none_at : (n i : ℕ) → get_or {A = ℕ} (replicate n 0) i 0 ≡ 0
 none_at n i = grind (arith, elements, get_or_past {X = ℕ} (replicate n 0) i 0)
 
-pub no_mask : (n u v : ℕ) → has_pair (replicate n 0) u v ≡ false
-no_mask n u v = grind (arith, none_at n u, bit_at-zero v)
-
 none_waits : (n : ℕ) (f : ℕ → ℕ) → ((i : ℕ) → f i ≡ 0) → sum_below n f ≡ 0
 none_waits n f none = sum_same n f (λ i. 0) (λ i lt. none i) ∙ sum_none n
 
@@ -109,8 +105,8 @@ none_told =
       near_three_sized = length-replicate {A = ℕ} MAX_MODULES 0;
       uses_zero_sized = length-replicate {A = ℕ} MAX_MODULES 0;
       uses_three_sized = length-replicate {A = ℕ} MAX_MODULES 0;
-      near_zero = λ u v u_in v_in. no_mask MAX_MODULES u v ∙ ap (nat_lt 0) (sym (none_at n (pair_index u v)));
-      near_three = λ u v u_in v_in. no_mask MAX_MODULES v u ∙ ap (nat_lt 0) (sym (none_at n (pair_index u v)));
+      near_zero = λ u v u_in v_in. no_pair MAX_MODULES u v ∙ ap (nat_lt 0) (sym (none_at n (pair_index u v)));
+      near_three = λ u v u_in v_in. no_pair MAX_MODULES v u ∙ ap (nat_lt 0) (sym (none_at n (pair_index u v)));
       uses_zero = λ m m_in. none_at MAX_MODULES m ∙ sym (none_waits MAX_MODULES (λ v. count_at (replicate n 0) m v) (λ v. none_at n (pair_index m v)));
       uses_three = λ m m_in. none_at MAX_MODULES m ∙ sym (none_waits MAX_MODULES (λ u. count_at (replicate n 0) u m) (λ u. none_at n (pair_index u m)));
     }

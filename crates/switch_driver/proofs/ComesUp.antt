@@ -12,6 +12,7 @@ use Rattle.c004_commands.specs.Commands.{AreCommands, HasPorts, IsCommandFront, 
 use Rattle.c004_commands.specs.declared.command.Command.{Command}
 use Rattle.c004_commands.specs.declared.command.Command.TheVariants.{Connect, Join, Enquire, Settle, Reset, Cut, CutPair}
 use Rattle.c004_commands.specs.declared.port.TheConstants.{PORTS}
+use Rattle.c004_commands.proofs.Readings.{AreCommands-append}
 use Rattle.crossbar.proofs.Carrying.{after_all-append, answers-append, enquiries-append, nothing_come}
 use Rattle.crossbar.proofs.Latches.{eqb_no, eqb_yes, get-put}
 use Rattle.crossbar.specs.Switch.{Switch, after, after_all, answers, enquiries, idle}
@@ -77,16 +78,12 @@ ended begun h = ended_of h.command begun h.next h.more h.ports h.row_is
 abbrev behind : List Command
 behind = own_joins ++ all_enquiries
 
-are_both : (cs ds : List Command) → AreCommands cs → AreCommands ds → AreCommands (cs ++ ds)
-are_both [] ds p q = q
-are_both (c ∷ cs) ds p q = (p.0, are_both cs ds p.1 q)
-
 some_joins : (a n : ℕ) → a + n ≤ PORTS → AreCommands (map own_join (range_with_len a n))
 some_joins a zero le = tt
 some_joins a (suc n) le = ((omega arith, (omega arith, tt)), some_joins (a + 1) n (omega arith))
 
 behind_ports : AreCommands behind
-behind_ports = are_both own_joins all_enquiries (some_joins 0 PORTS (omega arith)) all_ports
+behind_ports = AreCommands-append own_joins all_enquiries (some_joins 0 PORTS (omega arith)) all_ports
 
 own_kept : (a n o : ℕ) (s : Switch) → o < a → finmap.get (after_all (map own_join (range_with_len a n)) s).sources o ≡ finmap.get s.sources o
 own_kept a zero o s lt = refl
@@ -182,7 +179,7 @@ comes_up begun front =
     ∙ sym (append_assoc begun (text ending) (text behind))
     ∙ ap (λ (bs : List ℕ). bs ++ text behind) e.whole
     ∙ sym (flat_map-append row first behind) in
-    let reads : Spells (begun ++ text (ending ++ behind)) (first ++ behind) [] = record { whole = whole ∙ sym (append-nil (text (first ++ behind))); ports = are_both first behind e.ports behind_ports; partial = nothing_come } in
+    let reads : Spells (begun ++ text (ending ++ behind)) (first ++ behind) [] = record { whole = whole ∙ sym (append-nil (text (first ++ behind))); ports = AreCommands-append first behind e.ports behind_ports; partial = nothing_come } in
     let count : enquiries (first ++ behind) ≡ enquiries first + PORTS = enquiries-append first behind in (
       first ++ behind,
       reads,

@@ -2,9 +2,9 @@
 use Rattle.std.proofs.Common.{◌≡◌, ◌≤◌, ◌+◌, ◌++◌, ◌∷◌, [], ℕ, List, length, take, drop, replicate, Option, Some, refl, sym, ap, ap₂, ◌∙◌, subst, append_assoc, append-nil, arith}
 use Rattle.std.proofs.lemmas.List.{length-take-le, length-drop, length-append, length-replicate, map-append, take_all, take-append-le, drop-append-le}
 use Rattle.c004_commands.proofs.Readings.{longer_text, one_reading}
-use Rattle.c004_commands.specs.Commands.{row, text, AreCommands, Spells}
+use Rattle.c004_commands.specs.Commands.{row, Spells}
 use Rattle.c004_commands.specs.declared.command.Command.{Command}
-use Rattle.crossbar.proofs.Carrying.{nothing_come, enquiries-append, fewer_enquiries, spells_conversation}
+use Rattle.crossbar.proofs.Carrying.{nothing_come, enquiries-append, fewer_enquiries, spells_conversation, spells_whole}
 use Rattle.crossbar.specs.Port.{IsConversation}
 use Rattle.crossbar.specs.Switch.{enquiries}
 use Rattle.crossbar.specs.Traffic.{sent_byte, sent_to, heard_from, conversed, HaveConversed, BreaksOff}
@@ -88,14 +88,11 @@ fits contents remaining chip command bytes come more later reader left replies h
 
 -- ---- its end
 
-spells_all : (bytes : List ℕ) (commands : List Command) → AreCommands commands → bytes ≡ text commands → Spells bytes commands []
-spells_all bytes commands ports whole = spells_conversation bytes (enquiries commands) (record { commands = commands; ports = ports; whole = whole; count = refl })
-
 -- all commands were sent, and replied to
 pub all_conversed : {I O : Type 0} (contents : O → Option (List ℕ)) (remaining : I → Option (List ℕ)) (chip : Chip) (come bytes reader replies : List ℕ) (heard number : ℕ) (old new : SwitchStream I O) (before after : List Passing)
     → SoFar contents remaining chip come reader replies heard old new before after → come ≡ bytes → IsConversation bytes number → length replies ≡ number → HaveConversed chip bytes replies (Some before) (Some after)
 all_conversed contents remaining chip come bytes reader replies heard number old new before after h all conversation len commands ports whole =
-    let spells = spells_all bytes commands ports whole in
+    let spells = spells_whole bytes commands ports whole in
     let same = (one_reading bytes h.commands commands reader [] (subst (λ (b : List ℕ). Spells b h.commands reader) all h.spells) spells).0 in
     let given = (one_reading bytes conversation.commands commands [] [] (spells_conversation bytes number conversation) spells).0 in
     let filled : length replies ≤ heard = omega (arith, ap enquiries same, ap enquiries given, h.count, conversation.count, len) in
@@ -105,7 +102,7 @@ all_conversed contents remaining chip come bytes reader replies heard number old
 broke_off : (chip : Chip) (bytes come later front left reader : List ℕ) (commands : List Command) (command : Command) (replies : List ℕ) (before after : List Passing) → bytes ≡ come ++ later → Spells come (commands ++ command ∷ []) reader → row command ≡ front ++ left
     → length replies ≡ enquiries commands → after ≡ before ++ (conversed chip commands replies ++ sent_to chip front) → BreaksOff chip bytes (Some before) (Some after)
 broke_off chip bytes come later front left reader commands command replies before after are spells row_is count noted all ports whole =
-    let on = longer_text come later (commands ++ command ∷ []) all reader [] spells (subst (λ (b : List ℕ). Spells b all []) are (spells_all bytes all ports whole)) in
+    let on = longer_text come later (commands ++ command ∷ []) all reader [] spells (subst (λ (b : List ℕ). Spells b all []) are (spells_whole bytes all ports whole)) in
     let behind = command ∷ on.later in
     let all_are : all ≡ commands ++ behind = on.others_are ∙ append_assoc commands (command ∷ []) on.later in
     let zeros : List ℕ = replicate (enquiries behind) 0 in
@@ -138,7 +135,7 @@ broke_within contents remaining chip command bytes come more later reader left r
 pub broke_behind : {I O : Type 0} (contents : O → Option (List ℕ)) (remaining : I → Option (List ℕ)) (chip : Chip) (come bytes reader replies : List ℕ) (heard : ℕ) (old new : SwitchStream I O) (before after : List Passing)
     → SoFar contents remaining chip come reader replies heard old new before after → come ≡ bytes → BreaksOff chip bytes (Some before) (Some after)
 broke_behind contents remaining chip come bytes reader replies heard old new before after h all commands ports whole =
-    let same = (one_reading bytes h.commands commands reader [] (subst (λ (b : List ℕ). Spells b h.commands reader) all h.spells) (spells_all bytes commands ports whole)).0 in
+    let same = (one_reading bytes h.commands commands reader [] (subst (λ (b : List ℕ). Spells b h.commands reader) all h.spells) (spells_whole bytes commands ports whole)).0 in
     let heard_are = take heard replies in (
       conversed chip h.commands heard_are,
       h.carried.noted,

@@ -8,12 +8,13 @@ use Rattle.std.proofs.lemmas.List.Elements.{All-head, All-tail}
 use Rattle.batch.specs.declared.transfer.Transfer.{Transfer}
 use Rattle.batch.specs.Overlap.{transfer_at}
 use Rattle.crossbar.specs.declared.pair.Pair.{Pair}
+use Rattle.crossbar.proofs.Changes.{In}
 use Rattle.link_graph.specs.Uses.{AreApart, IsMatching}
 use Rattle.link_graph.proofs.Sums.{later, first_with}
 use Rattle.switch_settings.specs.Settings.{joined_pair, setting_pairs}
 use Rattle.switch_settings.specs.Sending.{started_by, in_order}
 use Rattle.switch_settings.specs.Tables.{table_pairs}
-use Rattle.switch_settings.proofs.Joined.{In, joined, IsTableOf, no_initiator}
+use Rattle.switch_settings.proofs.Joined.{joined, IsTableOf, no_initiator}
 
 -- none of the pairs is started by a module that starts none of them
 none_started : (ps : List Pair) (m : ℕ) → ((p : Pair) → In p ps → p.initiator ≡ m → ⊥) → started_by ps m ≡ []

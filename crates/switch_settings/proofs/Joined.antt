@@ -18,6 +18,7 @@ use Rattle.link_graph.proofs.Once.{standings, stands_from_count, once_from_disti
 use Rattle.switch_settings.proofs.Counting.{each_once, length_range}
 use Rattle.std.proofs.lemmas.List.{take_more, length-map}
 use Rattle.std.proofs.lemmas.List.Elements.{All-head, All-tail, All-cons}
+use Rattle.std.proofs.lemmas.Option.{same_Some, none-some}
 use Rattle.batch.specs.declared.transfer.Transfer.{Transfer}
 use Rattle.batch.specs.Overlap.{transfer_at}
 use Rattle.batch.specs.Extent.{widest}
@@ -33,6 +34,7 @@ use Rattle.crossbar.specs.declared.chip.Wiring.{Wiring}
 use Rattle.crossbar.specs.declared.chip.Wiring.TheVariants.{Both, Forth, Back, Board}
 use Rattle.crossbar.specs.declared.pair.Pair.{Pair}
 use Rattle.crossbar.proofs.Latches.{same_sources}
+use Rattle.crossbar.proofs.Changes.{In}
 use Rattle.link_graph.specs.Uses.{AreApart, IsMatching, start_link, answer_link}
 use Rattle.link_graph.proofs.Sums.{later, first_with, hit, swap, sum_ones, sum_at_most}
 use Rattle.switch_settings.specs.Racks.{HasModulesOf}
@@ -50,11 +52,6 @@ found_append o (e ∷ es) fs = some_first _ e.1 _ _ _ (found_append o es fs)
 
 abbrev pub joined : ℕ → ℕ → Pair
 joined i r = record { initiator = i; responder = r }
-
--- a pair is one of these
-abbrev pub In : Pair → List Pair → Type 0
-In p [] = ⊥
-In p (q ∷ qs) = (q ≡ p) ⊎ In p qs
 
 -- two links that feed each other give an output its input
 abbrev TwoGive : ℕ → ℕ → ℕ → ℕ → Type 0
@@ -76,18 +73,12 @@ found_more : (w : Wiring) (p : Pair) (ps : List Pair) (o : ℕ) → found w (p �
 unfolding found
 found_more w p ps o = found_append o (ends w p) (flat_map (ends w) ps)
 
-some_inj : (x y : ℕ) → Some x ≡ Some y → x ≡ y
-some_inj x y e = cc
-
-none_some : (x : ℕ) → None ≡ Some x → ⊥
-none_some x e = absurd cc
-
 two_give : (i r o v : ℕ) → find nat_cmp o ((i, r) ∷ (r, i) ∷ []) ≡ Some v → TwoGive i r o v
 two_give i r o v e = elim (cases_eq o i) [
-  | inl a ↦ inl (a, some_inj _ _ (sym e ∙ find_here o i r ((r, i) ∷ []) a))
+  | inl a ↦ inl (a, same_Some _ _ (sym e ∙ find_here o i r ((r, i) ∷ []) a))
   | inr a ↦ elim (cases_eq o r) [
-    | inl b ↦ inr (b, some_inj _ _ (sym e ∙ find_not o i r ((r, i) ∷ []) a ∙ find_here o r i [] b))
-    | inr b ↦ absurd (none_some v (sym (find_not o i r ((r, i) ∷ []) a ∙ find_not o r i [] b) ∙ e))
+    | inl b ↦ inr (b, same_Some _ _ (sym e ∙ find_not o i r ((r, i) ∷ []) a ∙ find_here o r i [] b))
+    | inr b ↦ absurd (none-some v (sym (find_not o i r ((r, i) ∷ []) a ∙ find_not o r i [] b) ∙ e))
   ]
 ]
 
@@ -96,20 +87,20 @@ own_gives : (w : Wiring) (p : Pair) (o v : ℕ) → find nat_cmp o (ends w p) �
 own_gives Both p o v e = two_give p.initiator (JOINED_MODULES + p.responder) o v e
 own_gives (Board w) p o v e = two_give (link0_on w p.initiator) (link3_on w p.responder) o v e
 own_gives Forth p o v e = elim (cases_eq o p.responder) [
-  | inl a ↦ (a, some_inj _ _ (sym e ∙ find_here o p.responder p.initiator [] a))
-  | inr a ↦ absurd (none_some v (sym (find_not o p.responder p.initiator [] a) ∙ e))
+  | inl a ↦ (a, same_Some _ _ (sym e ∙ find_here o p.responder p.initiator [] a))
+  | inr a ↦ absurd (none-some v (sym (find_not o p.responder p.initiator [] a) ∙ e))
 ]
 own_gives Back p o v e = elim (cases_eq o p.initiator) [
-  | inl a ↦ (a, some_inj _ _ (sym e ∙ find_here o p.initiator p.responder [] a))
-  | inr a ↦ absurd (none_some v (sym (find_not o p.initiator p.responder [] a) ∙ e))
+  | inl a ↦ (a, same_Some _ _ (sym e ∙ find_here o p.initiator p.responder [] a))
+  | inr a ↦ absurd (none-some v (sym (find_not o p.initiator p.responder [] a) ∙ e))
 ]
 
 two_some : (i r o v : ℕ) → TwoGive i r o v → find nat_cmp o ((i, r) ∷ (r, i) ∷ []) ≡ None → ⊥
 two_some i r o v g e = elim g [
-  | inl x ↦ none_some _ (sym e ∙ find_here o i r ((r, i) ∷ []) x.0)
+  | inl x ↦ none-some _ (sym e ∙ find_here o i r ((r, i) ∷ []) x.0)
   | inr x ↦ elim (cases_eq o i) [
-    | inl a ↦ none_some _ (sym e ∙ find_here o i r ((r, i) ∷ []) a)
-    | inr a ↦ none_some _ (sym e ∙ find_not o i r ((r, i) ∷ []) a ∙ find_here o r i [] x.0)
+    | inl a ↦ none-some _ (sym e ∙ find_here o i r ((r, i) ∷ []) a)
+    | inr a ↦ none-some _ (sym e ∙ find_not o i r ((r, i) ∷ []) a ∙ find_here o r i [] x.0)
   ]
 ]
 
@@ -117,8 +108,8 @@ two_some i r o v g e = elim g [
 gives_some : (w : Wiring) (p : Pair) (o v : ℕ) → Gives w p o v → find nat_cmp o (ends w p) ≡ None → ⊥
 gives_some Both p o v g e = two_some p.initiator (JOINED_MODULES + p.responder) o v g e
 gives_some (Board w) p o v g e = two_some (link0_on w p.initiator) (link3_on w p.responder) o v g e
-gives_some Forth p o v g e = none_some _ (sym e ∙ find_here o p.responder p.initiator [] g.0)
-gives_some Back p o v g e = none_some _ (sym e ∙ find_here o p.initiator p.responder [] g.0)
+gives_some Forth p o v g e = none-some _ (sym e ∙ find_here o p.responder p.initiator [] g.0)
+gives_some Back p o v g e = none-some _ (sym e ∙ find_here o p.initiator p.responder [] g.0)
 
 found_in : (w : Wiring) (ps : List Pair) (o v : ℕ) → found w ps o ≡ Some v → (p : Pair) × In p ps × Gives w p o v
 unfolding found
@@ -327,7 +318,7 @@ table_more batch ts k t table x b known matching h et ex is =
       sound = λ i r e. elim (cases_eq i x.initiator) [
         | inl same ↦
             let at : get_or (set table x.initiator (Some x.responder)) i None ≡ Some x.responder = ap (λ (j : ℕ). get_or (set table x.initiator (Some x.responder)) j None) same ∙ (rw get_or-set_same) in
-            let r_is : x.responder ≡ r = some_inj x.responder r (sym at ∙ e) in
+            let r_is : x.responder ≡ r = same_Some x.responder r (sym at ∙ e) in
             subst (In (joined i r)) (sym now) (push_in (setting_pairs batch (take k ts)) (joined i r) p (inr (ap₂ (λ (a b : ℕ). joined a b) (sym same) r_is)))
         | inr other ↦
             let at : get_or (set table x.initiator (Some x.responder)) i None ≡ get_or table i None = rw get_or-set_other in
@@ -360,7 +351,7 @@ in_table m [] zero i r e h = absurd cc
 in_table m [] (suc j) i r e h = absurd cc
 in_table m (None ∷ table) zero i r e h = absurd cc
 in_table m (None ∷ table) (suc j) i r e h = in_table (m + 1) table j i r (omega arith) h
-in_table m (Some v ∷ table) zero i r e h = let start : m ≡ i = omega arith in inl (ap₂ (λ (a b : ℕ). joined a b) start (some_inj v r h))
+in_table m (Some v ∷ table) zero i r e h = let start : m ≡ i = omega arith in inl (ap₂ (λ (a b : ℕ). joined a b) start (same_Some v r h))
 in_table m (Some v ∷ table) (suc j) i r e h = inr (in_table (m + 1) table j i r (omega arith) h)
 
 all_above : (n m : ℕ) (table : List (Option ℕ)) → n < m → AllByRecursion (λ q. n < q.initiator) (table_pairs m table)

@@ -7,6 +7,7 @@ use Rattle.c004_commands.specs.declared.command.Command.TheVariants.{Settle, Enq
 use Rattle.c004_commands.specs.Commands.{row, text, AreCommands}
 use Rattle.c004_commands.specs.declared.command.TheConstants.{LONGEST_COMMAND}
 use Rattle.c004_commands.specs.declared.port.TheConstants.{PORTS}
+use Rattle.c004_commands.proofs.Readings.{AreCommands-append}
 use Rattle.crossbar.specs.Switch.{enquiries}
 use Rattle.crossbar.specs.declared.chip.Wiring.{Wiring}
 use Rattle.crossbar.specs.declared.chip.Wiring.TheVariants.{Both, Forth, Back, Board}
@@ -19,6 +20,7 @@ use Rattle.crossbar.specs.Pairs.{ArePairs, room_of, is_pair, without, join, cut,
 use Rattle.switch_settings.specs.Pairs.{command_of, longest_setting, longest_change}
 use Rattle.switch_settings.specs.Sending.{turning}
 use Rattle.crossbar.specs.declared.pair.Pair.{Pair}
+use Rattle.crossbar.proofs.Changes.{without_none}
 use Rattle.switch_settings.specs.declared.bytes.Way.{Way}
 use Rattle.switch_settings.specs.declared.bytes.Way.TheVariants.{Join, Cut}
 
@@ -61,10 +63,6 @@ way_commands : (way : Way) (w : Wiring) (others ps : List Pair) → ArePairs (ro
 way_commands way w others [] a = tt
 way_commands way w others (p ∷ ps) a = kept (not (list_any (is_pair p) others)) way w p (without others ps) a.0 a.1 (way_commands way w others ps a.4)
 
-commands_append : (cs ds : List Command) → AreCommands cs → AreCommands ds → AreCommands (cs ++ ds)
-commands_append [] ds p q = q
-commands_append (c ∷ cs) ds p q = (p.0, commands_append cs ds p.1 q)
-
 quiet_before : (way : Way) (w : Wiring) (ps : List Pair) (ds : List Command) → enquiries ds ≡ 0 → enquiries (map (command_of way w) ps ++ ds) ≡ 0
 quiet_before way w [] ds h = h
 quiet_before Join Both (p ∷ ps) ds h = quiet_before Join Both ps ds h
@@ -76,19 +74,15 @@ quiet_before Cut Back (p ∷ ps) ds h = quiet_before Cut Back ps ds h
 quiet_before Join (Board w) (p ∷ ps) ds h = quiet_before Join (Board w) ps ds h
 quiet_before Cut (Board w) (p ∷ ps) ds h = quiet_before Cut (Board w) ps ds h
 
-without_none : (ps : List Pair) → without [] ps ≡ ps
-without_none [] = refl
-without_none (p ∷ ps) = ap (λ t. p ∷ t) (without_none ps)
-
 pub setting_commands : (w : Wiring) (ps : List Pair) → ArePairs (room_of w) ps → AreCommands (setting w ps) × (enquiries (setting w ps) ≡ 0)
 setting_commands w ps a =
     let joins = subst (λ (x : List Pair). AreCommands (map (join w) x)) (without_none ps) (way_commands Join w [] ps a) in
-    ((tt, commands_append (map (join w) ps) (Settle ∷ []) joins (tt, tt)), quiet_before Join w ps (Settle ∷ []) refl)
+    ((tt, AreCommands-append (map (join w) ps) (Settle ∷ []) joins (tt, tt)), quiet_before Join w ps (Settle ∷ []) refl)
 
 pub change_commands : (w : Wiring) (old new : List Pair) → ArePairs (room_of w) old → ArePairs (room_of w) new → AreCommands (change w old new) × (enquiries (change w old new) ≡ 0)
 change_commands w old new a b =
     let joins = map (join w) (without old new) in (
-      commands_append (map (cut w) (without new old)) (joins ++ Settle ∷ []) (way_commands Cut w new old a) (commands_append joins (Settle ∷ []) (way_commands Join w old new b) (tt, tt)),
+      AreCommands-append (map (cut w) (without new old)) (joins ++ Settle ∷ []) (way_commands Cut w new old a) (AreCommands-append joins (Settle ∷ []) (way_commands Join w old new b) (tt, tt)),
       quiet_before Cut w (without new old) (joins ++ Settle ∷ []) (quiet_before Join w (without old new) (Settle ∷ []) refl),
     )
 

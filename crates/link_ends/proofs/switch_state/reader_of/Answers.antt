@@ -3,11 +3,12 @@ use Rattle.std.proofs.lemmas.List.{take_more}
 use Rattle.c004_commands.specs.Commands.{IsCommandFront}
 use Rattle.c004_commands.specs.Reader.{GoesOn}
 use Rattle.c004_commands.specs.declared.command.Command.{Command}
-use Rattle.link_ends.proofs.Begun.{nothing_begun, more_begun, none_ends, goes_on_to, nothing_whole}
+use Rattle.crossbar.proofs.Carrying.{nothing_come}
+use Rattle.link_ends.proofs.Begun.{more_begun, none_ends, goes_on_to, nothing_whole}
 use Rattle.link_ends.proofs.switch_state.reader_of.Goals as goal
 
 pub loop-byte-init : goal.loop-byte-init
-loop-byte-init c = record { come = c.new-reader.ensures; front = subst IsCommandFront (sym c.new-reader.ensures) nothing_begun }
+loop-byte-init c = record { come = c.new-reader.ensures; front = subst IsCommandFront (sym c.new-reader.ensures) nothing_come }
 
 pub loop-byte-preserved : goal.loop-byte-preserved
 loop-byte-preserved c =

@@ -1,13 +1,13 @@
 use Rattle.std.proofs.Common.{◌≡◌, ◌∙◌, ap, refl, append_assoc}
 use Rattle.std.proofs.lemmas.Result.{IfOk-weaker}
 use Rattle.batch.specs.Extent.{widest}
+use Rattle.batch.proofs.Shapes.{widest_shape}
 use Rattle.schedule_picture.specs.declared.verdict.Verdict.{Verdict}
 use Rattle.plan_answers.specs.Answers.{IsOnlyWith}
 use Rattle.plan_answers.specs.Counting.{changes_line, IsCountedWith, IsCounted, counted, uncounted}
 use Rattle.plan_answers.specs.Refusals.{Refuses}
 use Rattle.plan_answers.specs.Validities.{Judged}
 use Rattle.plan_answers.proofs.OneCounting.{one_counting}
-use Rattle.plan_answers.proofs.Widest.{widest_fits}
 use Rattle.plan_answers.proofs.counting.answer_changes.Goals as goal
 
 pub returns-in_ok-line-in-Ok-clause-counted : goal.returns-in_ok-line-in-Ok-clause-counted
@@ -20,7 +20,7 @@ returns-in_ok-line-in-Ok-clause-counted c =
     (_, counted (record { transfers = texts.batch; settings = texts.settings; verdict = texts.verdict; valid = c.in-Ok.ensures.valid; line = line ∙ told }) refl c.done.ensures.status)
 
 pub returns-in_ok-line-in-Ok-clause-one : goal.returns-in_ok-line-in-Ok-clause-one
-returns-in_ok-line-in-Ok-clause-one c least is other = one_counting widest widest_fits c.args.batch.now c.args.schedule.now least c.done.result other is
+returns-in_ok-line-in-Ok-clause-one c least is other = one_counting widest widest_shape c.args.batch.now c.args.schedule.now least c.done.result other is
 
 pub returns-in-Err-clause-counted : goal.returns-in-Err-clause-counted
 returns-in-Err-clause-counted c =
@@ -30,4 +30,4 @@ returns-in-Err-clause-counted c =
 pub returns-in-Err-clause-one : goal.returns-in-Err-clause-one
 returns-in-Err-clause-one c =
     IfOk-weaker c.refused.result (Refuses c.in-Err.refusal) (IsOnlyWith (IsCountedWith widest c.args.batch.now c.args.schedule.now))
-    (λ p _ least is other. one_counting widest widest_fits c.args.batch.now c.args.schedule.now least p other is) c.refused.ensures
+    (λ p _ least is other. one_counting widest widest_shape c.args.batch.now c.args.schedule.now least p other is) c.refused.ensures

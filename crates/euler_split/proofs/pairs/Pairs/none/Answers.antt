@@ -1,6 +1,6 @@
 use Rattle.std.proofs.Common.{sym, ◌∙◌}
 use Rattle.batch.specs.declared.limits.TheConstants.{MAX_MODULES}
-use Rattle.euler_split.proofs.Masks.{no_pair}
+use Rattle.link_graph.proofs.Masks.{no_pair}
 use Rattle.euler_split.proofs.pairs.Pairs.none.Goals as goal
 
 pub invariant_of-result : goal.invariant_of-result
