@@ -204,14 +204,18 @@ def call_has_begun(rest, limit):
     return len(lines) < int(head[2]) and all(is_transfer(line) for line in lines) and any(is_front(last, form) for form in TRANSFERS)
 
 
+def rack_line(shape, image, clients):
+    """The first line of a record: of a rack of this shape that begins with these words, and of so many clients."""
+    return b"record %dx%dx%d %08x %d\n" % (*shape, zlib.adler32(image), clients)
+
+
 def head_of(shape, image, names):
     """The head of a record: of a rack of this shape that begins with these words, and of clients of these names."""
-    first = b"record %dx%dx%d %08x %d\n" % (*shape, zlib.adler32(image), len(names))
-    return first + b"".join(b"client %b\n" % name.encode() for name in names)
+    return rack_line(shape, image, len(names)) + b"".join(b"client %b\n" % name.encode() for name in names)
 
 
 def head_in(text):
-    """The shape, the sum and the names in the head of a record, and where it ends."""
+    """The shape and the names in the head of a record, and where it ends."""
     line, at = plain.line_at(text, 0)
     found = line is not None and HEAD.fullmatch(line)
     try:
@@ -227,7 +231,7 @@ def head_in(text):
         if not client or client[1] in names:
             raise Misrecorded("head", text, 0, HEAD_WANTED)
         names.append(client[1])
-    return shape, int(found[4], 16), names, at
+    return shape, names, at
 
 
 class Misrecorded(Refused):
@@ -243,18 +247,30 @@ class Misrecorded(Refused):
             self.told = f"{notes.quoted(notes.line_of(text, 1))} doesn't begin a record of this rack; expected {wanted}"
 
 
+class OtherHead(Misrecorded):
+    """The head of a record on another rack than the one that begins with this image, or with zeros, and whose head has this first line."""
+
+    def __init__(self, text, due, image):
+        super().__init__("head", text, 0, HEAD_WANTED)
+        words = "whose words are 0" if image is None else "with the words of --image"
+        self.told = (
+            f"{notes.quoted(notes.line_of(text, 1))}; this command's rack, {words}, has {notes.quoted(due[:-1])} there: --image takes the "
+            "record's words, and --shape its shape"
+        )
+
+
 class Replay:
     """A record, replayed: its whole entries, each the session, the call's text and the reply, and the exchange that is left. `ends` are the places
     where the head and each of them end, `rest` is what stands behind, and `ended` says whether that is the last line. A shape that is given has to
     be the record's. So many entries are replayed, where a number is given."""
 
     def __init__(self, text, shape=None, image=None, first=None):
-        own, total, self.names, at = head_in(text)
-        if shape not in (None, own):
-            raise Misrecorded("head", text, 0, HEAD_WANTED)
-        self.shape, self.exchange, self.entries, self.ends = own, Exchange(own, image, math.inf), [], [at]
-        if zlib.adler32(self.exchange.image()) != total:
-            raise Misrecorded("head", text, 0, HEAD_WANTED)
+        own, self.names, at = head_in(text)
+        self.shape, self.entries, self.ends = shape or own, [], [at]
+        self.exchange = Exchange(self.shape, image, math.inf)
+        due = rack_line(self.shape, self.exchange.image(), len(self.names))
+        if not text.startswith(due):
+            raise OtherHead(text, due, image)
         while first is None or len(self.entries) < first:
             if END.startswith(text[at:]) or text.startswith(END, at) or call_has_begun(text[at:], limit_of(self.names)):
                 break

@@ -80,7 +80,7 @@ of_text (Replay shape recorded image first) texts printed (told, torn, replayed 
 of_text (Replay shape recorded image first) texts printed (told, torn, replayed text body opening limit of rack on (record_wrong error said wrong behind refuses so none)) = inr refuses.1.status
 of_text (Replay shape recorded image first) texts printed (told, torn, no_head none begins refuses) = inr refuses.refuses.1.status
 of_text (Replay shape recorded image first) texts printed (told, torn, rack_wrong text refusal of wrong refuses so none) = inr refuses.1.status
-of_text (Replay shape recorded image first) texts printed (told, torn, other_head text opening of on other refuses) = inr refuses.refuses.1.status
+of_text (Replay shape recorded image first) texts printed (told, torn, other_head text opening due of on other line refuses) = inr refuses.refuses.1.status
 of_text job texts printed is = absurd is
 
 failed : (any : Bool) (status : ℕ) → status ≡ status_at any → IsEither status

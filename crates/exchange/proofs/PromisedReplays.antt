@@ -50,7 +50,7 @@ replayed_so run shape recorded image first text bytes printed told torn held hel
 replayed_so run shape recorded image first text bytes printed told torn held held_image prints status (replayed words body opening limit of rack on (record_wrong error said wrong behind refuses so none)) = absurd (never_done printed.status refuses.1.status status)
 replayed_so run shape recorded image first text bytes printed told torn held held_image prints status (no_head none begins refuses) = absurd (never_done printed.status refuses.refuses.1.status status)
 replayed_so run shape recorded image first text bytes printed told torn held held_image prints status (rack_wrong words refusal of wrong refuses so none) = absurd (never_done printed.status refuses.1.status status)
-replayed_so run shape recorded image first text bytes printed told torn held held_image prints status (other_head words opening of rack other refuses) = absurd (never_done printed.status refuses.refuses.1.status status)
+replayed_so run shape recorded image first text bytes printed told torn held held_image prints status (other_head words opening due of rack other line refuses) = absurd (never_done printed.status refuses.refuses.1.status status)
 
 refused_by : (run : Run) (shape : Option Text) (recorded : Text) (image : Option Text) (first : Option ℕ) (text : List ℕ) (bytes : Option (List ℕ)) (printed : Printed) (refusal : Refusal)
     → run.holds recorded text → HoldsGiven run.holds image bytes → run.prints printed.text → IsFirstWrongReplayed shape text bytes first refusal → Refuses refusal printed → HasRefusedReplay run shape recorded image first
@@ -64,7 +64,7 @@ refused_so run shape recorded image first text bytes printed told torn held held
     refused_by run shape recorded image first text bytes printed (of_record error.fault) held held_image prints (promise.entry_wrong words body opening limit error of rack on wrong refl) refuses
 refused_so run shape recorded image first text bytes printed told torn held held_image prints status (no_head none begins refuses) = refused_by run shape recorded image first text bytes printed RecordHead held held_image prints (promise.no_head none begins refl) refuses.refuses
 refused_so run shape recorded image first text bytes printed told torn held held_image prints status (rack_wrong words refusal of wrong refuses so none) = refused_by run shape recorded image first text bytes printed refusal held held_image prints (promise.rack_wrong words of wrong) refuses
-refused_so run shape recorded image first text bytes printed told torn held held_image prints status (other_head words opening of rack other refuses) =
+refused_so run shape recorded image first text bytes printed told torn held held_image prints status (other_head words opening due of rack other line refuses) =
     refused_by run shape recorded image first text bytes printed RecordHead held held_image prints (promise.other_head words opening of rack other refl) refuses.refuses
 
 replay_done : (run : Run) → Answers run → (shape : Option Text) (recorded : Text) (image : Option Text) (first : Option ℕ) → HasDone run (Replay shape recorded image first) → HasReplayed run shape recorded image first

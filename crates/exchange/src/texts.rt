@@ -5,7 +5,7 @@ use command_words::{Job, Text};
 use kept_sessions::Found;
 use named_files::{Contents, slice_of};
 use record_replay::RecordError;
-use refusal_notes::{Listing, Named, Texts};
+use refusal_notes::{Listing, Named, Opening, Texts};
 use refusals::Refusal;
 
 /// A file's name, and what it contains, where one was read.
@@ -113,6 +113,10 @@ pub(crate) fn texts_of<'a>(job: &'a Job, contents: &'a Contents, found: &'a Foun
                     None => shape_of(recorded.text),
                 },
                 other: image,
+                opening: match contents.image {
+                    Some(_) => Opening::Image,
+                    None => Opening::Zeros,
+                },
                 ..texts
             };
             of_record(texts, recorded, error)
