@@ -4,7 +4,7 @@ use Rattle.std.specs.Fmt.{decimal}
 use Rattle.std.proofs.lemmas.Fmt.{decimal_injective}
 use Rattle.batch.specs.Text.{IsNumber, number}
 use Rattle.batch.proofs.Lines.{Ends, one_number}
-use Rattle.link_graph.proofs.OneFault.{tail_same}
+use Rattle.link_graph.proofs.OneFault.{cons, tail_same}
 use Rattle.plan_answers.specs.declared.setting_range.SettingRange.{SettingRange}
 use Rattle.plan_answers.specs.Drawings.{range_text, DenotesRange}
 
