@@ -4,7 +4,7 @@ use Rattle.std.specs.Fmt.{decimal}
 use Rattle.std.proofs.lemmas.Fmt.{decimal_injective}
 use Rattle.batch.specs.Text.{IsNumber, number}
 use Rattle.batch.proofs.Lines.{Ends, one_number}
-use Rattle.link_graph.proofs.OneFault.{cons, tail_same}
+use Rattle.link_graph.proofs.OneFault.{tail_same}
 use Rattle.plan_answers.specs.declared.setting_range.SettingRange.{SettingRange}
 use Rattle.plan_answers.specs.Drawings.{range_text, DenotesRange}
 
@@ -22,7 +22,6 @@ pub to_first : (text : List ℕ) (n : ℕ) (rest : List ℕ) (b : SettingRange) 
 to_first text n rest b read d = one_number n b.first point rest (point ∷ decimal b.last) read.0 d.first ends_point (sym read.1 ∙ d.spelled ∙ range_parts b)
 
 pub to_more : (text : List ℕ) (n : ℕ) (rest more : List ℕ) (b : SettingRange) → IsNumber n × (text ≡ number n point ++ rest) → rest ≡ point ∷ more → DenotesRange text b → (n ≡ b.first) × (more ≡ decimal b.last)
-unfolding cons
 to_more text n rest more b read next d =
     let p = to_first text n rest b read d in
     (p.0, tail_same point point more (decimal b.last) (sym next ∙ p.1))
