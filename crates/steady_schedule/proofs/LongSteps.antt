@@ -12,7 +12,7 @@ use Rattle.link_graph.proofs.Sums.{count_below_same}
 use Rattle.link_graph.proofs.Masks.{bit}
 use Rattle.steady_schedule.specs.Changes.{are_partners, join_within, join_same}
 use Rattle.steady_schedule.specs.Gathered.{AreGathered}
-use Rattle.steady_schedule.specs.Longest.{joined_from, used_from, CouldHold, BeginsStep, StaySame, AreLongest, DontGetLonger}
+use Rattle.steady_schedule.specs.Longest.{joined_from, used_from, CouldHold, BeginsStep, StaySame, StepsAreLongest, DontGetLonger}
 use Rattle.steady_schedule.specs.Matchings.{partner, AreMatched}
 use Rattle.steady_schedule.specs.Slots.{StandsIn, AreNumberedFrom, KeepNumbers, JoinsAs, IsLongest, AreLongEach, AreLongSteps, HaveLongSteps}
 use Rattle.steady_schedule.specs.Steps.{is_partner, AreTaken, NoneLonger}
@@ -252,7 +252,7 @@ module _ (batch : List Transfer) (numbers : List ℕ) (settings : List (List ℕ
     | inr l ↦ l
   ]
 
-  pub long_gathered : AreLongest batch settings
+  pub long_gathered : StepsAreLongest batch settings
   long_gathered k zeros threes i k_in begins m could =
       let low : k < count = omega (arith, k_in, g.sized) in
       let l = begun_at k low begins in

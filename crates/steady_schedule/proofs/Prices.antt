@@ -20,7 +20,7 @@ use Rattle.link_graph.specs.Uses.{IsMatching}
 use Rattle.link_graph.proofs.Users.{made}
 use Rattle.link_graph.proofs.Sums.{each}
 use Rattle.steady_schedule.specs.Changes.{join_same, changes}
-use Rattle.steady_schedule.specs.Prices.{AreNeeded, IsLongest, IsCheapest, SCALE, price_at, price_for, AreFair, number_for, AreCosts, ShowChanges}
+use Rattle.steady_schedule.specs.Prices.{AreNeeded, LimitsSteps, CostsAtLeast, SCALE, price_at, price_for, AreFair, number_for, NoneCostsMore, ShowChanges}
 use Rattle.steady_schedule.specs.Waiting.{sum_below, count_at, count_between, waiting, ArePairCounts, HaveMost}
 use Rattle.steady_schedule.proofs.StepSums.{sum_equal, swap_below}
 use Rattle.steady_schedule.proofs.Runs.{Step, steps_from, steps_of, many_steps, has, step_numbers, each_now, number_low, number_idle, at_link, shared}
@@ -42,7 +42,7 @@ made_of costs price top most none more (k ∷ ks) all few =
     let rest = made_of costs price top most none more ks (All-tail (IsLength top) k ks all) (omega (arith, few, split)) in
     omega (arith, ap costs turned, more (sum_by (λ n. n) ks) k head.0 head.1 (omega (arith, few, split)), rest, sum_by-cons price k ks)
 
-pub made_up : (costs price : ℕ → ℕ) (top most : ℕ) → costs 0 ≡ 0 → ((v k : ℕ) → 0 < k → k ≤ top → v + k ≤ most → costs (v + k) ≤ costs v + price k) → IsCheapest price top most (costs most)
+pub made_up : (costs price : ℕ → ℕ) (top most : ℕ) → costs 0 ≡ 0 → ((v k : ℕ) → 0 < k → k ≤ top → v + k ≤ most → costs (v + k) ≤ costs v + price k) → CostsAtLeast price top most (costs most)
 made_up costs price top most none more lengths all is = omega (arith, ap costs is, made_of costs price top most none more lengths all (omega (arith, is)))
 
 -- two numbers, of which the smaller one is a length, are as cheap as a number and a length
@@ -71,7 +71,7 @@ same_sum f g top same (k ∷ ks) all =
     let head = All-head (IsLength top) k ks all in
     omega (arith, sum_by-cons f k ks, sum_by-cons g k ks, same k head.0 head.1, same_sum f g top same ks (All-tail (IsLength top) k ks all))
 
-pub same_prices : (f g : ℕ → ℕ) (top number cost : ℕ) → ((k : ℕ) → 0 < k → k ≤ top → f k ≡ g k) → IsCheapest f top number cost → IsCheapest g top number cost
+pub same_prices : (f g : ℕ → ℕ) (top number cost : ℕ) → ((k : ℕ) → 0 < k → k ≤ top → f k ≡ g k) → CostsAtLeast f top number cost → CostsAtLeast g top number cost
 same_prices f g top number cost same cheap lengths all is = omega (arith, cheap lengths all is, same_sum f g top same lengths all)
 
 -- ---- fair prices
@@ -114,7 +114,7 @@ kept_all b s top (j ∷ js) all = elim (cases_Bool (b j)) [
 ]
 
 -- so what a number costs is at most what the steps pay that make it up
-paid_by : {J : Type 0} (b : J → Bool) (s : J → ℕ) (price : ℕ → ℕ) (top number cost : ℕ) (js : List J) → AllByRecursion (λ j. IsLength top (s j)) js → sum_by (λ j. only (b j) (s j)) js ≡ number → IsCheapest price top number cost → cost ≤ sum_by (λ j. only (b j) (price (s j))) js
+paid_by : {J : Type 0} (b : J → Bool) (s : J → ℕ) (price : ℕ → ℕ) (top number cost : ℕ) (js : List J) → AllByRecursion (λ j. IsLength top (s j)) js → sum_by (λ j. only (b j) (s j)) js ≡ number → CostsAtLeast price top number cost → cost ≤ sum_by (λ j. only (b j) (price (s j))) js
 paid_by b s price top number cost js all is cheap = omega (arith, cheap (kept b s js) (kept_all b s top js all) (kept_sum b s (λ k. k) js ∙ is), kept_sum b s price js)
 
 -- ---- one of some places
@@ -297,7 +297,7 @@ module _ (batch : List Transfer) (fits : IsBatch batch) where
     uses_is : (end : End) (x : ℕ) → x < MAX_MODULES → waiting counts end x ≡ uses batch (made end x)
     uses_is end x x_in = waiting_uses batch counts end x counted (all_low batch fits) x_in
 
-    module _ (link : Link) (longest : IsLongest counts (length settings) link top) where
+    module _ (link : Link) (longest : LimitsSteps counts (length settings) link top) where
       few_in : (m : ℕ) → m < MAX_MODULES + 1 → sum_by (λ j. taken link j m) js ≤ top
       few_in m lt = elim (cases_lt m MAX_MODULES) [
         | inl low ↦ omega (arith, step_numbers batch fits link settings schedule m lt, number_low batch (length settings) link m low, shared_is link.end link.«module» m longest.low low, longest.most m low)
@@ -348,7 +348,7 @@ module _ (batch : List Transfer) (fits : IsBatch batch) where
         long_three u v le v_in = sum_equal (λ j. only (joined j u v) j.settings) (λ j. taken (made Three v) j MAX_MODULES) (λ j. ap (λ (b : Bool). only b j.settings) (joined_high j u v le)) js
             ∙ (long_idle Three v v_in ∙ sym (number_three counts (length settings) u v le v_in))
 
-        paid : AreCosts counts (length settings) prices top pays
+        paid : NoneCostsMore counts (length settings) prices top pays
         paid u v cost u_few v_few cheap =
             let by = λ (all : long u v ≡ number_for counts (length settings) u v). paid_by (λ j. joined j u v) (λ j. j.settings) (price_for prices u v) top (number_for counts (length settings) u v) cost js (each IsPaidStep (λ j. IsLength top j.settings) (λ j is. is.0) js all_paid) all cheap in
             elim (cases_lt u MAX_MODULES) [
@@ -362,18 +362,18 @@ module _ (batch : List Transfer) (fits : IsBatch batch) where
             ]
 
         -- so the prices show as many changes as make this up
-        pub shown : (total : ℕ) → ((most : ℕ → ℕ → ℕ) → AreCosts counts (length settings) prices top most → total ≤ sum_below (MAX_MODULES + 1) (λ u. sum_below (MAX_MODULES + 1) (most u)))
+        pub shown : (total : ℕ) → ((most : ℕ → ℕ → ℕ) → NoneCostsMore counts (length settings) prices top most → total ≤ sum_below (MAX_MODULES + 1) (λ u. sum_below (MAX_MODULES + 1) (most u)))
             → (total + 65535) / 65536 ≤ changes batch settings
         shown total few =
             let all = paid_few (MAX_MODULES + 1) (λ j. j.settings) joined (side_price prices Zero) (side_price prices Three) SCALE top few_prices js all_paid in
             rounded total (changes batch settings) (omega (arith, few pays paid, all, ap (λ (k : ℕ). k * SCALE) (many_steps batch settings)))
 
-pub shown_needed : (batch : List Transfer) (fits : IsBatch batch) (counts : List ℕ) (counted : ArePairCounts batch counts) (settings top : ℕ) (link : Link) (longest : IsLongest counts settings link top) (prices : List ℕ) (fair : AreFair prices top) (total : ℕ)
-    → ((most : ℕ → ℕ → ℕ) → AreCosts counts settings prices top most → total ≤ sum_below (MAX_MODULES + 1) (λ u. sum_below (MAX_MODULES + 1) (most u)))
+pub shown_needed : (batch : List Transfer) (fits : IsBatch batch) (counts : List ℕ) (counted : ArePairCounts batch counts) (settings top : ℕ) (link : Link) (longest : LimitsSteps counts settings link top) (prices : List ℕ) (fair : AreFair prices top) (total : ℕ)
+    → ((most : ℕ → ℕ → ℕ) → NoneCostsMore counts settings prices top most → total ≤ sum_below (MAX_MODULES + 1) (λ u. sum_below (MAX_MODULES + 1) (most u)))
     → AreNeeded batch settings ((total + 65535) / 65536)
 shown_needed batch fits counts counted settings top link longest prices fair total few schedule is same =
-    shown batch fits schedule is counts counted top link (subst (λ (n : ℕ). IsLongest counts n link top) (sym same) longest) prices fair total
-    (λ most costs. few most (subst (λ (n : ℕ). AreCosts counts n prices top most) same costs))
+    shown batch fits schedule is counts counted top link (subst (λ (n : ℕ). LimitsSteps counts n link top) (sym same) longest) prices fair total
+    (λ most costs. few most (subst (λ (n : ℕ). NoneCostsMore counts n prices top most) same costs))
 
 -- the changes that a total shows cost less than it, but for the last one
 pub last_change : (total sum : ℕ) → 0 < (total + 65535) / 65536 → total ≤ sum → ((total + 65535) / 65536 - 1) * SCALE < sum

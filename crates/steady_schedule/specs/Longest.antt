@@ -48,8 +48,8 @@ StaySame batch settings k i =
     → join_same batch (setting_at settings k) (setting_at settings (k + m)) ≡ true
 
 -- where a step begins, no matching could be held longer than the step is
-abbrev pub AreLongest : List Transfer → List (List ℕ) → Type 0
-AreLongest batch settings =
+abbrev pub StepsAreLongest : List Transfer → List (List ℕ) → Type 0
+StepsAreLongest batch settings =
     (k : ℕ) (zero three : List (Option ℕ)) (i : ℕ) → k < length settings
     → BeginsStep batch settings k → AreMatched zero three
     → CouldHold batch settings k zero three (i + 1) → StaySame batch settings k i

@@ -8,7 +8,7 @@ use Rattle.link_graph.specs.Schedules.{IsScheduleOf}
 use Rattle.link_graph.specs.Certificates.{Naming, IsCertificate}
 use Rattle.steady_schedule.specs.Bounds.{most_changes}
 use Rattle.steady_schedule.specs.Changes.{changes}
-use Rattle.steady_schedule.specs.Longest.{AreLongest, DontGetLonger}
+use Rattle.steady_schedule.specs.Longest.{StepsAreLongest, DontGetLonger}
 use Rattle.steady_schedule.specs.Needs.{ChangesAtNeed}
 use Rattle.steady_schedule.specs.Partners.{partners, HasMostPartners}
 
@@ -52,5 +52,5 @@ pub record IsSteady (plan : SteadyPlan) : Type 0 where
   pub ascending : All (AllPairs (λ t u. t < u)) plan.settings
   pub few : changes plan.batch plan.settings ≤ most_changes plan.batch
   pub at_need : ChangesAtNeed plan.batch plan.settings
-  pub longest : AreLongest plan.batch plan.settings
+  pub longest : StepsAreLongest plan.batch plan.settings
   pub no_longer : DontGetLonger plan.batch plan.settings

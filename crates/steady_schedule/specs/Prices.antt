@@ -18,14 +18,14 @@ AreNeeded batch settings count =
     → count ≤ changes batch schedule
 
 -- the link has a transfer in each setting, and at most `top` with any partner: so no step is longer
-pub record IsLongest (counts : List ℕ) (settings : ℕ) (link : Link) (top : ℕ) : Type 0 where
+pub record LimitsSteps (counts : List ℕ) (settings : ℕ) (link : Link) (top : ℕ) : Type 0 where
   pub low : link.«module» < MAX_MODULES
   pub full : waiting counts link.end link.«module» ≡ settings
   pub most : (m : ℕ) → m < MAX_MODULES → count_between counts link.end link.«module» m ≤ top
 
 -- no way to make up the number of lengths, none above `top`, costs less
-abbrev pub IsCheapest : (ℕ → ℕ) → ℕ → ℕ → ℕ → Type 0
-IsCheapest price top number cost =
+abbrev pub CostsAtLeast : (ℕ → ℕ) → ℕ → ℕ → ℕ → Type 0
+CostsAtLeast price top number cost =
     (lengths : List ℕ) → All (λ k. (0 < k) × (k ≤ top)) lengths → sum_by (λ k. k) lengths ≡ number
     → cost ≤ sum_by price lengths
 
@@ -59,10 +59,10 @@ pub record AreFair (prices : List ℕ) (top : ℕ) : Type 0 where
   pub each : (k : ℕ) → 0 < k → k ≤ top → sum_below LINKS (λ l. price_at prices l k) ≤ SCALE
 
 -- no pair costs more than these, nor does a link while it is idle
-abbrev pub AreCosts : List ℕ → ℕ → List ℕ → ℕ → (ℕ → ℕ → ℕ) → Type 0
-AreCosts counts settings prices top most =
+abbrev pub NoneCostsMore : List ℕ → ℕ → List ℕ → ℕ → (ℕ → ℕ → ℕ) → Type 0
+NoneCostsMore counts settings prices top most =
     (u v cost : ℕ) → u ≤ MAX_MODULES → v ≤ MAX_MODULES
-    → IsCheapest (price_for prices u v) top (number_for counts settings u v) cost
+    → CostsAtLeast (price_for prices u v) top (number_for counts settings u v) cost
     → cost ≤ most u v
 
 -- By these prices all numbers, made up as cheaply as can be, cost more than the scale for each
@@ -72,9 +72,9 @@ pub record ProveChanges (batch : List Transfer) (settings : ℕ) (prices : List 
   pub counts : List ℕ
   pub counted : ArePairCounts batch counts
   pub busiest : Link
-  pub longest : IsLongest counts settings busiest top
+  pub longest : LimitsSteps counts settings busiest top
   pub fair : AreFair prices top
-  pub dear : (most : ℕ → ℕ → ℕ) → AreCosts counts settings prices top most
+  pub dear : (most : ℕ → ℕ → ℕ) → NoneCostsMore counts settings prices top most
       → (count - 1) * SCALE
       < sum_below (MAX_MODULES + 1) (λ u. sum_below (MAX_MODULES + 1) (most u))
 

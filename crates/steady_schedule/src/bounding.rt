@@ -5,7 +5,7 @@ ghost use Rattle.batch.specs.declared.limits.TheConstants.{MAX_TRANSFERS};
 ghost use Rattle.link_graph.specs.declared.limits.TheConstants.{LINKS};
 ghost use Rattle.link_graph.specs.declared.link.Link.{Link};
 ghost use Rattle.link_graph.specs.Counts.{uses};
-ghost use Rattle.steady_schedule.specs.Prices.{AreNeeded, ShowChanges, IsPriceTable, IsLongest};
+ghost use Rattle.steady_schedule.specs.Prices.{AreNeeded, ShowChanges, IsPriceTable, LimitsSteps};
 ghost use Rattle.steady_schedule.specs.Waiting.{HaveMost};
 
 use crate::choosing::most_with;
@@ -32,7 +32,7 @@ fn longest(remaining: &Remaining, settings: usize) -> Option<(Link, usize)>
     requires most { HaveMost remaining.now.counts MAX_TRANSFERS }
     ensures few { IfSome result (λ found. found.1 ≤ MAX_TRANSFERS) }
     ensures longest { IfSome result (λ found.
-        IsLongest remaining.now.counts settings found.0 found.1) }
+        LimitsSteps remaining.now.counts settings found.0 found.1) }
 {
     let mut longest: Option<(Link, usize)> = None;
     for index in 0..LINKS {

@@ -9,7 +9,7 @@ ghost use Rattle.link_graph.specs.Counts.{uses};
 ghost use Rattle.link_graph.specs.Schedules.{IsScheduleOf};
 ghost use Rattle.steady_schedule.specs.Bounds.{most_changes};
 ghost use Rattle.steady_schedule.specs.Changes.{changes};
-ghost use Rattle.steady_schedule.specs.Longest.{AreLongest, DontGetLonger};
+ghost use Rattle.steady_schedule.specs.Longest.{StepsAreLongest, DontGetLonger};
 ghost use Rattle.steady_schedule.specs.Needs.{ChangesAtNeed};
 ghost use Rattle.steady_schedule.specs.Plans.{NamesBusiest, IsSteady};
 
@@ -39,7 +39,7 @@ fn schedule_of(alloc: Global, graph: &LinkGraph, settings: usize) -> Result<Sche
     ensures ascending { IfOk result (All (AllPairs (λ t u. t < u))) }
     ensures count { IfOk result (λ schedule. length schedule ≡ settings) }
     ensures needs { IfOk result (ChangesAtNeed graph.now) }
-    ensures longest { IfOk result (AreLongest graph.now) }
+    ensures longest { IfOk result (StepsAreLongest graph.now) }
     ensures no_longer { IfOk result (DontGetLonger graph.now) }
 {
     let lists = settings_of(alloc, graph, settings)?;
@@ -54,7 +54,7 @@ fn plan_of(graph: LinkGraph, schedule: Schedule, certificate: Certificate) -> St
     requires busiest { NamesBusiest graph certificate.link certificate.transfers }
     requires ascending { All (AllPairs (λ t u. t < u)) schedule }
     requires needs { ChangesAtNeed graph schedule }
-    requires longest { AreLongest graph schedule }
+    requires longest { StepsAreLongest graph schedule }
     requires no_longer { DontGetLonger graph schedule }
     ensures batch { result.batch ≡ graph }
     ensures steady { IsSteady result }

@@ -4,7 +4,7 @@ ghost use Rattle.std.specs.Prelude.{◌≡◌, ℕ, ◌+◌, ◌-◌, ◌*◌, �
 ghost use Rattle.batch.specs.Batches.{IsBatch};
 ghost use Rattle.batch.specs.declared.limits.TheConstants.{MAX_MODULES, MAX_TRANSFERS};
 ghost use Rattle.link_graph.specs.declared.limits.TheConstants.{LINKS};
-ghost use Rattle.steady_schedule.specs.Prices.{IsLongest, IsCheapest, price_at, price_for, number_for, AreFair, AreCosts, ShowChanges};
+ghost use Rattle.steady_schedule.specs.Prices.{LimitsSteps, CostsAtLeast, price_at, price_for, number_for, AreFair, NoneCostsMore, ShowChanges};
 ghost use Rattle.steady_schedule.specs.Waiting.{sum_below, waiting, ArePairCounts, HaveMost};
 
 use crate::remaining::Remaining;
@@ -36,7 +36,7 @@ pub(crate) struct Needs<'a> {
     ghost few: { settings ≤ MAX_TRANSFERS },
     ghost some_top: { 0 < top },
     ghost few_top: { top ≤ MAX_TRANSFERS },
-    ghost longest: { IsLongest remaining.counts settings busiest top },
+    ghost longest: { LimitsSteps remaining.counts settings busiest top },
 }
 
 impl Needs<'_> {
@@ -64,7 +64,7 @@ impl Needs<'_> {
         requires pieces { length pieces.old ≡ length prices.now }
         ensures low { result ≤ (MAX_MODULES + 1) * 536870912 }
         ensures cheapest { (most : ℕ → ℕ → ℕ)
-            → AreCosts self.now.remaining.counts self.now.settings prices.now self.now.top most
+            → NoneCostsMore self.now.remaining.counts self.now.settings prices.now self.now.top most
             → result ≤ sum_below (MAX_MODULES + 1) (most zero) }
     {
         let mut total = 0;
@@ -159,7 +159,7 @@ impl Ways {
         requires few { number ≤ MAX_TRANSFERS }
         requires low { (k : ℕ) → 0 < k → k ≤ top → slice_index self.old.price k ≤ 131072 }
         ensures low { result ≤ number * 131072 }
-        ensures cheapest { IsCheapest (slice_index self.old.price) top number result }
+        ensures cheapest { CostsAtLeast (slice_index self.old.price) top number result }
     {
         self.costs[0] = 0;
         for v in 1..number + 1 {
@@ -222,7 +222,7 @@ impl Ways {
         requires few { number ≤ MAX_TRANSFERS }
         requires pieces { length pieces.old ≡ length prices.now }
         ensures low { result ≤ 536870912 }
-        ensures cheapest { IsCheapest (price_for prices.now zero three) top number result }
+        ensures cheapest { CostsAtLeast (price_for prices.now zero three) top number result }
     {
         if number == 0 || !self.take_prices(prices, top, zero, three) {
             return 0;
