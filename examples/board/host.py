@@ -4,8 +4,8 @@
     host.py CABLE BATCH [OPTION]..
 
 The options are those of `drive`: --steady, --schedule FILE, --wiring FILE, --from K. With --pause it waits for the return key before the
-modules hear of a setting, unless its input has ended. CABLE is a device, or the two named pipes CABLE.in, to the board, and CABLE.out, from it. Over the cable the number
-of its way goes before each byte: 0 the switch, 1 the modules, 2 switch B.
+modules hear of a setting, unless its input has ended. CABLE is a device, or the two named pipes CABLE.in, to the board, and CABLE.out,
+from it. Over the cable the number of its way goes before each byte: 0 the switch, 1 the modules, 2 switch B.
 The modules are told the number of each setting in two bytes, the lower one first, and give it back once all of them are done. Before the
 first setting they are told -2, and after the last one -1. docs/BOARD.md says more. The program is the one that EXCHANGE names, or
 `exchange` on the PATH, or in this folder.

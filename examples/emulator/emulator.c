@@ -35,7 +35,7 @@ static void end(const char *why)
 }
 
 /* So that no folder is left. */
-static void ended(int by)
+static void leave(int by)
 {
     exit(128 + by);
 }
@@ -205,8 +205,8 @@ static int be_driven(const char *program, const char *plan, const char *orders)
     if (path == NULL)
         end("there is no such program");
     must(mkdtemp(folder) != NULL && chdir(folder) == 0 && atexit(clean) == 0);
-    signal(SIGINT, ended);
-    signal(SIGTERM, ended);
+    signal(SIGINT, leave);
+    signal(SIGTERM, leave);
     keep("batch", batch);
     keep("schedule", plan);
     pid_t drive = start_drive(path, &go_on, &lines);
