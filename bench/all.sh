@@ -4,6 +4,7 @@
 #
 # Needs valgrind, rustc and python3. Build the program first: ./exchange prove
 set -eu
+export LC_ALL=C
 here=$(cd "$(dirname "${BASH_SOURCE[0]}")" && pwd)
 for tool in valgrind rustc python3; do
     if ! command -v $tool >/dev/null; then

@@ -45,6 +45,9 @@
 extern "C" {
 #endif
 
+/* What `exchange --version` prints. Its first number is in the shared library's name, libexchange.so.1. */
+#define EXCHANGE_VERSION "1.0.0"
+
 #define EXCHANGE_DONE 0
 #define EXCHANGE_REFUSED 1
 #define EXCHANGE_NO_ROOM 2

@@ -29,10 +29,13 @@ import ctypes
 import os
 from typing import Iterable, List, Mapping, NamedTuple, Optional, Sequence, Tuple, Union
 
+__version__ = "1.0.0"
+
 __all__ = ["plan", "check", "switch_bytes", "orders", "apply", "draw", "changes", "direct", "batch_text", "transfers", "settings"]
 __all__ += ["Transfer", "Order", "ModuleOrders", "Refused", "C004", "LinkEnd", "EndFailed"]
 
 Text = Union[str, bytes, bytearray, memoryview]
+Name = Union[str, bytes, "os.PathLike[str]", "os.PathLike[bytes]"]
 
 _DONE, _REFUSED, _NO_ROOM, _NO_MEMORY, _REPLY, _LOOSE, _NO_PORT, _NO_STATE = 0, 1, 2, 3, 4, 32, 33, 34
 
@@ -63,7 +66,7 @@ class Refused(ValueError):
         super().__init__("\n".join([line, why] if why else [line]))
         self.line, self.why, self._call, self._given = line, why, call, given
 
-    def named(self, *, batch: str = "", schedule: str = "", wiring: str = "", image: str = "", moves: str = "") -> str:
+    def named(self, *, batch: Name = "", schedule: Name = "", wiring: Name = "", image: Name = "", moves: Name = "") -> str:
         """`why`, where the names of files stand in place of `batch`, `schedule`, `wiring`, `image` or `moves`.
 
         >>> try:
@@ -269,7 +272,7 @@ class _SwitchState(ctypes.Structure):
 
 class C004:
     """An INMOS C004 that is handed the bytes of its configuration link, as `exchange c004` is. At first it is as after a reset, or it has
-    the state of another one.
+    the state of another one. A copy by `copy.copy` has a state of its own.
 
     A byte that can't come there is dropped, with the command that was begun; `refused` counts these bytes.
 
@@ -313,6 +316,11 @@ class C004:
         """Its state, as bytes: two switches that have the same are alike."""
         return bytes(self._state)
 
+    def __copy__(self) -> "C004":
+        other = C004(self.state)
+        other.refused = self.refused
+        return other
+
     def _answer(self, name: str, *ports: int) -> int:
         """What a call of the library answers of ports."""
         if not all(0 <= port < 32 for port in ports):
@@ -348,9 +356,10 @@ _FAULTS = {
 
 class LinkEnd:
     """The end of a link of a T414 that waits to boot, over the module's memory: a `bytearray`, whose bytes have the addresses from `base`
-    on. A poke (00, address, word) writes a word of it, and a peek (01, address) gives the four bytes of one. All are least significant
-    byte first. Nothing is booted: `EndFailed` is raised where the end refuses a byte, and then for each byte until `reset`. The end holds the
-    memory: as long as it is there, `extend` and whatever else would change the length of the `bytearray` raises `BufferError`.
+    on, or what else has bytes that can be written. A poke (00, address, word) writes a word of it, and a peek (01, address) gives the four bytes
+    of one. All are least significant byte first. Nothing is booted: `EndFailed` is raised where the end refuses a byte, and then for each byte
+    until `reset`. The end holds the memory: as long as it is there, `extend` and whatever else would change the length of the `bytearray` raises
+    `BufferError`. A copy by `copy.copy` has the same memory, and a state of its own.
 
     >>> memory = bytearray(8)
     >>> end = LinkEnd(memory, 0x80000800)
@@ -363,7 +372,7 @@ class LinkEnd:
     def __init__(self, memory: bytearray, base: int, state: Optional[bytes] = None):
         if not 0 <= base < 1 << 32:
             raise ValueError("an address is from 0 to ffffffff hex")
-        self._memory = (ctypes.c_uint8 * len(memory)).from_buffer(memory)
+        self._memory = (ctypes.c_uint8 * memoryview(memory).nbytes).from_buffer(memory)
         self._base = base
         self._state = _BootState() if state is None else _state_of(_BootState, state)
         if state is None:
@@ -391,6 +400,9 @@ class LinkEnd:
         """Its state, as bytes: what has come of a message, and whether it has failed."""
         return bytes(self._state)
 
+    def __copy__(self) -> "LinkEnd":
+        return LinkEnd(self._memory, self._base, self.state)
+
 
 def _state_of(kind, state: bytes):
     """A structure of these bytes."""
@@ -401,8 +413,9 @@ def _state_of(kind, state: bytes):
 
 def _load() -> ctypes.CDLL:
     """The library that was installed with this file, or else the one that the system's loader finds."""
-    beside = os.path.join(os.path.dirname(os.path.realpath(__file__)), "..", "..", "libexchange.so")
-    library = ctypes.CDLL(beside if os.path.exists(beside) else "libexchange.so")
+    name = "libexchange.so." + __version__.split(".")[0]
+    beside = os.path.join(os.path.dirname(os.path.realpath(__file__)), "..", "..", name)
+    library = ctypes.CDLL(beside if os.path.exists(beside) else name)
     for name, texts in {
         "plan": 1,
         "plan_steady": 1,
@@ -441,7 +454,10 @@ def _bytes_of(text: Text) -> bytes:
     """The bytes of a text, which nothing else can write while a call lasts."""
     if isinstance(text, str):
         return text.encode("utf-8", "surrogatepass")
-    return text if isinstance(text, bytes) else bytes(memoryview(text))
+    try:
+        return text if isinstance(text, bytes) else bytes(memoryview(text))
+    except TypeError:
+        raise TypeError(f"a text is str or bytes, not {type(text).__name__}; batch_text makes one of a list of transfers") from None
 
 
 def _words_of(text: Text) -> List[List[str]]:
@@ -466,10 +482,11 @@ def _ask(name: str, *texts: Text) -> bytes:
     return answer
 
 
-def _why(call: str, given: Sequence[bytes], names: Mapping[str, str] = {}) -> str:
+def _why(call: str, given: Sequence[bytes], names: Mapping[str, Name] = {}) -> str:
     """What is said beside the refusal of these texts by this call, or nothing where there is no memory for it. A name is one line."""
     words = [word for text in (*given, b"", b"")[:3] for word in (text, len(text))]
-    told = "\n".join(names.get(text, "").replace("\n", " ") for text in _TEXTS_OF.get(call, _TEXTS)).encode("utf-8", "replace")
+    lines = [os.fsdecode(names.get(text, "")).replace("\n", " ") for text in _TEXTS_OF.get(call, _TEXTS)]
+    told = "\n".join(lines).encode("utf-8", "replace")
     status, line = _in_room(_LIBRARY.exchange_why, [_NUMBERS[call], *words, told, len(told)], _ROOM)
     return line.decode().rstrip("\n") if status == _DONE else ""
 

@@ -1,6 +1,11 @@
 #!/usr/bin/env bash
-# The test command: proves each crate and its tests, tries the edits that have to be refused, runs all tests, and tries the built programs.
-set -eu
+# The test command: proves each crate and its tests, tries the edits that have to be refused, runs
+# all tests, and tries the built programs. One run says all that is wrong.
+set -euo pipefail
+unset CDPATH
+export LC_ALL=C
 cd "$(dirname "$(readlink -f "${BASH_SOURCE[0]}")")/.."
-rt ci
-exec tools/try_programs.sh
+failed=
+rt ci || failed+=" rt-ci"
+tools/try_programs.sh || failed+=" tools/try_programs.sh"
+[ ! "$failed" ] || { echo "test.sh: WRONG:$failed" && exit 1; }

@@ -2,27 +2,40 @@
 # Tries the built programs: the start script, the rows of each command, what the documents show, live
 # clients, switches that stand somewhere else, racks of processes, the calls from C and Python, what
 # is installed, the instructions that planning, runs and sessions take, and hostile use. What isn't
-# built yet is proved and built first. It also looks for names with several meanings, and for
-# libraries that open files past every handle.
+# built yet is proved and built first. It also looks for names with several meanings, for wrong
+# bodies that can't be made any more, and for libraries that open files past every handle.
+#
+# After a tool that fails the others are tried all the same. One fails too if it tries less than
+# least.txt says. The status is 1 where any did, and the last line names those.
 set -eu
+unset CDPATH
+export LC_ALL=C
 cd "$(dirname "$(readlink -f "${BASH_SOURCE[0]}")")/.."
-if grep -nE '^[^#:]*:.* (io|os|libc)( |$)' crates.txt; then
-    echo "crates.txt: a crate lists io, os or libc" >&2
-    exit 1
-fi
+said=$(mktemp)
+trap 'rm -f "$said"' EXIT
+wrong=()
 
 # Tries one of them, for an hour at most, and prints how many seconds it took.
 try() {
-    began=$SECONDS
-    timeout -k 60 3600 "$@" || { echo "$*: WRONG: status $?, after $((SECONDS - began)) s"; exit 1; }
+    local began=$SECONDS status=0
+    timeout -k 60 3600 "$@" >"$said" 2>&1 || status=$?
+    cat "$said"
+    [ "$status" = 0 ] || echo "$*: WRONG: status $status"
+    [ "$status" = 0 ] && tools/least.py "$1" "$said" || wrong+=("$1")
     echo "$*: $((SECONDS - began)) s"
 }
 
+if grep -nE '^[^#:]*:(.*[^[:alnum:]_])?(io|os|libc)([^[:alnum:]_]|$)' crates.txt; then
+    echo "crates.txt: WRONG: a crate lists io, os or libc"
+    wrong+=(crates.txt)
+fi
 ./exchange prove
+try tools/edits.py
 try tools/start/run.sh
 try tools/rows/run.py
 try tools/c/run.sh
 try tools/python/run.py
+try tools/release.sh --check
 try tools/texts/names.py
 try tools/texts/promises.py
 try tools/texts/run.py
@@ -36,3 +49,7 @@ try bench/run/apply.sh --check
 try bench/run/overlap.sh --check
 try bench/session/lines.sh --check
 try tools/hostile/run.sh
+if [ ${#wrong[@]} != 0 ]; then
+    echo "WRONG: ${wrong[*]}"
+    exit 1
+fi

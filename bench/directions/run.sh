@@ -9,6 +9,7 @@
 #
 # Needs valgrind. Build the program first: ./exchange prove
 set -eu
+export LC_ALL=C
 if ! command -v valgrind >/dev/null; then
     echo "directions: valgrind is missing, so nothing was counted" >&2
     exit 1

@@ -11,6 +11,7 @@
 # Needs valgrind and a C compiler, and rustc without --check. The program and the library are built first, where they are older than
 # their sources.
 set -eu
+export LC_ALL=C
 if ! command -v valgrind >/dev/null; then
     echo "apply: valgrind is missing, so nothing was counted"
     [ "${1-}" = --check ]

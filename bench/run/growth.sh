@@ -8,6 +8,7 @@
 #
 # Needs valgrind. Build the program first: ./exchange prove
 set -eu
+export LC_ALL=C
 if ! command -v valgrind >/dev/null; then
     echo "growth: valgrind is missing, so nothing was counted"
     [ "${1-}" = --check ]

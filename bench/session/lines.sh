@@ -8,6 +8,7 @@
 #
 # Needs valgrind and python3. Build the program first: ./exchange prove
 set -eu
+export LC_ALL=C
 SERVE=1900
 TALK=2050
 RECORD=2900

@@ -2,15 +2,17 @@
  * tools/rack/run.py compiles it by another one, over channels of its own, and has it obey in a rack of processes. docs/BOARD.md says more.
  *
  * BLOCKS and BLOCK_BYTES are your own numbers: how many blocks the module has, and how many bytes each. Links 1 and 2 make a chain. Over
- * link 1 comes the number of each setting, once the switch is set. A negative number has no orders. */
+ * link 1 comes the number of each setting, once the switch is set. Any other number has no orders. */
 #include <channel.h>
 #include <process.h>
 #include <string.h>
 
 enum act { IDLE, SEND, SEND_COPY, RECEIVE };
-struct order { enum act act; int block; };
+struct order { unsigned char act, block; };
 
-#include "tables.h" /* COPIES, copies, SETTINGS, orders: by orders_to_c.py */
+#include "tables.h" /* COPIES, copies, SETTINGS, orders, SUM: by orders_to_c.py */
+
+enum { END = -1, WAIT = -2, TABLES = -3, FILL = -4, READ = -5, TOLD = 3 };
 
 unsigned char memory[BLOCKS][BLOCK_BYTES];
 static unsigned char aside[BLOCKS][BLOCK_BYTES];
@@ -37,22 +39,57 @@ static void move(const struct order *order)
     ProcAllocClean(three);
 }
 
-/* Obeys until -1 comes. is_last: no module comes after this one. */
-void obey(int is_last)
+static void copy_aside(void)
 {
-    short k = 0, back;
     int i;
 
     for (i = 0; i < COPIES; i++)
         memcpy(aside[copies[i]], memory[copies[i]], BLOCK_BYTES);
-    while (k != -1) {
+}
+
+/* Passes on so many numbers that come over a link. */
+static void pass(Channel *in, Channel *out, int count)
+{
+    short number;
+
+    for (; count > 0; count--) {
+        ChanIn(in, &number, 2);
+        ChanOut(out, &number, 2);
+    }
+}
+
+/* Obeys until -1 comes. is_last: no module comes after this one. */
+void obey(int is_last)
+{
+    short k = 0, back, told[TOLD] = {SUM, BLOCKS, BLOCK_BYTES / 4};
+    int is_filled = 0, is_passed;
+
+    copy_aside();
+    while (k != END) {
         ChanIn(LINK1IN, &k, 2);
-        if (!is_last)
+        if (k == WAIT)
+            is_filled = 0;
+        is_passed = !is_last && (k != FILL || is_filled);
+        if (is_passed)
             ChanOut(LINK2OUT, &k, 2);
-        if (k >= 0)
+        if (k >= 0 && k < SETTINGS)
             move(orders[k]);
-        if (!is_last)
-            ChanIn(LINK2IN, &back, 2); /* all after this one are done */
+        if (k == FILL && is_passed)
+            pass(LINK1IN, LINK2OUT, sizeof memory / 2);
+        if (k == FILL && !is_passed) {
+            ChanIn(LINK1IN, memory, sizeof memory);
+            copy_aside();
+            is_filled = 1;
+        }
+        if (k == TABLES || k == READ)
+            ChanOut(LINK1OUT, told, sizeof told);
+        if (k == READ)
+            ChanOut(LINK1OUT, memory, sizeof memory);
+        if (is_passed)
+            for (ChanIn(LINK2IN, &back, 2); back != k; ChanIn(LINK2IN, &back, 2)) { /* until all after this one are done */
+                ChanOut(LINK1OUT, &back, 2);
+                pass(LINK2IN, LINK1OUT, TOLD - 1 + (k == READ ? (int)sizeof memory / 2 : 0));
+            }
         ChanOut(LINK1OUT, &k, 2);
     }
 }

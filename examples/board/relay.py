@@ -14,10 +14,10 @@ import select
 import sys
 import threading
 
-SWITCH, MODULES, SWITCH_B = 0, 1, 2
+# Nothing is left in the folder of the examples.
+sys.dont_write_bytecode = True
 
-# As examples/rack/module.py has it.
-LINK_ENDED = 3
+from chain import LINK_ENDED, MODULES, SWITCH, SWITCH_B  # noqa: E402
 
 
 def open_cable(name):
@@ -38,8 +38,10 @@ def carry(source, target):
 
 
 def part(cable, ways):
-    """The loop from the cable: each byte goes the way that the byte before it names."""
+    """The loop from the cable: each byte goes the way that the byte before it names. Another number isn't taken for one."""
     while way := os.read(cable, 1):
+        if way[0] not in ways:
+            sys.exit(f"relay.py: the cable has lost a byte, or has one too many: {way[0]} is no way")
         os.write(ways[way[0]][1], os.read(cable, 1))
 
 
@@ -48,8 +50,8 @@ def gather(ways, cable):
     numbers = {source: number for number, (source, _) in ways.items()}
     while numbers:
         for source in select.select([*numbers], [], [])[0]:
-            if byte := os.read(source, 1):
-                os.write(cable, bytes([numbers[source]]) + byte)
+            if came := os.read(source, 4096):
+                os.write(cable, b"".join(bytes([numbers[source], byte]) for byte in came))
             else:
                 del numbers[source]
 

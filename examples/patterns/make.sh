@@ -188,6 +188,7 @@ case ${1-} in
     find "$room/examples" -name '*.svg' -delete
     (make_all "$room/examples")
     diff -rq "$examples" "$room/examples"
+    echo "make.sh: $(find "$room/examples" -name '*.svg' -o -name '*.txt' | wc -l) files are as they are made"
     ;;
 *)
     echo "make.sh: one word at most, --check" >&2

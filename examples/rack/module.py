@@ -3,22 +3,25 @@
 
     module.py [--in-turn] MODULE SHAPE BATCH SCHEDULE LINK0 LINK3 LINK1 [LINK2]
 
-Its words come over standard input, and go to standard output in the end. Its links are sockets, by their numbers. Over link 1 comes the
-number of each setting, in two bytes, the lower one first, once the switch is set. The module hands it on over link 2 and does its orders.
-Once all modules after it are done too, it gives the number back. A negative number has no orders, and -1 ends it. rack.py starts it.
+Its links are sockets, by their numbers. Over link 1 comes the number of each setting, once the switch is set. The module hands it on over
+link 2 and does its orders. Once all modules after it are done too, it gives the number back. ../board/chain.py says which other numbers there
+are: by them it tells of its tables, gets its words, and gives them back. rack.py starts it.
 """
 
+import os
 import socket
 import sys
 from concurrent.futures import ThreadPoolExecutor
 
 import exchange
 
-ACKNOWLEDGE = b"\0"
-END = -1
+# Nothing is left in the folder of the examples.
+sys.dont_write_bytecode = True
+sys.path.append(os.path.join(os.path.dirname(os.path.dirname(os.path.realpath(__file__))), "board"))
 
-# The status of a process that ends since another one has: rack.py then looks for that one.
-LINK_ENDED = 3
+from chain import END, FILL, LINK_ENDED, READ, TABLES, TOLD, WAIT, numbers, orders_sum, sent  # noqa: E402
+
+ACKNOWLEDGE = b"\0"
 
 
 def read(path):
@@ -29,24 +32,29 @@ def read(path):
 class Module:
     """A module with its blocks, and with copies of those that it is told to copy."""
 
-    def __init__(self, shape, image, orders, links):
-        self.size, self.links = 4 * int(shape.split("x")[2]), links
-        self.memory = [image[start : start + self.size] for start in range(0, len(image), self.size)]
-        # A module without orders isn't told.
-        self.settings = orders[0].settings if orders else None
-        self.aside = {block: self.memory[block] for told in orders for block in told.copies}
+    def __init__(self, shape, tables, links):
+        _, blocks, words = map(int, shape.split("x"))
+        self.size, self.links, (self.copies, self.settings) = 4 * words, links, tables
+        self.told = sent(orders_sum(*tables), blocks, words)
+        self.fill(bytes(blocks * self.size))
 
-    def orders(self, setting):
-        return self.settings[setting] if self.settings else []
+    def fill(self, image):
+        """Takes words for all its blocks, and copies those aside that it has to."""
+        self.memory = [image[start : start + self.size] for start in range(0, len(image), self.size)]
+        self.aside = {block: self.memory[block] for block in self.copies}
+
+    def orders(self, number):
+        return self.settings[number] if 0 <= number < len(self.settings) else []
 
     def obey(self, order):
         """Moves the words of one order. Whoever sends waits until the other end has taken them, as on a real link."""
-        link = self.links[order.link]
-        if order.act == "receive block":
-            self.memory[order.block] = take(link, self.size)
+        number, act, block = order
+        link = self.links[number]
+        if act == "receive block":
+            self.memory[block] = take(link, self.size)
             link.sendall(ACKNOWLEDGE)
         else:
-            link.sendall(self.aside[order.block] if order.act == "send copy" else self.memory[order.block])
+            link.sendall(self.aside[block] if act == "send copy" else self.memory[block])
             take(link, len(ACKNOWLEDGE))
 
 
@@ -58,26 +66,43 @@ def take(link, count):
     return taken
 
 
+def obey_all(module, head, tail, at_once):
+    """Obeys until END comes over the head of the chain."""
+    number, is_filled, size = 0, False, len(module.memory) * module.size
+    while number != END:
+        number = numbers(take(head, 2))[0]
+        is_filled = is_filled and number != WAIT
+        is_passed = tail is not None and (number != FILL or is_filled)
+        if is_passed:
+            tail.sendall(sent(number))
+        # Both links side by side.
+        list(at_once.map(module.obey, module.orders(number)))
+        if number == FILL:
+            words = take(head, size)
+            if is_passed:
+                tail.sendall(words)
+            else:
+                module.fill(words)
+                is_filled = True
+        if number in (TABLES, READ):
+            head.sendall(module.told)
+        if number == READ:
+            head.sendall(b"".join(module.memory))
+        # Until all modules after it are done too.
+        while is_passed and (back := take(tail, 2)) != sent(number):
+            head.sendall(back + take(tail, 2 * TOLD - 2 + (size if number == READ else 0)))
+        head.sendall(sent(number))
+
+
 def main():
     words = [word for word in sys.argv[1:] if word != "--in-turn"]
     number, shape, batch, schedule = int(words[0]), words[1], *map(read, words[2:4])
     zero, three, head, *tail = [socket.socket(fileno=int(word)) for word in words[4:]]
-    orders = exchange.orders(batch, schedule, number)
-    module = Module(shape, sys.stdin.buffer.read(), orders, {0: zero, 3: three})
+    # A module without orders isn't told.
+    orders = exchange.orders(batch, schedule, number) or [(number, [], [[] for _ in exchange.settings(schedule)])]
+    module = Module(shape, orders[0][1:], {0: zero, 3: three})
     with ThreadPoolExecutor(1 if "--in-turn" in sys.argv else 2) as at_once:
-        setting = 0
-        while setting != END:
-            told = take(head, 2)
-            setting = int.from_bytes(told, "little", signed=True)
-            for link in tail:
-                link.sendall(told)
-            if setting >= 0:
-                # Both links side by side.
-                list(at_once.map(module.obey, module.orders(setting)))
-            for link in tail:
-                take(link, 2)
-            head.sendall(told)
-    sys.stdout.buffer.write(b"".join(module.memory))
+        obey_all(module, head, tail[0] if tail else None, at_once)
 
 
 if __name__ == "__main__":

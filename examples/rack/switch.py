@@ -21,8 +21,11 @@ import exchange
 # What to look at where words go another way than they should.
 HINT = "have rack.py and host.py the same wiring and schedule?"
 
-# As module.py has it.
-LINK_ENDED = 3
+# Nothing is left in the folder of the examples.
+sys.dont_write_bytecode = True
+sys.path.append(os.path.join(os.path.dirname(os.path.dirname(os.path.realpath(__file__))), "board"))
+
+from chain import LINK_ENDED  # noqa: E402
 
 
 class Chip:

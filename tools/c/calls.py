@@ -164,6 +164,10 @@ def try_examples(path):
     asked[-1] = ("apply", [b"3x2x2", read("two-pushes.txt"), read("before.img")])
     asked += [("direct", [read("patterns/gather.moves.txt")]), ("plan", [b"batch 1\n"]), ("switch", [batch, b""]), ("orders", [batch, b""])]
     asked += [(name, [read("all-to-all.txt")]) for name in ("plan", "plan_steady")]
+    # Beside these refusals of a certificate it is told what is known of the settings.
+    settings = schedule.partition(b"busiest")[0]
+    named = [settings + b"busiest link 0 module 0\nnamed %s\n" % it for it in (b"0 2", b"0 0", b"0")]
+    asked += [("check", [batch, it]) for it in (settings, *named, settings.replace(b" 2\n", b" 0\n"))]
     with tempfile.TemporaryDirectory() as room:
         os.chdir(room)
         calls = Calls(path, "no-memory")

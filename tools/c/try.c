@@ -118,22 +118,24 @@ static uint8_t in_room(const char *name, const struct text *texts, size_t room, 
     return status;
 }
 
-/* Refuses each growth of memory in turn, until the call has all. */
-static void without_memory(const char *name, const struct text *texts, uint8_t wanted)
+/* Refuses each growth of memory in turn, until the call has all. Each time it says so, or its answer is the same. */
+static void without_memory(const char *name, const struct text *texts, uint8_t wanted_status, const uint8_t *answer, size_t wanted)
 {
-    for (long n = 0; ; n++) {
-        uint8_t out[BEHIND];
+    int is_refused = 1;
+    for (long n = 0; is_refused; n++) {
+        uint8_t *out = filled(wanted + BEHIND);
         size_t count = 77;
-        memset(out, FILL, sizeof out);
         left = n;
         refusals = 0;
-        uint8_t status = call(name, texts, out, 0, &count);
+        uint8_t status = call(name, texts, out, wanted, &count);
         left = -1;
-        are_filled(name, out, sizeof out);
-        if (refusals == 0 && status == wanted)
-            return;
-        if (refusals == 0 || status != EXCHANGE_NO_MEMORY || count != 0)
+        is_refused = refusals > 0;
+        int is_same = status == wanted_status && count == wanted && memcmp(out, answer, wanted) == 0;
+        if (!is_same && (!is_refused || status != EXCHANGE_NO_MEMORY || count != 0))
             end(name, "memory was refused, and the call doesn't say so, or it wasn't, and the call says so");
+        size_t kept = is_same ? wanted : 0;
+        are_filled(name, out + kept, wanted + BEHIND - kept);
+        free(out);
     }
 }
 
@@ -158,8 +160,6 @@ int main(int words, char **word)
         uint8_t asked = call(name, texts, &none, 0, &wanted);
         if ((asked == EXCHANGE_NO_ROOM) != (wanted > 0))
             end(name, "no room, but nothing to write, or the other way round");
-        if (refuses)
-            without_memory(name, texts, asked);
         uint8_t *answer = filled(wanted), *again = filled(wanted);
         if (wanted > 0)
             in_room(name, texts, wanted - 1, wanted, answer);
@@ -168,6 +168,8 @@ int main(int words, char **word)
             end(name, "another answer");
         if (status == EXCHANGE_REFUSED && (wanted > REFUSAL_ROOM || memchr(answer, '\n', wanted) != answer + wanted - 1))
             end(name, "a refusal is no line, or a longer one than exchange.h says");
+        if (refuses)
+            without_memory(name, texts, status, answer, wanted);
         printf("%d %zu\n", status, wanted);
         fwrite(answer, 1, wanted, stdout);
         fflush(stdout);

@@ -209,11 +209,20 @@ def of_line(kind, name, text, number):
 
 
 def known(asked):
-    """What is told behind a certificate's fault: whether the schedule is valid, and how many settings are enough."""
+    """What is told behind a certificate's fault: the schedule's own first fault, or that it is valid, and how many settings are enough."""
     if not asked.valid:
-        return "" if asked.valid is None else "; the schedule isn't valid either"
+        return "" if asked.valid is None else f"; {of_settings(asked)}"
     enough = f"{many(asked.enough, 'setting')} {'is' if asked.enough == 1 else 'are'} enough"
     return "; the schedule is valid, and " + ("none has fewer settings" if asked.enough >= announced(asked.other[1]) else enough)
+
+
+def of_settings(asked):
+    """What is told of the first fault of a schedule's settings."""
+    try:
+        plain.check_settings(plain.read_batch(asked.list[1], plain.WIDEST), plain.read_schedule(asked.other[1])[0])
+    except plain.Refused as why:
+        what, *numbers = parts_of(f"refused {why}".encode())
+        return of_check(asked, what[6:], *numbers)
 
 
 def of_check(asked, what, t, u=None, module=None):

@@ -85,7 +85,7 @@ class Picture:
         ]
         parts += [self.row_part(module, panel) for module in self.modules for panel in self.panels]
         parts += [number_above(self.left(panel[0]) - 24, "setting") for panel in self.panels]
-        parts += [self.column(column, number) for column, number in enumerate(self.shown)]
+        parts += [self.rule(column, number) + self.column(column, number) for column, number in enumerate(self.shown)]
         parts.append(f"<g transform='translate(16,{legend})'>\n{EXPLAINED}</g>\n</svg>\n")
         return "".join(parts)
 
@@ -98,6 +98,13 @@ class Picture:
             text += f"<g class='{'busiest' if is_busiest else 'lane'}'><title>{'busiest ' * is_busiest}link {end} module {module}</title>"
             text += rectangle(labels + LABELS, top, COLUMN * len(panel), HALF) + writing(labels + 104, top + 14, f"link {end}") + "</g>\n"
         return text
+
+    def rule(self, column, number):
+        """A line before the first setting, and before each that joins other pairs of modules than the one before."""
+        pairs = [{self.transfers[t][1::2] for t in setting} for setting in self.settings[max(number - 1, 0) : number + 1]]
+        if len(pairs) == 2 and pairs[0] == pairs[1]:
+            return ""
+        return f"<path class='change' d='M{self.left(column)} {ABOVE - 8}V{ABOVE + ROW * len(self.modules) - 8}'/>\n"
 
     def column(self, column, number):
         """A setting's number, and two cells for each of its transfers."""

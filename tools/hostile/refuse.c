@@ -1,10 +1,8 @@
-// Refuses growths of memory, starts of threads and locks of files of a program that is started with this library in LD_PRELOAD.
+// Refuses growths of memory and starts of threads of a program that is started with this library in LD_PRELOAD.
 //
 // REFUSE=N       the Nth growth is refused, counted from 1
 // REFUSE=N+      the Nth growth is refused, and all later ones
 // REFUSE=T       each start of a thread is refused
-// REFUSE=L       each lock of a file is refused
-// REFUSE_MOVES=FROM:TO the file FROM is renamed to TO before the first lock
 // REFUSE_BETWEEN=1     only growths and starts between two marks count. The program sets the marks by writing to standard error:
 //                what begins with "[" starts the count, and what begins with "]" ends it
 // REFUSE_LOG=FILE      three numbers are kept there: growths met, growths refused, and starts of threads refused
@@ -17,14 +15,12 @@
 #include <stdio.h>
 #include <stdlib.h>
 #include <string.h>
-#include <sys/file.h>
 #include <unistd.h>
 
 static atomic_long met, refused, unstarted;
 static atomic_int counts;
 static long first;
-static int later, no_threads, no_locks, between, log_file = -1;
-static char *from, *to;
+static int later, no_threads, between, log_file = -1;
 
 // Written at each change, since a program may end without running what the C library runs at its exit.
 static void note(void) {
@@ -36,9 +32,7 @@ static void note(void) {
 __attribute__((constructor)) static void begin(void) {
     const char *which = getenv("REFUSE"), *log = getenv("REFUSE_LOG");
     no_threads = which && which[0] == 'T';
-    no_locks = which && which[0] == 'L';
-    first = which && !no_threads && !no_locks ? atol(which) : 0;
-    if ((from = getenv("REFUSE_MOVES")) && (to = strchr(from, ':'))) *to++ = 0;
+    first = which && !no_threads ? atol(which) : 0;
     later = which && strchr(which, '+');
     between = getenv("REFUSE_BETWEEN") != NULL;
     if (log) log_file = open(log, O_CREAT | O_WRONLY | O_TRUNC, 0644);
@@ -91,17 +85,6 @@ int pthread_create(pthread_t *thread, const pthread_attr_t *how, void *(*run)(vo
         return EAGAIN;
     }
     return real(thread, how, run, with);
-}
-
-int flock(int file, int how) {
-    static int (*real)(int, int);
-    if (!real) real = next("flock");
-    if (no_locks) {
-        errno = ENOLCK;
-        return -1;
-    }
-    if (to && rename(from, to) == 0) to = NULL;
-    return real(file, how);
 }
 
 ssize_t write(int file, const void *bytes, size_t count) {

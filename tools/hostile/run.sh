@@ -1,14 +1,17 @@
 #!/usr/bin/env bash
 # Hostile use of the built program: tools/hostile/run.sh [COUNT]
 #
+#   judges    what judges answers here is handed wrong ones
 #   streams   files and streams that can't be read, and streams that can't be written
 #   growths   each growth of memory refused in turn, of the command line and of the calls that it doesn't make
-#   texts     COUNT spoilt texts of each kind, 10000 where it isn't said, judged by a second implementation as well
+#   texts     COUNT spoilt texts of each kind, 10000 where it isn't said, judged by a second implementation as well. Of 10000
+#             classes.txt has how often each class of answer comes
 #   clients   COUNT / 10 rounds of sixteen clients at once, whose record both implementations replay
 #
 # Programs that aren't built yet, or are older than their sources, are proved and built first.
 set -euo pipefail
 unset CDPATH
+export LC_ALL=C
 here=$(cd "$(dirname "${BASH_SOURCE[0]}")" && pwd)
 top=$(cd "$here/../.." && pwd)
 work=$(mktemp -d)
@@ -25,6 +28,7 @@ fi
 cc -O2 -shared -fPIC -o "$work/refuse.so" "$here/refuse.c" -ldl
 
 failed=
+python3 "$here/judges.py" || failed+=" judges"
 # The streams are tried one after another, and often wait: so that is done beside the growths.
 python3 "$here/streams.py" >"$work/streams" 2>&1 &
 streams=$!

@@ -4,11 +4,12 @@
     texts.py [COUNT]        COUNT texts of each kind, 10000 where it isn't said; of patterns for several workers, of schedules for `switch` and
                             `run`, of wirings and of scripts for `talk` a quarter, of scripts side by side a twentieth
 
-Text number n of a kind is the same each time. A plan isn't the only one of its batch, so `plan` is judged by what a plan is, or a steady one,
-and `switch` by the plan that `plan` gives; all other answers are compared byte by byte. Of a pattern several workers have to give the plan of
-one, byte by byte. In a quarter of the runs one of the files is standard input, and a tenth of the files have odd names.
-The line on standard error beside a refusal is compared byte by byte too, with what notes.py tells. What it says is wanted in a line is then
-put there: the texts have to be refused otherwise, or told of otherwise. In a tenth of the runs `--quiet` leaves that line out.
+Text number n of a kind is the same each time. So classes.txt has how often each class of answer comes among 10000, and that is compared. A plan
+isn't the only one of its batch, so `plan` is judged by what a plan is, or a steady one, and `switch` by the plan that `plan` gives; all other
+answers are compared byte by byte. Of a pattern several workers have to give the plan of one, byte by byte. In a quarter of the runs one of the
+files is standard input, and a tenth of the files have odd names. The line on standard error beside a refusal is compared byte by byte too, with
+what notes.py tells. What it says is wanted in a line is then put there: the texts have to be refused otherwise, or told of otherwise. In a tenth of
+the runs `--quiet` leaves that line out.
 """
 
 import multiprocessing
@@ -34,6 +35,9 @@ from program import TOP, ask
 
 sys.path.append(f"{TOP}/examples")
 import check_prices
+
+# What is printed of 10000 texts of each kind, but for what is wrong. No class rests on which plan the program finds.
+CLASSES = os.path.join(os.path.dirname(os.path.abspath(__file__)), "classes.txt")
 
 SCRIPTS = 16
 
@@ -378,13 +382,13 @@ def try_orders(draw):
     if wanted.startswith(b"refused "):
         return is_refusal(answer, wanted) and told, wanted, [batch, text], answer
     well = is_answer(answer, wanted) and told and (only is not None or orders.is_obeyed(draw, batch, text, answer.out))
-    return well, kind_of_orders(wanted, only), [batch, text], answer
+    return well, kind_of_orders(wanted, only, files[1:]), [batch, text], answer
 
 
-def kind_of_orders(answer, only):
-    """Whom orders are for, and whether a block is copied, in words."""
-    whom = "all modules" if only is None else "one module"
-    return f"orders of {whom}, {'with' if b'copy block ' in answer else 'without'} copies".encode()
+def kind_of_orders(answer, only, is_given):
+    """Whom orders are for, and of a schedule that is given whether a block is copied, in words."""
+    copies = "with copies" if b"copy block " in answer else "without copies"
+    return f"orders of {'all modules' if only is None else 'one module'}, {copies if is_given else 'by a plan'}".encode()
 
 
 def try_wiring(draw):
@@ -549,12 +553,12 @@ KINDS = {
 
 
 def class_of(wanted):
-    """The kind of an answer: its words without its numbers, or for a picture how often its labels come."""
+    """The kind of an answer: its words without its numbers and its words of memory, or for a picture how often its labels come."""
     if wanted.startswith(b"<svg "):
         panels = max(wanted.count(b">module %d</text>" % module) for module in range(plain.MODULES))
         return "a picture of " + ("nothing", "one panel", "several panels")[min(panels, 2)]
     words = wanted.split(b"\n")[0].decode().split()
-    return " ".join(word for word in words if not word.isdigit())
+    return " ".join(word for word in words if not re.fullmatch("[0-9]+|[0-9a-f]{8}", word))
 
 
 def try_some(share):
@@ -582,10 +586,13 @@ def main():
         for kind, found, failed in pool.imap_unordered(try_some, shares):
             classes[kind].update(found)
             wrong += [(kind, *it) for it in failed]
+    lines = []
     for kind, found in classes.items():
-        print(f"texts: {found.total()} {kind}")
-        for name, times in sorted(found.items()):
-            print(f"texts:   {times:6} {name}")
+        lines += [f"texts: {found.total()} {kind}", *(f"texts:   {times:6} {name}" for name, times in sorted(found.items()))]
+    print("\n".join(lines))
+    with open(CLASSES, encoding="utf-8") as file:
+        if count == 10000 and lines != file.read().splitlines():
+            wrong.append(("classes", "others than in classes.txt", b"", [], ""))
     for kind, number, wanted, texts, answer in wrong[:5]:
         print(f"texts: WRONG: {kind}, number {number}: {texts}\n  wanted {wanted}\n  got {answer}")
     print(f"texts: {len(wrong)} wrong")

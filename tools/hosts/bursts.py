@@ -3,12 +3,14 @@
 
 Clients say many lines together. CALLS.SO, which calls.c is built to, notes each write and each sync of the host. Plain Python (kept.py) reads the
 record a second time, and each case is judged by both. Before a byte of a reply is written, the entries of its command stand in the record, and with
-`--sync` a sync has ended behind them. What comes before a plan, a run, or a batch that isn't all there is told before that is done. Where a write or a
-sync of the record fails once, and would work then, nothing of that group is told, and nothing more is written there; a host that resumes goes on. In
-bursts of 64 lines an entry takes at most MOST writes, and as many syncs. Where sixteen clients hear each reply before they say the next line, and a
-sync takes its time, an entry takes at most MOST_BY_TURNS syncs.
+`--sync` a sync has ended behind them. What comes before a plan, a run, or a batch that isn't all there is told before that is done, and a refusal
+before what follows it. Where a write or a sync of the record fails once, and would work then, nothing of that group is told, and nothing more is
+written there; a host that resumes goes on. In bursts of 64 lines an entry takes at most MOST writes, and as many syncs. Where sixteen clients hear
+each reply before they say the next line, and a sync takes its time, an entry takes at most MOST_BY_TURNS syncs; and where each says one line, all
+who wait for the last sync are woken.
 """
 
+import errno
 import os
 import random
 import select
@@ -21,7 +23,7 @@ from kept import Record, Wrong, calls_of, judge_client
 from moments import EXCHANGE, LIMIT, read, resume, shown, try_all
 
 MOST = 0.05
-MOST_BY_TURNS = 0.35
+MOST_BY_TURNS = 0.15
 SHAPE = (2, 2, 1)
 
 # A call of the system: whether it begins or ends, what it does, with which file, and how many bytes it has; less than 0 where it failed.
@@ -79,7 +81,7 @@ class Day:
         self.out, self.err, self.status = out.decode(), err.decode(), process.returncode
         with open(f"{room}/calls", encoding="utf-8") as file:
             parts = [line.split() for line in file]
-        self.calls = [Call(when, what, name, int(count)) for when, what, name, count in parts]
+        self.calls = [Call(when, what, name, int(count)) for when, what, name, count in parts if what in ("write", "sync")]
         self.record = Record(read(f"{room}/record"))
 
     def talk(self):
@@ -142,12 +144,13 @@ class Part:
         own = [(ends[at], ends[at + 1]) for at in range(len(entries)) if entries[at][0] == number]
         judge_client(day.record.of(number), day.said_and_told(number))
         # Of each command: where its first entry begins, where its last one ends, and whether the replies before it are told first.
-        self.commands, at = [], 0
+        self.commands, at, is_refused = [], 0, False
         for command, reply in day.said_and_told(number):
             count = len(calls_of(command, reply))
             its = own[at : at + count]
             at += count
-            waits = command.split()[0] in ("plan", "run")
+            waits = command.split()[0] in ("plan", "run") or is_refused
+            is_refused = (reply or "").startswith("refused ")
             self.commands.append((its[0][0] if its else None, max((end for _, end in own[:at]), default=0), waits))
 
     def replies(self, count, *, begun):
@@ -164,7 +167,7 @@ class Part:
         self.told += max(count, 0)
 
     def begins_to_record(self, until):
-        """The record gets these bytes: where a plan or a run stands there, what came before it was told."""
+        """The record gets these bytes: where a plan, a run or what follows a refusal stands there, what came before it was told."""
         told = self.replies(self.told, begun=False)
         for at, (begin, _, waits) in enumerate(self.commands):
             if waits and begin is not None and begin < until and told < at:
@@ -245,14 +248,27 @@ def try_counts():
 
 
 def try_turns():
-    """Sixteen clients who hear each reply before they say the next line: while one syncs, the entries of the others come together."""
+    """Sixteen clients who hear each reply before they say the next line: while one syncs, the entries of the others come together.
+    On a busy machine they come late: so it is tried up to five times."""
     draw = random.Random("turns")
     texts = [[pokes(draw, 1) for _ in range(50)] for _ in range(16)]
-    day = in_room(lambda room: Day(room, texts, "--sync", CALLS_SLOW="20000"))
-    looked, entries, syncs = day.judge(), len(day.record.entries), day.on_record("sync")
-    print(f"bursts: 16 clients by turns, {entries} entries, {syncs / entries:.4f} syncs an entry", flush=True)
-    if entries != 800 or syncs > MOST_BY_TURNS * entries:
-        raise Wrong(f"{entries} entries, {syncs} syncs")
+    for _ in range(5):
+        day = in_room(lambda room: Day(room, texts, "--sync", CALLS_SLOW="20000"))
+        looked, entries, syncs = day.judge(), len(day.record.entries), day.on_record("sync")
+        print(f"bursts: 16 clients by turns, {entries} entries, {syncs / entries:.4f} syncs an entry", flush=True)
+        if entries != 800:
+            raise Wrong(f"{entries} entries")
+        if syncs <= MOST_BY_TURNS * entries:
+            return looked
+    raise Wrong(f"{entries} entries, {syncs} syncs")
+
+
+def try_last():
+    """Sixteen clients who say a line each, at slow syncs: nobody waits for an entry that comes later."""
+    draw, looked = random.Random("last"), 0
+    for _ in range(8):
+        texts = [[pokes(draw, 1)] for _ in range(16)]
+        looked += in_room(lambda room: Day(room, texts, "--sync", CALLS_SLOW="20000").judge())
     return looked
 
 
@@ -262,7 +278,7 @@ def try_failures():
     for turn in range(24):
         draw, number = random.Random(f"fails {turn}"), 3 + turn % 7
         kind, clients = turn % 3, draw.choice([1, 4])
-        calls = {"CALLS_FAIL": f"{'sync' if kind == 2 else 'write'}:record:{number}"}
+        calls = {"CALLS_FAIL": f"sync:record:{number}:{errno.EIO}" if kind == 2 else f"write:record:{number}:{errno.ENOSPC}"}
         if kind == 1:
             calls["CALLS_HALF"] = f"record:{number - 1}"
         texts = [[pokes(draw, draw.randint(1, 64)) for _ in range(12)] for _ in range(clients)]
@@ -292,7 +308,7 @@ def try_failures():
 
 
 def main():
-    failed = try_all([try_order, try_parts, try_counts, try_turns, try_failures], "bursts")
+    failed = try_all([try_order, try_parts, try_counts, try_turns, try_last, try_failures], "bursts")
     print(f"bursts: {failed} wrong")
     sys.exit(1 if failed else 0)
 

@@ -1,19 +1,21 @@
 #!/usr/bin/env python3
-"""Makes a page that is installed, and prints it.
+"""Makes what is installed beside the program and the library: pages.py PROGRAM PAGES SHARE
 
-    pages.py manual PROGRAM DOCS    a page for `man`: what `PROGRAM --help` and each `PROGRAM COMMAND --help` say, line by line; the files
-                                    of their examples are those below DOCS
-    pages.py completions PROGRAM    what bash completes: commands, and the options of each; other words are names of files
-    pages.py document TOP NAME LIST the document of this name below TOP, without links to what isn't in the list: of these the words are left
+    a page for `man`      what `PROGRAM --help` and each `PROGRAM COMMAND --help` say, line by line; the files of their examples are those below PAGES
+    a file for each shell what bash, zsh and fish complete: commands, and the options of each; other words are names of files
+    documents             those below SHARE/doc/exchange, without links to what isn't there: of these the words are left
 """
 
-import os
 import re
 import subprocess
 import sys
+from pathlib import Path
 
 # What roff would take for something else, and how it is told not to.
 ESCAPES = {"\\": r"\(rs", "-": r"\-", "'": r"\(aq", "`": r"\(ga", "^": r"\(ha", "~": r"\(ti", ".": r"\&."}
+
+# What a file says first of itself by which a shell completes.
+MADE = "# What {} completes behind `exchange`. tools/install/pages.py made this of what `exchange --help` says."
 
 
 def say(program, *words):
@@ -51,11 +53,10 @@ def at_docs(text, docs):
     return re.sub(r"(?<=\s)examples/", f"{docs}/examples/", text)
 
 
-def manual(program, docs):
-    top, commands = read(program)
+def manual(version, top, commands, docs):
     top, commands = at_docs(top, docs), {name: at_docs(text, docs) for name, text in commands.items()}
     about = re.search(r"^(.*)\n\nUsage: ", top, re.MULTILINE)[1]
-    head = f'.TH EXCHANGE 1 "" "{escaped(say(program, "--version").strip())}"\n.SH NAME\nexchange \\- {escaped(about)}\n'
+    head = f'.TH EXCHANGE 1 "" "{escaped(version)}"\n.SH NAME\nexchange \\- {escaped(about)}\n'
     synopsis = section("SYNOPSIS", "\n".join(map(usage, commands.values())))
     return head + synopsis + section("DESCRIPTION", top) + "".join(section(f"exchange {name}", commands[name]) for name in commands)
 
@@ -65,17 +66,21 @@ def options(help_text):
     return " ".join(it[1] for it in found if it)
 
 
-def completions(program):
-    top, commands = read(program)
-    cases = "".join(f"    2:{name}) words='{options(text)}' ;;\n" for name, text in commands.items())
+def words_of(top, commands):
+    """What may stand behind the program's name, what behind `help`, and the options of each command by its name."""
+    names = " ".join(commands)
+    return f"{names} help {options(top)}", names, {name: options(text) for name, text in commands.items()}
+
+
+def bash(first, names, commands):
+    cases = "".join(f"    2:{name}) words='{words}' ;;\n" for name, words in [*commands.items(), ("help", names)])
     return f"""\
-# What bash completes behind `exchange`. tools/install/pages.py made this of what `exchange --help` says.
+{MADE.format("bash")}
 _exchange() {{
     local words=
     case $((COMP_CWORD > 1 ? 2 : 1)):${{COMP_WORDS[1]}} in
-    1:*) words='{" ".join(commands)} help {options(top)}' ;;
+    1:*) words='{first}' ;;
 {cases}\
-    2:help) words='{" ".join(commands)}' ;;
     esac
     COMPREPLY=()
     if [[ $COMP_CWORD -eq 1 || ${{COMP_WORDS[1]}} == help || $2 == -* ]]; then
@@ -86,19 +91,61 @@ complete -o bashdefault -o default -F _exchange exchange
 """
 
 
-def document(top, name, listed_in):
-    with open(f"{top}/{name}", encoding="utf-8") as file, open(listed_in, encoding="utf-8") as names:
-        text, listed_names = file.read(), names.read().splitlines()
+def zsh(first, names, commands):
+    cases = "".join(f"2:{name}) known=({words}) ;;\n" for name, words in [*commands.items(), ("help", names)])
+    return f"""\
+#compdef exchange
+{MADE.format("zsh")}
+local -a known
+case $((CURRENT > 2 ? 2 : 1)):$words[2] in
+1:*) known=({first}) ;;
+{cases}\
+esac
+if [[ $CURRENT -eq 2 || $words[2] == help || $PREFIX == -* ]]; then
+    compadd -- $known
+else
+    _files
+fi
+"""
+
+
+def fish(first, names, commands):
+    behind = "complete -c exchange -n 'contains -- {} (commandline -opc)[2]'"
+    cases = "".join(f"{behind.format(name)} {words.replace('--', '-l ')}\n" for name, words in commands.items())
+    return f"""\
+{MADE.format("fish")}
+complete -c exchange -n 'test (count (commandline -opc)) = 1' -f -a '{first}'
+{behind.format("help")} -f -a '{names}'
+{cases}"""
+
+
+def unlinked(page):
+    """The text of a document without links to what isn't there."""
 
     def kept(link):
-        path = os.path.normpath(os.path.join(os.path.dirname(name), link[2].partition("#")[0]))
-        is_there = "://" in link[2] or link[2].startswith("#") or any(it == path or it.startswith(f"{path}/") for it in listed_names)
+        is_there = "://" in link[2] or (page.parent / link[2].partition("#")[0]).exists()
         return link[0] if is_there else link[1]
 
     # What is shown between two lines of marks has no links.
-    parts = re.split(r"(?ms)(^```.*?^```$)", text)
+    parts = re.split(r"(?ms)(^```.*?^```$)", page.read_text(encoding="utf-8"))
     return "".join(part if k % 2 else re.sub(r"\[([^\]]+)\]\(([^)\s]+)\)", kept, part) for k, part in enumerate(parts))
 
 
+def main(program, pages, share):
+    top, commands = read(program)
+    words = words_of(top, commands)
+    made = {
+        "man/man1/exchange.1": manual(say(program, "--version").strip(), top, commands, pages),
+        "bash-completion/completions/exchange": bash(*words),
+        "zsh/site-functions/_exchange": zsh(*words),
+        "fish/vendor_completions.d/exchange.fish": fish(*words),
+    }
+    made.update({str(page): unlinked(page) for page in Path(share, "doc/exchange").rglob("*.md")})
+    for name, text in made.items():
+        path = Path(share, name)
+        path.parent.mkdir(parents=True, exist_ok=True)
+        path.write_text(text, encoding="utf-8")
+
+
 if __name__ == "__main__":
-    print({"manual": manual, "completions": completions, "document": document}[sys.argv[1]](*sys.argv[2:]), end="")
+    main(*sys.argv[1:])

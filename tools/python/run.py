@@ -2,28 +2,34 @@
 """Tries what an install puts into a folder, and the calls for programs in Python: tools/python/run.py [COUNT]
 
     install     puts what its list says, stops where a file is in the way, and what it put is taken away again, and no more, also where it
-                was interrupted
-    pages       helps call the program by its name, what `man` shows has each line of them, and bash completes commands and options; what is
+                was interrupted; all that is put has one version; a library that isn't proved isn't said to be
+    pages       helps call the program by its name, what `man` shows has each line of them, and shells complete commands and options; what is
                 installed names no page and no file that isn't
     C           a program that pkg-config gives the words for, and one that is linked with the shared library
-    Python      the examples of the module's own texts, the emulator, want of memory, long answers, and how often a call is made
+    Python      the examples of the module's own texts, the emulator, want of memory, long answers, how often a call is made, names of files,
+                copies, memory of other kinds, and a link to the module
     texts       COUNT spoilt texts, 2000 where it isn't said, by the calls from Python and by the built program, byte for byte
     states      streams to a C004 and to the end of a link, against plain Python that shares no code with the product; only bytes are sent,
                 and the memory of an end keeps its length
     threads     sixteen that call at once are answered as one alone
 
-What isn't built yet is proved and built first. `man` and `pkg-config` are tried where they are there.
+What isn't built yet is proved and built first. `man`, `pkg-config`, `zsh` and `fish` are tried where they are there.
 """
 
+import array
+import contextlib
+import copy
 import itertools
 import multiprocessing
 import os
 import random
 import re
 import shutil
+import signal
 import subprocess
 import sys
 import tempfile
+import time
 from concurrent.futures import ThreadPoolExecutor
 from pathlib import Path
 
@@ -36,7 +42,7 @@ from program import EXCHANGE, ask
 
 EXAMPLES = f"{TOP}/examples"
 
-# What bash makes of words behind `exchange`. Where that is nothing, it goes on with names of files.
+# What a shell makes of words behind `exchange`. Where that is nothing, it goes on with names of files.
 COMPLETED = {
     "pl": "plan",
     "plan --w": "--workers",
@@ -46,6 +52,14 @@ COMPLETED = {
     "help dra": "draw",
     "plan exam": "",
 }
+
+# How a shell is asked, with the file by which it completes as its first word. Of zsh, which completes at a terminal alone, it is what it would add.
+SHELLS = {
+    "bash": ["-c", 'source "$1"; COMP_WORDS=("${@:2}"); COMP_CWORD=$(($# - 2)); _exchange exchange "${!#}" "" && echo "${COMPREPLY[@]}"', "bash"],
+    "zsh": ["-fc", "compadd() { print -r -- ${(M)@[2,-1]:#$PREFIX*} }; _files() { print }; words=(${@:2}); CURRENT=$#words; PREFIX=$words[-1]; source $1", "zsh"],
+    "fish": ["-Nc", 'source $argv[1]; echo (complete -C "$argv[2..-1]")'],
+}
+COMPLETIONS = {"bash": "bash-completion/completions/exchange", "zsh": "zsh/site-functions/_exchange", "fish": "fish/vendor_completions.d/exchange.fish"}
 
 # How many things were tried, and what was wrong.
 tried, wrong = [], []
@@ -93,10 +107,11 @@ def try_install(room):
     expect("all files are listed", sorted(files) == sorted(f"{rack}/{line}" for line in put), f"{files}\n{put}")
     expect("all files are told", all(f"  {line}\n" in told for line in put), told)
     before = tree(rack)
-    install("install once more", 0, "rack/", cwd=room)
-    expect("a second install leaves the same", tree(rack) == before)
-    version = run(f"{rack}/bin/exchange", "--version")[1].split()[1]
-    expect("pkg-config is told the version", f"\nVersion: {version}\n" in Path(rack, "lib/pkgconfig/exchange.pc").read_text())
+    for first, is_said in (f"{rack}/bin", False), (os.path.dirname(EXCHANGE), True):
+        told = install("install once more", 0, "rack/", cwd=room, env={**os.environ, "PATH": f"{first}:{os.environ['PATH']}"})
+        expect("where another exchange is on the PATH, the new one is said", (f"export PATH={rack}/bin:" in told) == is_said, told)
+    expect("another install leaves the same", tree(rack) == before)
+    try_versions(rack)
     with open(f"{rack}/share/exchange/installed", "a") as listed:
         listed.write("bin/../../rack/bin/exchange\n")
     install("uninstall by a list that leads out of the folder", 1, rack, script="uninstall")
@@ -128,7 +143,41 @@ def try_install(room):
     return rack
 
 
-# What no install may be put into, since its name can't stand in exchange.pc.
+def try_versions(rack):
+    """The program, pkg-config, the header, the module for Python and the shared library have one version; of the last it is the first number."""
+    version = run(f"{rack}/bin/exchange", "--version")[1].split()[1]
+    told = {
+        "pkg-config": re.findall(r"^Version: (.*)$", Path(rack, "lib/pkgconfig/exchange.pc").read_text(), re.MULTILINE),
+        "header": re.findall(r'^#define EXCHANGE_VERSION "(.*)"$', Path(rack, "include/exchange.h").read_text(), re.MULTILINE),
+        "module": re.findall(r'^__version__ = "(.*)"$', next(Path(rack).rglob("exchange.py")).read_text(), re.MULTILINE),
+    }
+    expect("all have one version", version and all(it == [version] for it in told.values()), (version, told))
+    major = re.findall(r"\(SONAME\).*\[(.*)\]", run("readelf", "-d", f"{rack}/lib/libexchange.so")[1])
+    expect("the shared library has its first number", major == [f"libexchange.so.{version.partition('.')[0]}"], major)
+
+
+# An `rt` that proves nothing.
+NO_PROOF = """#!/bin/sh
+[ "$1" != lib ] || { echo "a goal is open" && exit 1; }
+"""
+
+
+def try_unproved(room):
+    """A library that isn't proved isn't said to be, in a clone whose program is built."""
+    clone, few = f"{room}/clone", f"{room}/unproved"
+    for folder in (few, f"{clone}/crates/exchange_c", f"{clone}/crates/exchange/out"):
+        os.makedirs(folder)
+    shutil.copytree(f"{TOP}/tools/install", f"{clone}/tools/install")
+    for name in ("crates.txt", "exchange"):
+        shutil.copy(f"{TOP}/{name}", clone)
+    shutil.copy(EXCHANGE, f"{clone}/crates/exchange/out/exchange")
+    Path(few, "rt").write_text(NO_PROOF)
+    os.chmod(f"{few}/rt", 0o755)
+    status, told = run(f"{clone}/tools/install/build.sh", env={**os.environ, "PATH": f"{few}:{os.environ['PATH']}"})
+    expect("a library that isn't proved", (status, "a goal is open" in told, "exchange_c is proved" in told) == (3, True, False), f"{status}\n{told}")
+
+
+# What no install may be put into, since pkg-config can't say its name in a word.
 UNNAMED = " \t\n$'\"\\#"
 
 # A `cp` that fails the tenth time.
@@ -154,7 +203,7 @@ def try_interrupted(room):
 
 def try_modes(room):
     """Anybody may read what is installed and run what is a program, whatever the umask of who installs."""
-    rack, programs = f"{room}/modes", ("bin/exchange", "lib/libexchange.so")
+    rack, programs = f"{room}/modes", ("bin/exchange", "lib/libexchange.so", "lib/libexchange.so.1")
     install("install with a umask", 0, rack, umask=0o077)
     for name in (line for line in Path(rack, "share/exchange/installed").read_text().splitlines() if not line.endswith("/")):
         page = name.removeprefix("share/doc/exchange/")
@@ -166,7 +215,7 @@ def try_modes(room):
 
 def try_in_the_way(room):
     """What is in the way: a link that leads nowhere, and files whose names are parts of those that an earlier install is said to have put.
-    What can't be put anywhere: the folders whose names exchange.pc can't say."""
+    What can't be put anywhere: the folders whose names pkg-config can't say in a word."""
     mine = f"{room}/own"
     os.makedirs(f"{mine}/bin")
     os.symlink("nowhere", f"{mine}/bin/exchange")
@@ -187,7 +236,7 @@ def try_in_the_way(room):
     expect("it takes nothing away", tree(mine) == before)
     for sign in UNNAMED:
         told = install(f"a folder with {sign!r} in its name", 1, f"{room}/a{sign}b")
-        expect("that it can't be named is told", "exchange.pc can't name this folder" in told and not os.path.exists(f"{room}/a{sign}b"), told)
+        expect("that it can't be named is told", "pkg-config can't name this folder" in told and not os.path.exists(f"{room}/a{sign}b"), told)
 
 
 def try_home(room):
@@ -212,6 +261,8 @@ def read_helps(rack):
     names = [line.split()[0] for line in listed if line.startswith("  ") and "--" not in line]
     helps = {name: run("exchange", name, "--help", env=env)[1] for name in names if name != "help"}
     expect("each command's example calls the program by its name", len(helps) > 5 and is_called_by_name(helps), helps)
+    by_path = {name: run(f"{rack}/bin/exchange", name, "--help")[1] for name in helps}
+    expect("called by its path it says the same", by_path == helps, by_path)
     texts = "\n".join([top, *helps.values()])
     expect("no help says where the program is", "./exchange" not in texts, texts)
     return texts.splitlines()
@@ -239,7 +290,7 @@ def try_named(rack):
 
 
 def try_pages(rack):
-    """The helps, the page for `man`, and what bash completes."""
+    """The helps, the page for `man`, and what shells complete."""
     helps = [re.sub(r"(^|(?<= ))examples/", f"{rack}/share/doc/exchange/examples/", line) for line in read_helps(rack)]
     try_named(rack)
     if shutil.which("man"):
@@ -248,10 +299,10 @@ def try_pages(rack):
         lines = {" ".join(line.split()) for line in shown.splitlines()}
         missing = [line for line in helps if " ".join(line.split()) not in lines]
         expect("man shows each line of each help", status == 0 and not missing, "\n".join([*missing, shown]))
-    completes = 'source "$1"; COMP_WORDS=("${@:2}"); COMP_CWORD=$(($# - 2)); _exchange exchange "${!#}" "" && echo "${COMPREPLY[@]}"'
-    for words, wanted in COMPLETED.items():
-        completions = f"{rack}/share/bash-completion/completions/exchange"
-        expect_run(f"bash completes {words}", f"{wanted}\n", "bash", "-c", completes, "bash", completions, "exchange", *words.split())
+    for shell, (words, wanted) in itertools.product(filter(shutil.which, SHELLS), COMPLETED.items()):
+        expect_run(
+            f"{shell} completes {words}", f"{wanted}\n", shell, *SHELLS[shell], f"{rack}/share/{COMPLETIONS[shell]}", "exchange", *words.split(), cwd=rack
+        )
 
 
 def try_c(rack, room):
@@ -301,6 +352,7 @@ def try_python(module):
         ended = status, f"{last}\ndrive has ended with status {status}, so nothing is compared\n"
         expect(f"the same, with a drive that ends: {last}", (told := run(*links, drive, env=env)) == ended, told)
         drive.unlink()
+    stop_links(links, drive, env)
     expect_run("want of memory", "exchange_apply was given no memory\nTrue\n", sys.executable, "-c", WITHOUT_MEMORY, env=env)
     sys.path.insert(0, os.path.dirname(module))
     try_help(run(sys.executable, "-m", "pydoc", "exchange", env=env)[1])
@@ -309,6 +361,82 @@ def try_python(module):
     try_no_schedule()
     try_settings()
     try_calls()
+    try_names()
+    try_copies()
+    try_link(module)
+
+
+def try_link(module):
+    """A link to the module finds the library too."""
+    program = "import exchange; print(exchange.plan('batch 0\\n'), exchange.__file__)"
+    with tempfile.TemporaryDirectory(prefix="linked-") as linked:
+        os.symlink(module, f"{linked}/exchange.py")
+        env = {**os.environ, "PYTHONPATH": linked}
+        expect_run("a link to the module", f"settings 0\nbusiest none\n {linked}/exchange.py\n", sys.executable, "-c", program, env=env)
+
+
+def refusal_of(call_it, *given):
+    """What is raised where a call refuses its texts."""
+    import exchange
+
+    try:
+        return call_it(*given)
+    except exchange.Refused as refused:
+        return refused
+
+
+def try_names():
+    """What a refusal calls its texts: files by names of each kind, also by one that is no text, or more than a line. A list isn't a text."""
+    import exchange
+
+    for call_it, given, text in (exchange.plan, ["x"], "batch"), (exchange.direct, ["x"], "moves"), (exchange.apply, ["1x1x1", "batch 0\n", "x"], "image"):
+        named = {"mine.txt": "mine.txt", Path("my/mine.txt"): "my/mine.txt", b"mine.txt": "mine.txt", "a\nb": "a b", "a\udcff": "a?", "": text}
+        found = {name: refusal_of(call_it, *given).named(**{text: name}).split(":")[1].strip() for name in named}
+        expect(f"the name of {text}", found == named, found)
+    try:
+        told = exchange.plan([exchange.Transfer("push", 0, 0, 1, 0)])
+    except TypeError as error:
+        told = str(error)
+    expect("a list is no text", told == "a text is str or bytes, not list; batch_text makes one of a list of transfers", told)
+
+
+def try_copies():
+    """A copy has a state of its own. Memory of each kind is seen whole."""
+    import exchange
+
+    switch, memory = exchange.C004(), array.array("I", [0, 1, 2, 0x64636261])
+    end = exchange.LinkEnd(memory, 0)
+    for it, begins, ends in (switch, b"\2\0\x20\2", b"\0"), (end, b"\1\x0c\0\0", b"\0"):
+        it.take(begins)
+        for kind in (copy.copy, copy.deepcopy):
+            other, before = kind(it), it.state
+            told = other.take(ends)
+            expect("a copy has its own state", (it.state, other.state != before) == (before, True), (before, it.state, other.state))
+            expect("a copy goes on", (told, getattr(other, "refused", 1)) == (it is end and b"abcd" or b"\0", 1), told)
+
+
+def stop_links(links, drive, env):
+    """A signal ends the emulator while its `drive` waits: that ends too, and no folder is left."""
+    noted = Path(f"{drive}.noted")
+    drive.write_text(f'#!/bin/sh\necho $$ "$(dirname "$2")" >{noted}.new\nmv {noted}.new {noted}\nexec sleep 600\n')
+    drive.chmod(0o755)
+    emulator = subprocess.Popen([*links, drive], env=env, stdout=subprocess.DEVNULL)
+    opened = Path(f"/proc/{emulator.pid}/fd")
+    # The signal is minded once the pipes are open.
+    while emulator.poll() is None and not (noted.exists() and any("board.out" in os.readlink(it) for it in opened.iterdir())):
+        time.sleep(0.01)
+    emulator.terminate()
+    number, folder = noted.read_text().split()
+    with contextlib.suppress(subprocess.TimeoutExpired):
+        emulator.wait(20)
+    left = [it for it in (folder, f"/proc/{number}") if os.path.exists(it)]
+    expect("the same, ended while a drive waits", (emulator.poll(), left) == (143, []), f"{emulator.poll()} {left}")
+    if f"/proc/{number}" in left:
+        os.kill(int(number), signal.SIGKILL)
+    emulator.kill()
+    emulator.wait()
+    drive.unlink()
+    noted.unlink()
 
 
 def try_help(told):
@@ -607,6 +735,7 @@ def main():
         try_interrupted(room)
         try_modes(room)
         try_in_the_way(room)
+        try_unproved(room)
         module = str(next(Path(rack).rglob("exchange.py")))
         try_home(room)
         try_pages(rack)

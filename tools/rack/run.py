@@ -1,28 +1,35 @@
 #!/usr/bin/env python3
-"""Tries the rack of processes of examples/rack, behind the relay and the cable of examples/board: tools/rack/run.py [COUNT]
+"""Tries the rack of processes of examples/rack, behind the relay and the cable of examples/board: tools/rack/run.py [--stop] [COUNT] [WORD]
 
-    racks     each case is a run: host.py has `exchange drive` set the switch over one cable, and a process for each module obeys its orders,
-              by the plan, a steady plan or a schedule by hand. COUNT random batches follow, 40 where it isn't said. At the end the image has
-              to be the one that `exchange apply` makes
+    racks     each case is a run: host.py fills the modules with an image, has `exchange drive` set the switch over one cable, and reads the
+              modules in the end; a process for each module obeys its orders, by the plan, a steady plan or a schedule by hand. COUNT random
+              batches follow, 20 where it isn't said. At the end the image has to be the one that `exchange apply` makes
     rings     modules that do what they are told for link 0 before they look at link 3 hang in a ring, and in a transfer within a module
     repeats   each setting of each pattern is set and moved twice, the second time by a `drive` that begins with it, and one that isn't the
               last is denied
-    C         modules are examples/board/module.c, compiled by the tables of orders_to_c.py over channels of inmos/
-    tables    those of each module of each pattern, in occam and in C, are made into its orders again
+    C         modules are examples/board/module.c, compiled by the tables of orders_to_c.py over channels of inmos/, and so is relay.c, which
+              sets the switch by the tables of switch_to_c.py
+    tables    those of each module of each pattern, and of a switch, in occam and in C, are made into its orders and bytes again
     boards    modules are on other links of the switch, as a wiring says; and the cable ends at slot 0, behind which a second relay is
+    faults    the cable loses a byte, has one too many, or falls silent, at 20 places each; tables are of another schedule, slots are
+              exchanged, a module is missing or dies in each setting, a second host comes, or what comes is wrong: the host says so and ends, and
+              says `driven` in none
     ends      a cable may be a terminal; a switch alone and a module alone are handed words in parts, and the switch words that come before it
-              has settled; the two loops of the relay carry the bytes of `drive` and `c004`; a cable that ends ends the host; a module that is
-              killed, or a host of another wiring, ends the rack, which says so, and its host; one that is told to end leaves nothing; and where a
-              host is killed the next one goes on
+              has settled; the two loops of the relay carry the bytes of `drive` and `c004`; a cable that ends ends the host; one that is told
+              to end leaves nothing; and where a host is killed the next one goes on
 
-What isn't built yet is proved and built first, and all is installed in a folder for the while. Another one is tried where RACK names it.
+Each has a folder of its own, and as many run at once as there are processors. What isn't built yet is proved and built first, and all is
+installed in a folder for the while. Another one is tried where RACK names it. With --stop the first that is wrong ends all. With WORD only
+those run that have it in their names.
 """
 
 import contextlib
-import io
+import ctypes
+import itertools
 import math
 import os
 import random
+import re
 import select
 import signal
 import socket
@@ -30,11 +37,14 @@ import subprocess
 import sys
 import tempfile
 import threading
+import traceback
 import tty
+from concurrent.futures import ThreadPoolExecutor
 from pathlib import Path
 
 TOP = os.path.dirname(os.path.dirname(os.path.dirname(os.path.abspath(__file__))))
 EXAMPLES = f"{TOP}/examples"
+HOST, RACK, RELAY = f"{EXAMPLES}/board/host.py", f"{EXAMPLES}/rack/rack.py", f"{EXAMPLES}/board/relay.py"
 sys.path[:0] = f"{TOP}/tools/hostile", f"{EXAMPLES}/board"
 # Nothing is left in the folder of the examples.
 sys.dont_write_bytecode = True
@@ -45,21 +55,18 @@ import relay  # noqa: E402
 import spoil  # noqa: E402
 import tables  # noqa: E402
 
-# Seconds that a run has, and those in which one that hangs says nothing more.
-LIMIT, SILENCE = 300, 2
+# Seconds that a run has, those in which one that hangs says nothing more, and those that a host waits for a byte where one is missing.
+LIMIT, SILENCE, PATIENCE = 120, 2, 3
 
 RING = "batch 4\npush 0 0 1 0\npush 1 0 2 0\npush 2 0 3 0\npush 3 0 0 0\n"
 WITHIN = "batch 1\npush 1 0 1 3\n"
 ITSELF = "batch 2\npush 0 2 0 2\npush 0 2 1 0\n"
 PULLS = "batch 2\npull 0 1 2 3\npull 2 3 0 1\n"
 BACKWARDS = "batch 3\npull 2 0 0 0\npush 3 0 2 1\npush 3 1 0 1\n"
-# Block b of module m and block m of module b change places, among ten modules.
-TRANSPOSITION = "batch 90\n" + "".join(f"push {m} {b} {b} {m}\n" for m in range(10) for b in range(10) if m != b)
+APART = "settings 3\nsetting 0\nsetting 1\nsetting 2\n"
 
 # In place of INMOS's headers, and the words of the compiler.
 INMOS, FLAGS = f"{TOP}/tools/rack/inmos", ["-std=c89", "-Wall", "-Wextra", "-Wno-strict-prototypes", "-Werror"]
-
-APART = "settings 3\nsetting 0\nsetting 1\nsetting 2\n"
 
 
 def read(name):
@@ -67,13 +74,19 @@ def read(name):
         return file.read()
 
 
+def transposition(count):
+    """Block b of module m and block m of module b change places, among so many modules."""
+    pairs = [(m, b) for m in range(count) for b in range(count) if m != b]
+    return f"batch {len(pairs)}\n" + "".join(f"push {m} {b} {b} {m}\n" for m, b in pairs)
+
+
 # Each case: its name, the shape, the batch, and the words or the schedule by which it goes.
 CASES = [
     ("the plan", "3x2x2", read("three-transfers.txt"), []),
-    ("the plan of a transposition", "10x10x4", TRANSPOSITION, []),
+    ("the plan of a transposition", "10x10x4", transposition(10), []),
     ("the largest blocks", "2x1x256", read("swap.txt"), []),
     ("a steady plan", "4x24x1", read("patterns/three-blocks.txt"), ["--steady"]),
-    ("a steady plan of a transposition", "10x10x4", TRANSPOSITION, ["--steady"]),
+    ("a steady plan of a transposition", "10x10x4", transposition(10), ["--steady"]),
     ("a schedule by hand", "3x2x2", read("three-transfers.txt"), APART),
     ("a swap, one at a time", "2x1x2", read("swap.txt"), "settings 2\nsetting 0\nsetting 1\n"),
     ("a rotation, the other way round", "3x1x2", read("ring.txt"), "settings 3\nsetting 2\nsetting 1\nsetting 0\n"),
@@ -90,12 +103,14 @@ CASES = [
     ("a cable to slot 0, and two switches", "17x2x2", read("wide-rack.txt"), ["--slot-0"]),
     ("a wiring", "3x2x2", read("three-transfers.txt"), ["--wiring", "wiring"]),
     ("a wiring, and a cable to slot 0", "4x2x2", BACKWARDS, ["--wiring", "backwards", "--slot-0"]),
+    ("nine modules over a wiring", "9x9x2", transposition(9), ["--wiring", "turned", "--steady"]),
 ]
 
 # The wirings of these cases. The second has no link 0 of module 0, no link 3 of module 3, and no module 1.
 WIRINGS = {
     "wiring": "wiring 3\nmodule 0 link 0 at 4 link 3 at 21\nmodule 1 link 0 at 5 link 3 at 22\nmodule 2 link 0 at 11 link 3 at 0\n",
     "backwards": "wiring 3\nmodule 0 link 0 none link 3 at 31\nmodule 2 link 0 at 30 link 3 at 29\nmodule 3 link 0 at 1 link 3 none\n",
+    "turned": "wiring 16\n" + "".join(f"module {m} link 0 at {16 + m} link 3 at {m}\n" for m in range(16)),
 }
 
 # What runs with modules in C, each with the words or the schedule by which it goes.
@@ -110,353 +125,586 @@ IN_C = [
 # What hangs with links in turn.
 RINGS = [("a ring", "4x1x16", RING), ("a transfer within a module", "2x4x2", WITHIN)]
 
-# Programs of modules of a rack: one obeys its orders, and one is killed once it is told of setting 0.
-OBEYS = """#!/bin/sh
-exec {python} {examples}/rack/module.py {m} 3x2x2 batch schedule "$@"
+# A module's program that is module.py but for what some lines change.
+PROGRAM = """#!{python}
+import os, signal, sys, time
+sys.dont_write_bytecode = True
+sys.path[:0] = ["{examples}/rack"]
+import module
+{change}
+sys.argv[1:1] = ["{m}", "{shape}", "{batch}", "{schedule}"]
+try:
+    module.main()
+except (EOFError, ConnectionError):
+    sys.exit(module.LINK_ENDED)
 """
-IS_KILLED = """#!{python}
-import os, signal, socket, sys
-link = socket.socket(fileno=int(sys.argv[3]))
-link.sendall(link.recv(2, socket.MSG_WAITALL))
-link.recv(2, socket.MSG_WAITALL)
-os.kill(os.getpid(), signal.SIGKILL)
-"""
+
+# It dies once it is told of setting K, or gives another number back than 0.
+DIES = "orders = module.Module.orders\nmodule.Module.orders = lambda self, k: os.kill(os.getpid(), 9) if k == {} else orders(self, k)"
+ERRS = "sent = module.sent\nmodule.sent = lambda *told: sent(*(it + (it == 0) for it in told))"
+
+# A host whose lines are read, and that reads.
+PAUSED = {"stdin": subprocess.PIPE, "stderr": subprocess.DEVNULL}
 
 # What joins link 0 of module 0 and link 3 of module 1. Behind that a switch isn't ready until SETTLE comes.
 JOIN, SETTLE = b"\4\1\0\x11", b"\3"
+LOOSE = "switch.py: words come over {}, which isn't joined; have rack.py and host.py the same wiring and schedule?\n"
 
 # A block of 256 words, as it comes over a link.
 PARTS = [b"a" * 600, b"b" * 424]
 
-wrong = []
+# The rack whose cable is spoilt: the words of a run, how many bytes of the cable come after `driven`, and which bytes are the modules'.
+SPOILT = "2x1x1", read("swap.txt"), []
+TAIL = 8, 48
+
+# From which of the bytes that come back on there are none, counted from the end where it is negative, and what is awaited then.
+SILENT = {
+    0: "-2 from the modules",
+    4: "what module 0 has",
+    9: "what module 0 has",
+    16: "what module 1 has",
+    28: "what module 2 has, or -3 where the chain ends",
+    32: "-4 from the modules, once module 0 has its words",
+    36: "-4 from the modules, once module 1 has its words",
+    40: "an answer of the switch to drive",
+    -52: "0 from the modules, which have to do setting 0",
+    -48: "what module 0 has, or -5 where the chain ends",
+    -36: "the words of module 0",
+    -4: "-1 from the modules, which end",
+}
+
+# The least number of tries, so that an empty list is seen.
+LEAST = 165
+
+wrong, started, stops = [], [], "--stop" in sys.argv
 
 
 def expect(what, well, told=""):
     if not well:
         wrong.append(what)
-        print(f"rack: WRONG: {what}\n{told}", file=sys.stderr)
+        print(f"rack: WRONG: {what}\n{told}", file=sys.stderr, flush=True)
+        if stops:
+            stop()
 
 
-class Racks:
-    """Starts the racks, by what is installed in a folder."""
+def stop(*_):
+    """Ends all that runs, and this."""
+    for run in started:
+        end_all(run)
+    os._exit(1)
 
-    def __init__(self, installed):
+
+def end_all(run):
+    """Ends a program and all that it has started."""
+    with contextlib.suppress(ProcessLookupError):
+        os.killpg(run.pid, signal.SIGKILL)
+
+
+class Room:
+    """A folder in which racks and hosts run, by what is installed."""
+
+    def __init__(self, installed, path, what):
+        self.installed, self.path, self.what, self.started = installed, path, what, []
         self.program = f"{installed}/bin/exchange"
         module = next(Path(installed).rglob("exchange.py"))
         # What a rack that is killed leaves goes with this folder.
-        places = {"EXCHANGE": self.program, "PYTHONPATH": str(module.parent), "TMPDIR": os.getcwd()}
+        places = {"EXCHANGE": self.program, "PYTHONPATH": str(module.parent), "TMPDIR": path}
         self.env = {**os.environ, **places, "PYTHONDONTWRITEBYTECODE": "1"}
 
-    def write(self, seed, shape, batch, schedule):
-        """Writes the files of a run, and gives the words of one. Words of an option are such."""
-        size = 4 * math.prod(map(int, shape.split("x")))
-        Path("batch").write_text(batch)
-        Path("image").write_bytes(random.Random(seed).randbytes(size))
+    def at(self, name):
+        return f"{self.path}/{name}"
+
+    def expect(self, well, told=""):
+        expect(self.what, well, told)
+
+    def pipes(self, *names):
+        for name in names:
+            for way in "in", "out":
+                os.mkfifo(self.at(f"{name}.{way}"))
+
+    def write(self, shape, batch, schedule):
+        """Writes the files of a run, whose words are those of a rack and of a host. Words of an option are such."""
+        self.shape, self.options = shape, schedule
+        Path(self.at("batch")).write_text(batch)
+        Path(self.at("image")).write_bytes(random.Random(self.what).randbytes(4 * math.prod(map(int, shape.split("x")))))
         for name, wiring in WIRINGS.items():
-            Path(name).write_text(wiring)
+            Path(self.at(name)).write_text(wiring)
         if isinstance(schedule, str):
-            Path("schedule").write_text(schedule)
-            schedule = ["--schedule", "schedule"]
-        return [f"{EXAMPLES}/rack/rack.py", shape, "batch", "image", *schedule]
+            Path(self.at("schedule")).write_text(schedule)
+            self.options = ["--schedule", self.at("schedule")]
 
-    def start(self, words, **settings):
-        settings = {"env": self.env, "stdout": subprocess.PIPE, "stderr": subprocess.STDOUT, "start_new_session": True, **settings}
-        return subprocess.Popen([sys.executable, *words], **settings)
-
-    def is_moved(self, what, *case):
-        """Notes whether the rack leaves what the program says."""
-        run = self.start([*self.write(what, *case), "--image-out", "left"])
-        try:
-            told = run.communicate(timeout=LIMIT)[0].decode()
-        except subprocess.TimeoutExpired:
-            stop(run)
-            told = "it hangs"
-        applied = subprocess.run([self.program, "apply", case[0], "batch", "image"], stdout=subprocess.PIPE, check=False).stdout
-        left = Path("left").read_bytes() if os.path.exists("left") else b""
-        Path("left").unlink(missing_ok=True)
-        expect(what, run.returncode == 0 and left == applied and told.endswith("as exchange apply\n"), f"{case}\n{told}")
-
-    def hangs(self, what, shape, batch):
-        """Notes whether a rack whose links move in turn says nothing behind its only setting."""
-        run = self.start(self.write(what, shape, batch, ["--in-turn"]))
-        told = run.stdout.readline()
-        is_silent = not select.select([run.stdout], [], [], SILENCE)[0]
-        stop(run)
-        expect(f"it hangs: {what}, links in turn", told.startswith(b"setting 0 ") and is_silent, told)
-
-    def refuses(self, what, line, front, *case):
-        """Notes whether the rack isn't started, and says this, and in a second line, which begins so, which file it is about."""
-        run = self.start(self.write(what, *case))
-        told = run.communicate(timeout=LIMIT)[0].decode()
-        lines = told.splitlines()
-        expect(what, run.returncode == 1 and lines[0] == line and lines[1].startswith(f"exchange: {front}"), told)
-
-    def start_alone(self, name, *words, links):
-        """Starts the switch or a module alone, with these links."""
-        words = [f"{EXAMPLES}/rack/{name}.py", *words, *(str(link.fileno()) for link in links)]
-        ends = {"stdin": subprocess.PIPE, "stdout": subprocess.PIPE, "stderr": subprocess.STDOUT, "pass_fds": [link.fileno() for link in links]}
-        run = subprocess.Popen([sys.executable, *words], start_new_session=True, env=self.env, **ends)
-        for link in links:
-            link.close()
+    def start(self, *words, **settings):
+        settings = {"env": self.env, "cwd": self.path, "stdout": subprocess.PIPE, "stderr": subprocess.STDOUT, "start_new_session": True, **settings}
+        run = subprocess.Popen([sys.executable, *words], **settings)
+        self.started.append(run)
+        started.append(run)
         return run
 
-    def carries(self, what, sent, *wanted):
-        """Notes what comes of words of link 0 of module 0 at a switch that is sent these bytes: what goes on to link 3 of module 1, and what the
-        switch tells at its end."""
-        near, far = zip(*(socket.socketpair() for _ in range(4)))
-        for name in "port.in", "port.out":
-            os.mkfifo(name)
-        run = self.start_alone("switch", "port", links=near)
-        ports = [os.open(name, os.O_RDWR) for name in ("port.in", "port.out")]
-        os.write(ports[0], sent)
-        send(far[0], PARTS, [far[3]])
-        carried = take(far[3], len(b"".join(PARTS)))
-        for port in ports:
-            os.close(port)
-        found = carried, run.communicate(timeout=LIMIT)[0]
-        for name in "port.in", "port.out":
-            os.unlink(name)
-        expect(what, found == wanted, found)
+    def rack(self, *options, **settings):
+        return self.start(RACK, self.shape, "batch", *self.options, *options, **settings)
 
-    def receives(self, what, parts, *wanted):
-        """Notes what a module does that is told to receive a block, which comes in these parts: what it says before the last one, its
-        acknowledge, what it prints to its end, and how it ends."""
-        near, far = zip(*(socket.socketpair() for _ in range(3)))
-        self.write(what, "2x1x256", "batch 1\npush 0 0 1 0\n", "settings 1\nsetting 0\n")
-        run = self.start_alone("module", "1", "2x1x256", "batch", "schedule", links=near)
-        run.stdin.write(bytes(1024))
-        run.stdin.close()
-        run.stdin = None
-        far[2].sendall(b"\0\0\xff\xff")
-        early = send(far[1], parts, [far[1], far[2]])
-        far[1].shutdown(socket.SHUT_WR)
-        acknowledge, said = take(far[1], 1), take(far[2], 4)
-        printed = run.communicate(timeout=LIMIT)[0]
-        found = early, acknowledge, said, printed if run.returncode == 0 else printed.splitlines()[-1], run.returncode
-        expect(what, found == wanted, found)
+    def host(self, *options, cable="cable", batch="batch", **settings):
+        own = [word for word in self.options if word not in ("--slot-0", "--in-turn")]
+        return self.start(HOST, cable, batch, *own, *options, **settings)
 
-    def goes(self, what, shape, batch, schedule, order, is_well):
-        """Notes whether a rack that does settings in an order, each by a `drive` of its own, leaves what `apply` does."""
-        words = self.write(what, shape, batch, schedule)
-        for name in "cable.in", "cable.out":
-            os.mkfifo(name)
-        run = self.start([*words, "--cable", "cable", "--image-out", "left"])
-        options, host.PROGRAM, cable = words[4:], self.program, host.Cable("cable")
-        settings = range(int(self.orders(0, options).split()[3]))
-        with tempfile.TemporaryDirectory(prefix="ports-") as ports, contextlib.redirect_stdout(io.StringIO()):
-            for setting in order(settings):
-                cable.find_modules()
-                drive = host.Drive(cable, ports, "batch", *options, "--from", str(setting))
-                lines = drive.lines()
-                cable.move(int(next(lines)[1]))
-                drive.process.stdin.close()
-                ended = list(lines)
-                expect(f"{what}: setting {setting} is left", ended == [["left", "setting", str(setting)]], ended)
-                drive.process.wait()
-            cable.move(host.END)
-        told = run.communicate(timeout=LIMIT)[0].decode()
-        is_hinted = told.startswith("WRONG\nrack.py: ") and told.endswith("a new rack needs setting 0 first, so no --from\n")
-        expect(what, told == "as exchange apply\n" if is_well else is_hinted, told)
-        for name in "cable.in", "cable.out", "left":
-            Path(name).unlink(missing_ok=True)
-
-    def make_modules(self, case, words):
-        """Compiles the program in C of each module, with the tables of its orders."""
-        count, blocks, size = map(int, case[0].split("x"))
-        os.makedirs("modules", exist_ok=True)
-        makes = [f"-DBLOCKS={blocks}", f"-DBLOCK_BYTES={4 * size}", "-I.", f"-I{INMOS}", f"{EXAMPLES}/board/module.c", f"{INMOS}/rack.c"]
-        for m in range(count):
-            Path("tables.h").write_text(tables_of("c", self.orders(m, words)))
-            subprocess.run(["cc", *FLAGS, *makes, "-o", f"modules/{m}", "-lpthread"], check=True)
-
-    def is_moved_in_c(self, what, *case):
-        """Notes whether a rack of modules in C leaves what the program says."""
-        words = self.write(what, *case)[4:]
-        self.make_modules(case, words)
-        run = self.start([*self.write(what, *case), "--modules", "modules"])
-        told = run.communicate(timeout=LIMIT)[0].decode()
-        expect(f"in C: {what}", run.returncode == 0 and told.endswith("as exchange apply\n"), told)
-
-    def orders(self, m, words, batch="batch"):
-        """The orders of a module."""
-        return subprocess.run([self.program, "orders", batch, *words, "--module", str(m)], stdout=subprocess.PIPE, check=True).stdout.decode()
-
-    def are_told_again(self, batch, words, modules):
-        """Notes whether the tables of each module are made into its orders again."""
-        for m in range(modules):
-            told = self.orders(m, words, batch)
-            for language in "occam", "c":
-                text = tables_of(language, told)
-                expect(f"{language} of module {m}, {batch} {words}", tables.orders(language, text) == told, text)
-
-    def is_relayed(self, what):
-        """Notes whether the relay's two loops carry the bytes between `drive` and `c004`."""
-        for name in "port.in", "port.out", "config.in", "config.out":
-            os.mkfifo(name)
-        relay = subprocess.Popen([sys.executable, f"{EXAMPLES}/board/relay.py", "port", "config"])
-        switch = subprocess.Popen(["sh", "-c", f"exec {self.program} c004 < config.in > config.out"])
-        words = [self.program, "drive", f"{EXAMPLES}/three-transfers.txt", "port", "--go-on"]
-        told = subprocess.run(words, stdout=subprocess.PIPE, timeout=LIMIT, check=False).stdout
-        expect(what, told == b"setting 0 0 2\nsetting 1 1\ndriven settings 2\n" and relay.wait() == switch.wait() == 0, told)
-
-    def is_moved_over_a_pty(self, what, *case):
-        """Notes whether a rack whose cable is a terminal leaves what the program says."""
-        words = self.write(what, *case)
-        for name in "cable.in", "cable.out":
-            os.mkfifo(name)
-        run = self.start([*words, "--cable", "cable"])
-        far, near = os.openpty()
-        tty.setraw(near)
-        there, back = os.open("cable.in", os.O_WRONLY), os.open("cable.out", os.O_RDONLY)
-        for ends in (far, there), (back, far):
-            threading.Thread(target=relay.carry, args=ends, daemon=True).start()
-        words = [sys.executable, f"{EXAMPLES}/board/host.py", os.ttyname(near), "batch", *words[4:]]
-        driven = subprocess.run(words, stdout=subprocess.PIPE, env=self.env, timeout=LIMIT, check=False)
-        told = run.communicate(timeout=LIMIT)[0].decode()
-        expect(what, driven.returncode == run.returncode == 0 and told == "as exchange apply\n", told)
-        for name in "cable.in", "cable.out":
-            os.unlink(name)
-
-    def ends(self, what):
-        """Notes whether the host ends where its cable does before the switch has answered."""
-        self.write(what, "2x1x1", "batch 1\npush 0 0 1 0\n", [])
-        for name in "cable.in", "cable.out":
-            os.mkfifo(name)
-        words = [sys.executable, f"{EXAMPLES}/board/host.py", "cable", "batch"]
-        run = subprocess.Popen(words, stdout=subprocess.PIPE, stderr=subprocess.STDOUT, env=self.env)
-        with open("cable.in", "rb", 0) as there, open("cable.out", "wb", 0) as back:
-            # The modules wait, and something was left of an earlier host.
-            back.write(b"\1\0\1\0" + there.read(4))
-            there.read(2)
-        told = run.communicate(timeout=LIMIT)[0].decode().splitlines()
-        expect(what, "stopped setting 0 port" in told and run.returncode == 1, told)
-        for name in "cable.in", "cable.out":
-            os.unlink(name)
-
-    def finds_the_program(self, what):
-        """Notes whether a rack finds the program in the folder that it is started in, where nothing else says where it is."""
-        os.symlink(self.program, "exchange")
-        env = {**{name: text for name, text in self.env.items() if name != "EXCHANGE"}, "PATH": os.defpath}
-        run = self.start(self.write(what, *CASES[0][1:]), env=env)
-        told = run.communicate(timeout=LIMIT)[0].decode()
-        expect(what, told.endswith("as exchange apply\n"), told)
-        os.unlink("exchange")
-
-    def is_ended(self, what):
-        """Notes whether a rack, and a host, that are told to end leave no folder."""
-        words = [*self.write(what, *CASES[0][1:]), "--cable", "cable"]
-        for name in "cable.in", "cable.out":
-            os.mkfifo(name)
-        before = folders()
-        both = [self.start(words), self.start([f"{EXAMPLES}/board/host.py", "cable", "batch", "--pause"], stdin=subprocess.PIPE)]
-        told, made = both[1].stdout.readline(), len(folders() - before)
-        for it in both:
-            it.terminate()
-        texts = [it.communicate(timeout=LIMIT)[0] for it in both]
-        found = told, made, folders() - before, [it.returncode for it in both]
-        expect(what, found == (b"setting 0 0 2\n", 2, set(), [128 + signal.SIGTERM] * 2) and b"Traceback" not in b"".join(texts), f"{found} {texts}")
-        for name in "cable.in", "cable.out":
-            os.unlink(name)
-
-    def goes_on(self, what):
-        """Notes whether a rack goes on whose host was killed in its pause before setting 1, and one follows that begins there."""
-        words = [*self.write(what, *CASES[0][1:]), "--cable", "cable"]
-        for name in "cable.in", "cable.out":
-            os.mkfifo(name)
-        run, host_words = self.start(words), [f"{EXAMPLES}/board/host.py", "cable", "batch"]
-        paused = self.start([*host_words, "--pause"], stdin=subprocess.PIPE)
-        told = [paused.stdout.readline()]
-        is_silent = not select.select([paused.stdout], [], [], SILENCE)[0]
-        paused.stdin.write(b"\n")
-        paused.stdin.flush()
-        told.append(paused.stdout.readline())
-        stop(paused)
-        told += [it.communicate(timeout=LIMIT)[0] for it in (self.start([*host_words, "--from", "1"]), run)]
-        wanted = [b"setting 0 0 2\n", b"setting 1 1\n", b"setting 1 1\ndriven settings 2\n", b"as exchange apply\n"]
-        expect(what, is_silent and told == wanted, told)
-        for name in "cable.in", "cable.out":
-            os.unlink(name)
-
-    def says_what_differs(self, what):
-        """Notes whether a rack says which link isn't joined, where its host has another wiring, and ends, and the host too."""
-        words = [*self.write(what, "3x2x2", read("three-transfers.txt"), ["--wiring", "wiring"]), "--cable", "cable"]
-        for name in "cable.in", "cable.out":
-            os.mkfifo(name)
-        run, host_words = self.start(words), [sys.executable, f"{EXAMPLES}/board/host.py", "cable", "batch"]
-        driven = subprocess.run(host_words, stdout=subprocess.PIPE, stderr=subprocess.STDOUT, env=self.env, timeout=LIMIT, check=False)
-        told = run.communicate(timeout=LIMIT)[0].decode(), driven.stdout.decode()
-        is_well = "switch.py: words come over link 0 of module " in told[0] and told[0].endswith("rack.py: switch.py has ended with status 1\n")
-        is_host_well = told[1].endswith("host.py: 0 was sent to the modules, and the cable ended before it came back\n")
-        expect(what, is_well and is_host_well and run.returncode == driven.returncode == 1, told)
-        for name in "cable.in", "cable.out":
-            os.unlink(name)
-
-    def says_who_is_killed(self, what, *options):
-        """Notes whether a rack whose last module is killed says so, and ends, and its host too."""
-        words = [*self.write(what, "3x2x2", read("three-transfers.txt"), []), "--modules", "modules", *options]
-        os.makedirs("modules", exist_ok=True)
-        for m, program in enumerate((OBEYS, OBEYS, IS_KILLED)):
-            Path(f"modules/{m}").unlink(missing_ok=True)
-            Path(f"modules/{m}").write_text(program.format(python=sys.executable, examples=EXAMPLES, m=m))
-            os.chmod(f"modules/{m}", 0o755)
-        for name in "cable.in", "cable.out":
-            os.mkfifo(name)
-        run, host_status = self.start(words), 1
+    def end(self, run):
+        """What a program says to its end, but for the numbers of a rack's processes, and what a host awaits on a busy machine. No failure is
+        told by Python."""
         try:
-            if options:
-                host_words = [sys.executable, f"{EXAMPLES}/board/host.py", "cable", "batch"]
-                driven = subprocess.run(host_words, stdout=subprocess.PIPE, stderr=subprocess.STDOUT, env=self.env, timeout=LIMIT, check=False)
-                host_status = driven.returncode
             told = run.communicate(timeout=LIMIT)[0].decode()
         except subprocess.TimeoutExpired:
-            stop(run)
             told = "it hangs"
-        is_well = told.endswith("rack.py: module 2 was killed by SIGKILL\n") and run.returncode == host_status == 1
-        expect(what, is_well, f"{told} {run.returncode} {host_status}")
-        for name in "cable.in", "cable.out":
-            os.unlink(name)
+        expect(f"{self.what}: a traceback", "Traceback" not in told, told)
+        return re.sub(r"(?m)^(?:rack\.py: switch\.py \d+, |host\.py: nothing has come for 5 s; awaited is ).*\n", "", told)
+
+    def close(self):
+        """Ends what still runs."""
+        for run in self.started:
+            end_all(run)
+            run.wait()
+
+    def ask(self, *words):
+        return subprocess.run([self.program, *words], stdout=subprocess.PIPE, cwd=self.path, check=True).stdout
+
+    def orders(self, *options):
+        return self.ask("orders", "batch", *(word for word in self.options if word not in ("--slot-0", "--in-turn")), *options).decode()
+
+    def is_left(self):
+        """Whether the image that a host left is that of the program."""
+        left = Path(self.at("left"))
+        return left.exists() and left.read_bytes() == self.ask("apply", self.shape, "batch", "image")
+
+    def programs(self, changes, tables=None):
+        """Writes a program for each module, and gives the option that has a rack take them. The tables are those of the modules' own numbers,
+        or of others."""
+        os.makedirs(self.at("modules"))
+        Path(self.at("plan")).write_bytes(self.ask("plan", "batch"))
+        for m in range(int(self.shape.split("x")[0])):
+            words = {"shape": self.shape, "batch": self.at("batch"), "schedule": self.at("schedule" if "--schedule" in self.options else "plan")}
+            words.update({"m": (tables or {}).get(m, m), "change": changes.get(m, ""), "python": sys.executable, "examples": EXAMPLES})
+            Path(self.at(f"modules/{m}")).write_text(PROGRAM.format(**words))
+            os.chmod(self.at(f"modules/{m}"), 0o755)
+        return "--modules", "modules"
 
 
-def tables_of(language, orders):
-    """The tables that are made of a module's orders."""
-    make = [sys.executable, f"{EXAMPLES}/orders_to_{language}.py"]
-    return subprocess.run(make, input=orders.encode(), stdout=subprocess.PIPE, check=True).stdout.decode()
+class Between:
+    """A cable that is spoilt at a place: it loses a byte there, has one too many, has another one, or is silent from there on. It leads from
+    the host's pipes to those of a rack, which has begun."""
+
+    def __init__(self, room, kind="", way=0, place=None, byte=0):
+        self.room, self.kind, self.way, self.place, self.byte, self.counts = room, kind, way, place, bytes([byte]), [0, 0]
+        room.pipes("cable", "inner")
+        self.rack = room.rack("--cable", "inner")
+        # Once -2 comes back all of them are there.
+        self.ends = [os.open(room.at("inner.in"), os.O_WRONLY), os.open(room.at("inner.out"), os.O_RDONLY)]
+        os.write(self.ends[0], b"\1\xfe\1\xff")
+        room.expect(take(self.ends[1], 4) == b"\1\xfe\1\xff", "the rack isn't there")
+        for number in 0, 1:
+            threading.Thread(target=self.carry, args=(number,), daemon=True).start()
+
+    def carry(self, way):
+        """Carries what one host after the other sends, or what comes back."""
+        # The host, or the rack, may end at any time, and the folder.
+        with contextlib.suppress(OSError):
+            while True:
+                far = os.open(self.room.at(("cable.in", "cable.out")[way]), (os.O_RDONLY, os.O_WRONLY)[way])
+                source, target = ((far, self.ends[0]), (self.ends[1], far))[way]
+                while came := os.read(source, 1):
+                    is_here = way == self.way and self.counts[way] == self.place
+                    is_past = way == self.way and self.place is not None and self.counts[way] >= self.place
+                    self.counts[way] += 1
+                    if is_here and self.kind != "silent":
+                        came = {"lost": b"", "more": self.byte + came, "other": bytes([came[0] ^ 0x80])}[self.kind]
+                    if not (is_past and self.kind == "silent"):
+                        os.write(target, came)
+                os.close(far)
+                if way == 1:
+                    return
+
+
+def take(end, count):
+    """So many bytes that come over an end."""
+    taken = b""
+    while len(taken) < count and (part := os.read(end, count - len(taken))):
+        taken += part
+    return taken
+
+
+def is_moved(room, *case, options=()):
+    """Notes whether the rack leaves what the program says."""
+    room.write(*case)
+    run = room.rack("--image", "image", "--image-out", "left", *options)
+    told = room.end(run)
+    settings = re.fullmatch(r"(?:setting \d+(?: \d+)*\n)*driven settings (\d+)\n", told)
+    is_told = settings and told.count("\n") == 1 + int(settings[1])
+    room.expect(run.returncode == 0 and is_told and room.is_left(), f"{case}\n{told}")
+
+
+def hangs(room, *case):
+    """Notes whether a rack whose links move in turn says nothing behind its only setting."""
+    room.write(*case, ["--in-turn"])
+    run = room.rack(stderr=subprocess.DEVNULL)
+    told = run.stdout.readline()
+    room.expect(told.startswith(b"setting 0 ") and not select.select([run.stdout], [], [], SILENCE)[0], told)
+
+
+def refuses(room, line, front, *case, options=()):
+    """Notes whether the rack isn't started, and says this, and in a second line, which begins so, which file it is about; {} is the folder."""
+    room.write(*case)
+    run = room.rack(*options)
+    told = room.end(run)
+    lines = told.splitlines()
+    room.expect(run.returncode == 1 and lines[0] == line and lines[1].startswith(front.format(room.path)), told)
+
+
+def needs_two(room):
+    """Notes whether a rack of 17 modules has two switches, also where the batch names no module above 15. A program that takes no second port
+    then refuses it."""
+    is_taken = b"refused ports" not in subprocess.run(
+        [room.program, "drive", f"{EXAMPLES}/swap.txt", "/dev/zero", "/dev/full", "--go-on"], capture_output=True, check=False
+    ).stdout
+    case = "17x1x1", read("swap.txt"), []
+    if is_taken:
+        is_moved(room, *case)
+    else:
+        room.write(*case)
+        told = room.end(room.rack())
+        room.expect("refused ports 1\n" in told and told.endswith("rack.py: host.py has ended with status 1\n"), told)
+
+
+def goes(room, order, is_well, *case):
+    """Notes whether a rack that does settings in an order, each by a `drive` of its own, leaves what `apply` does."""
+    room.write(*case)
+    room.pipes("cable")
+    run = room.rack("--cable", "cable")
+    cable = host.Cable(room.at("cable"))
+    count, due = host.read_orders(room.orders())
+    cable.find_modules()
+    shape = cable.compare(count, due)
+    cable.fill(shape, Path(room.at("image")).read_bytes())
+    for setting in order(range(count)):
+        cable.find_modules()
+        drive = host.Drive(cable, room.path, [host.SWITCH], room.at("batch"), *room.options, "--from", str(setting))
+        lines = drive.lines()
+        cable.move(int(next(lines).split()[1]))
+        drive.process.stdin.close()
+        ended = list(lines)
+        expect(f"{room.what}: setting {setting} is left", ended == [f"left setting {setting}"], ended)
+        drive.process.wait()
+    Path(room.at("left")).write_bytes(cable.read(shape))
+    cable.end_modules()
+    told = room.end(run)
+    room.expect(run.returncode == 0 and told == "" and room.is_left() == is_well, told)
+
+
+def compile_all(room, sources, *words):
+    subprocess.run(["cc", *FLAGS, *words, f"-I{room.path}", f"-I{INMOS}", *sources, f"{INMOS}/rack.c", "-lpthread"], check=True)
+
+
+def is_moved_in_c(room, *case, by_tables=False):
+    """Notes whether a rack of modules in C leaves what the program says, and one whose relay in C sets the switch itself."""
+    room.write(*case)
+    count, blocks, size = map(int, case[0].split("x"))
+    os.makedirs(room.at("modules"))
+    for m in range(count):
+        Path(room.at("tables.h")).write_text(tables_of("orders_to_c", room.orders("--module", str(m))))
+        compile_all(room, [f"{EXAMPLES}/board/module.c"], f"-DBLOCKS={blocks}", f"-DBLOCK_BYTES={4 * size}", "-o", room.at(f"modules/{m}"))
+    if not by_tables:
+        return is_moved(room, *case, options=["--modules", "modules"])
+    Path(room.at("switch.h")).write_text(tables_of("switch_to_c", room.ask("switch", "batch", *room.options).decode()))
+    compile_all(room, [f"{EXAMPLES}/board/relay.c"], "-DRELAY", "-o", room.at("relay"))
+    run = room.rack("--modules", "modules", "--relay", "relay", "--tables", "--image", "image", "--image-out", "left")
+    told, moved = room.end(run), int(room.orders().split()[3])
+    wanted = "".join(f"moved setting {k}\n" for k in range(moved)) + f"moved settings {moved}\n"
+    room.expect(run.returncode == 0 and told == wanted and room.is_left(), told)
+    # The tables of another wiring are seen.
+    room.pipes("cable")
+    run = room.rack("--modules", "modules", "--relay", "relay", "--cable", "cable")
+    other = room.host("--tables", "--wiring", "turned")
+    told = room.end(other)
+    is_seen = re.fullmatch(r"host.py: \d+ came back, and awaited was the sum of the switch's tables, .*\n", told)
+    expect(f"{room.what}: a switch's other tables", other.returncode == 1 and is_seen, told)
+
+
+def are_told_again(room, path, words, modules):
+    """Notes whether the tables of each module are made into its orders again, and those of the switch into its bytes."""
+    room.write("1x1x1", path.read_text(), words)
+    for m in range(modules):
+        told = room.orders("--module", str(m))
+        for language in "occam", "c":
+            text = tables_of(f"orders_to_{language}", told)
+            expect(f"{language} of module {m}, {path} {words}", tables.orders(language, text) == told, text)
+    if modules <= 16:
+        told = room.ask("switch", "batch", *words).decode()
+        for language in "occam", "c":
+            text = tables_of(f"switch_to_{language}", told)
+            expect(f"{language} of the switch, {path} {words}", tables.switch(language, text) == told, text)
+
+
+def tables_of(name, told):
+    """The tables that are made of what the program prints."""
+    return subprocess.run([sys.executable, f"{EXAMPLES}/{name}.py"], input=told.encode(), stdout=subprocess.PIPE, check=True).stdout.decode()
+
+
+def start_alone(room, name, *words, links):
+    """Starts the switch or a module alone, with these links."""
+    numbers = [link.fileno() for link in links]
+    run = room.start(f"{EXAMPLES}/rack/{name}.py", *words, *map(str, numbers), pass_fds=numbers)
+    for link in links:
+        link.close()
+    return run
+
+
+def carries(room, sent, near_link, carried, said):
+    """Notes what comes of words of a link at a switch that is sent these bytes: what goes on to link 3 of module 1, and what the switch tells at
+    its end."""
+    near, far = zip(*(socket.socketpair() for _ in range(4)))
+    room.pipes("port")
+    run = start_alone(room, "switch", "port", links=near)
+    ports = [os.open(room.at(name), os.O_RDWR) for name in ("port.in", "port.out")]
+    os.write(ports[0], sent)
+    send(far[near_link], PARTS, [far[3]])
+    came = hear(far[3], len(b"".join(PARTS))) if carried else b""
+    for port in ports:
+        os.close(port)
+    found = came, room.end(run)
+    room.expect(found == (carried, said), found)
+
+
+def receives(room, parts, *wanted):
+    """Notes what a module does that is told to receive a block, which comes in these parts: what it says before the last one, its
+    acknowledge, the block that it gives back, and how it ends."""
+    near, far = zip(*(socket.socketpair() for _ in range(3)))
+    room.write("2x1x256", "batch 1\npush 0 0 1 0\n", "settings 1\nsetting 0\n")
+    run = start_alone(room, "module", "1", "2x1x256", "batch", "schedule", links=near)
+    far[2].sendall(b"\0\0\xfb\xff\xff\xff")
+    early = send(far[1], parts, [far[1], far[2]])
+    far[1].shutdown(socket.SHUT_WR)
+    acknowledge, said = hear(far[1], 1), hear(far[2], 2 + 6 + 1024 + 2 + 2)
+    last = room.end(run).splitlines()[-1:]
+    found = early, acknowledge, said[:2], said[8:-4], said[-4:], last, run.returncode
+    room.expect(found == wanted, found)
 
 
 def send(link, parts, others):
     """Sends parts over a link, one once the one before has been seen, if the other end is there: what of these can be read before the last."""
     ready = []
-    try:
+    # The other end may be gone.
+    with contextlib.suppress(BrokenPipeError, ConnectionResetError):
         for part in parts:
             ready = select.select(others, [], [], SILENCE)[0]
             link.sendall(part)
-    except (BrokenPipeError, ConnectionResetError):
-        # The other end is gone.
-        pass
     return ready
 
 
-def take(link, count):
+def hear(link, count):
     """So many bytes that come over a link, or those that come before it ends or says nothing more."""
     taken = b""
-    try:
-        while len(taken) < count and select.select([link], [], [], SILENCE)[0] and (part := link.recv(count - len(taken))):
+    # The other end may be gone, and have left bytes.
+    with contextlib.suppress(ConnectionResetError):
+        while len(taken) < count and select.select([link], [], [], 5 * SILENCE)[0] and (part := link.recv(count - len(taken))):
             taken += part
-    except ConnectionResetError:
-        # The other end is gone, and has left bytes.
-        pass
     return taken
 
 
-def folders():
+def is_relayed(room):
+    """Notes whether the relay's two loops carry the bytes between `drive` and `c004`."""
+    room.pipes("port", "config")
+    runs = [room.start(RELAY, "port", "config"), room.start("-c", "import os, sys; os.execv(sys.argv[1], ['exchange', 'c004'])", room.program,
+            stdin=os.open(room.at("config.in"), os.O_RDWR), stdout=os.open(room.at("config.out"), os.O_RDWR))]
+    told = room.ask("drive", f"{EXAMPLES}/three-transfers.txt", "port", "--go-on")
+    room.expect(told == b"setting 0 0 2\nsetting 1 1\ndriven settings 2\n" and runs[0].wait() == 0, told)
+
+
+def relay_ends(room, sent, status, said):
+    """Notes how a relay ends whose chain has ended, and which is sent these bytes."""
+    room.pipes("cable", "config")
+    near, far = socket.socketpair()
+    far.close()
+    run = room.start(RELAY, "cable", "config", str(near.fileno()), pass_fds=[near.fileno()])
+    held = [os.open(room.at(name), os.O_RDWR) for name in ("cable.in", "cable.out", "config.in", "config.out")]
+    os.write(held[0], sent)
+    told = room.end(run)
+    room.expect((run.returncode, told) == (status, said), told)
+
+
+def is_moved_over_a_pty(room, *case):
+    """Notes whether a rack whose cable is a terminal leaves what the program says."""
+    room.write(*case)
+    room.pipes("cable")
+    run = room.rack("--cable", "cable")
+    far, near = os.openpty()
+    tty.setraw(near)
+    there, back = os.open(room.at("cable.in"), os.O_WRONLY), os.open(room.at("cable.out"), os.O_RDONLY)
+    for ends in (far, there), (back, far):
+        threading.Thread(target=relay.carry, args=ends, daemon=True).start()
+    driven = room.host("--image", "image", "--image-out", "left", cable=os.ttyname(near))
+    told = room.end(driven), room.end(run)
+    room.expect(driven.returncode == run.returncode == 0 and told[1] == "" and room.is_left(), told)
+
+
+def ends(room):
+    """Notes whether the host ends where its cable does before the switch has answered, and drops what was there."""
+    room.write("1x1x1", "batch 1\npush 0 0 0 0\n", [])
+    room.pipes("cable")
+    held = os.open(room.at("cable.out"), os.O_RDWR)
+    # What was left of an earlier host, one byte of it a way that isn't one.
+    os.write(held, b"\7\1\xfe\1\xff\1")
+    run = room.host()
+    there = os.open(room.at("cable.in"), os.O_RDONLY)
+    for reply in b"\xfe\xff", b"\xfd\xff":
+        told = take(there, 4)
+        expect(f"{room.what}: {reply}", told == bytes([1, reply[0], 1, reply[1]]), told)
+        orders = b"".join(it.to_bytes(2, "little", signed=True) for it in [host.orders_sum([], [[(0, "send block", 0), (3, "receive block", 0)]]), 1, 1])
+        told = (orders if reply[0] == 0xFD else b"") + reply
+        os.write(held, b"".join(bytes([1, byte]) for byte in told))
+    take(there, 2)
+    os.close(held)
+    os.close(there)
+    told = room.end(run)
+    is_well = "stopped setting 0 port" in told and told.endswith("host.py: the cable has ended, and awaited was an answer of the switch to drive\n")
+    room.expect(is_well and run.returncode == 1, told)
+
+
+def finds_the_program(room):
+    """Notes whether a rack finds the program in the folder that it is started in, where nothing else says where it is."""
+    os.symlink(room.program, room.at("exchange"))
+    room.env = {**{name: text for name, text in room.env.items() if name != "EXCHANGE"}, "PATH": os.defpath}
+    is_moved(room, *CASES[0][1:])
+
+
+def is_ended(room):
+    """Notes whether a rack, and a host, that are told to end leave no folder and no process."""
+    room.write(*CASES[0][1:])
+    room.pipes("cable")
+    run, paused = room.rack("--cable", "cable", stderr=subprocess.PIPE), room.host("--pause", **PAUSED)
+    numbers = re.findall(r" (\d+)[,\n]", run.stderr.readline().decode())
+    told, made = paused.stdout.readline(), folders(room)
+    for it in run, paused:
+        it.terminate()
+    texts = [it.communicate(timeout=LIMIT)[0] for it in (run, paused)]
+    # This one takes over the processes whose own are gone, and waits for none of these. So what wasn't waited for is still there.
+    left = [number for number in numbers if os.path.exists(f"/proc/{number}")]
+    found = told, len(made), folders(room), [run.returncode, paused.returncode], len(numbers), left
+    room.expect(found == (b"setting 0 0 2\n", 2, set(), [128 + signal.SIGTERM] * 2, 5, []), f"{found} {texts}")
+
+
+def folders(room):
     """The folders of racks and hosts that are there."""
-    return {it.name for name in ("rack-*", "host-*") for it in Path().glob(name)}
+    return {it.name for name in ("rack-*", "host-*") for it in Path(room.path).glob(name)}
 
 
-def stop(run):
-    """Ends a rack with all its processes."""
-    os.killpg(run.pid, signal.SIGKILL)
-    run.communicate()
+def goes_on(room):
+    """Notes whether a rack goes on whose host was killed in its pause before setting 1, and one follows that begins there. While it was there no
+    other had the cable."""
+    room.write(*CASES[0][1:])
+    room.pipes("cable")
+    run, paused = room.rack("--cable", "cable"), room.host("--pause", "--image", "image", **PAUSED)
+    told = [paused.stdout.readline()]
+    is_silent = not select.select([paused.stdout], [], [], SILENCE)[0]
+    second = room.host()
+    expect("a second host", (room.end(second), second.returncode) == ("host.py: another host has cable\n", 1))
+    paused.stdin.write(b"\n")
+    paused.stdin.flush()
+    told.append(paused.stdout.readline())
+    paused.kill()
+    paused.wait()
+    told += [room.end(it) for it in (room.host("--from", "1", "--image-out", "left"), run)]
+    room.expect(is_silent and told == [b"setting 0 0 2\n", b"setting 1 1\n", "setting 1 1\ndriven settings 2\n", ""] and room.is_left(), told)
+
+
+def waits(room):
+    """Notes whether a host says who is awaited, waits on, and goes on once the rack is there."""
+    room.write(*CASES[0][1:])
+    room.pipes("cable")
+    run = room.host()
+    told = run.stdout.readline()
+    rack = room.rack("--cable", "cable")
+    found = told, room.end(run), room.end(rack), run.returncode
+    room.expect(found == (b"host.py: nothing has come for 5 s; awaited is a relay that reads cable.in\n", "setting 0 0 2\nsetting 1 1\ndriven settings 2\n", "", 0), found)
+
+
+def host_says(room, said, cable, *words):
+    """Notes whether a host ends at once, and says this."""
+    room.write(*CASES[0][1:])
+    Path(room.at("file")).write_text("")
+    run = room.host(*words, cable=cable)
+    told = room.end(run)
+    room.expect(run.returncode == 1 and told.endswith(said), told)
+
+
+def compares(room, said, case, changes, tables=None, options=None, batch=None):
+    """Notes whether a host of another batch, or at modules of other programs, says how these differ, before a switch is set."""
+    room.write(*case)
+    room.pipes("cable")
+    rack = room.rack("--cable", "cable", *room.programs(changes, tables))
+    Path(room.at("other")).write_text(batch or case[1])
+    room.options = room.options if options is None else options
+    Path(room.at("file")).write_text("")
+    run = room.host("--patience", str(LIMIT), batch="other")
+    told = room.end(run)
+    room.expect(run.returncode == 1 and told.endswith(said) and "driven" not in told, f"{told}\n{rack.poll()}")
+
+
+def says_what_differs(room):
+    """Notes whether a rack says which link isn't joined, where its host has another wiring, and ends, and the host too."""
+    room.write("3x2x2", read("three-transfers.txt"), ["--wiring", "wiring"])
+    room.pipes("cable")
+    run = room.rack("--cable", "cable")
+    room.options = []
+    driven = room.host()
+    told = room.end(run), room.end(driven)
+    is_well = "switch.py: words come over link 0 of module " in told[0] and told[0].endswith("rack.py: switch.py has ended with status 1\n")
+    is_host_well = told[1].endswith("host.py: the cable has ended, and awaited was 0 from the modules, which have to do setting 0\n")
+    room.expect(is_well and is_host_well and run.returncode == driven.returncode == 1, told)
+
+
+def says_who_is_killed(room, m, setting, *options):
+    """Notes whether a rack one of whose modules is killed in a setting says so, and ends, and its host too."""
+    room.write("3x2x2", read("three-transfers.txt"), APART)
+    room.pipes("cable")
+    run = room.rack(*room.programs({m: DIES.format(setting)}), *options)
+    runs = [run, room.host()] if options else [run]
+    told = [room.end(it) for it in runs]
+    is_well = told[0].endswith(f"rack.py: module {m} was killed by SIGKILL\n") and all(it.returncode == 1 for it in runs)
+    room.expect(is_well and "driven" not in "".join(told) and f"setting {setting} " in told[-1], told)
+
+
+def is_spoilt(room, kind, way, place, byte, said=r"(?m)^host\.py: |^stopped setting 0 "):
+    """Notes whether a host whose cable is spoilt ends, says so, and drives no batch to its end."""
+    room.write(*SPOILT)
+    Between(room, kind, way, place, byte)
+    run = room.host("--patience", str(PATIENCE), "--image", "image", "--image-out", "left")
+    told = room.end(run)
+    room.expect(run.returncode in (1, host.SILENT) and "driven" not in told and re.search(said, told), told)
+
+
+def falls_silent(room, way, place, awaited):
+    """Notes whether a host says what is awaited of a cable that falls silent. On a busy machine it may be something before: then it is tried
+    once more, with more patience."""
+    told = ""
+    for patience in PATIENCE, 8 * PATIENCE:
+        with tempfile.TemporaryDirectory(dir=room.path) as path, contextlib.closing(Room(room.installed, path, room.what)) as inner:
+            inner.write(*SPOILT)
+            Between(inner, "silent", way, place)
+            run = inner.host("--patience", str(patience), "--image", "image", "--image-out", "left")
+            told = inner.end(run)
+            # Modules that have ended end the cable.
+            for status, why in (host.SILENT, f"nothing has come for {patience} s;"), (1, "the cable has ended, and"):
+                if run.returncode == status and f"host.py: {why} awaited was {awaited}" in told:
+                    return
+    room.expect(False, told)
+
+
+def comes_again(room, place):
+    """Notes whether modules wait on for the next host where a switch answers something else at a place, so that `drive` stops."""
+    room.write(*SPOILT)
+    Between(room, "other", 1, place)
+    first = room.host("--image", "image")
+    told = room.end(first)
+    is_told = "stopped setting 0 " in told and "driven" not in told
+    second = room.host("--image", "image", "--image-out", "left")
+    room.expect(is_told and first.returncode == 1 and room.end(second).endswith("driven settings 1\n") and room.is_left(), told)
 
 
 def random_case(draw):
@@ -473,74 +721,162 @@ def random_case(draw):
 
 def patterns():
     """The patterns' batches and the one of all to all, each with its shape and the words by which it goes."""
-    for path in [f"{EXAMPLES}/all-to-all.txt", *sorted(map(str, Path(f"{EXAMPLES}/patterns").glob("*.txt")))]:
-        with open(path, encoding="utf-8") as file:
-            batch = file.read()
+    for path in [Path(f"{EXAMPLES}/all-to-all.txt"), *sorted(Path(f"{EXAMPLES}/patterns").glob("*.txt"))]:
+        batch = path.read_text()
         if batch.startswith("batch "):
             numbers = [[int(word) for word in line.split()[1:]] for line in batch.splitlines()[1:]]
             modules = 1 + max(max(it[0], it[2]) for it in numbers)
             blocks = 1 + max(max(it[1], it[3]) for it in numbers)
-            yield path, f"{modules}x{blocks}x2", batch, ["--steady"] if "three-blocks" in path else []
+            yield path, f"{modules}x{blocks}x2", batch, ["--steady"] if "three-blocks" in path.name else []
 
 
-def try_board(racks):
-    """Tries repeats, modules in C, and tables: how many."""
-    twice = 0
+def boards():
+    """Repeats, modules in C, and tables."""
     for path, shape, batch, options in patterns():
-        racks.goes(f"twice: {path}", shape, batch, options, lambda settings: [k for k in settings for _ in range(2)], True)
-        racks.are_told_again(path, options, int(shape.split("x")[0]))
-        twice += 1
-    racks.are_told_again(f"{EXAMPLES}/ring.txt", [], 4)
-    with open("none", "w", encoding="utf-8") as file:
-        file.write("batch 0\n")
-    racks.are_told_again("none", [], 1)
+        yield goes, f"twice: {path.name}", lambda settings: [k for k in settings for _ in range(2)], True, shape, batch, options
+        yield are_told_again, f"tables: {path.name}", path, options, int(shape.split("x")[0])
+    yield are_told_again, "tables of a ring", Path(f"{EXAMPLES}/ring.txt"), [], 4
+    Path("none").write_text("batch 0\n")
+    yield are_told_again, "tables of nothing", Path("none").absolute(), [], 1
     # Module 1 sends its block on in setting 0, and receives another one in setting 1: to go back to setting 0 sends that.
     back = "2x2x1", "batch 2\npush 1 0 0 0\npush 0 1 1 0\n", "settings 2\nsetting 0\nsetting 1\n"
-    racks.goes("forth", *back, lambda settings: settings, True)
-    racks.goes("forth and back", *back, lambda settings: [*settings, 0, 1], False)
-    racks.goes("a new rack, and not from setting 0 on", *back, lambda settings: settings[1:], False)
-    for case in IN_C:
-        racks.is_moved_in_c(*case)
-    return 2 * twice + len(IN_C) + 5
+    yield goes, "forth", lambda settings: settings, True, *back
+    yield goes, "forth and back", lambda settings: [*settings, 0, 1], False, *back
+    yield goes, "a new rack, and not from setting 0 on", lambda settings: settings[1:], False, *back
+    for what, *case in IN_C:
+        yield is_moved_in_c, f"in C: {what}", *case
+    for what, *case in IN_C[:-1]:
+        yield by_tables, f"in C, by the board's own tables: {what}", *case
 
 
-def try_all(racks, count):
-    for case in CASES:
-        racks.is_moved(*case)
-    for number in range(count):
-        racks.is_moved(f"random batch {number}", *random_case(random.Random(f"rack {number}")))
-    for ring in RINGS:
-        racks.hangs(*ring)
-    racks.refuses("two transfers that write one block", "refused overlap 0 1", "batch:3: ", "3x1x1", "batch 2\npush 0 0 1 0\npush 2 0 1 0\n", [])
-    racks.refuses("no schedule of the batch", "refused check missing 1", "schedule: ", "2x1x1", read("swap.txt"), "settings 1\nsetting 0\n")
+def by_tables(room, *case):
+    is_moved_in_c(room, *case, by_tables=True)
+
+
+def faults(totals):
+    """A cable that is spoilt, tables that differ, modules that die, and hosts that are wrong."""
+    draw = random.Random("faults")
+    for kind, way in itertools.product(("lost", "more"), (0, 1)):
+        for place in sorted(draw.sample(range(totals[way] - TAIL[way]), 10)):
+            yield is_spoilt, f"{kind}, way {way}, byte {place}", kind, way, place, draw.choice([0, 1, 2, place % 256])
+    yield is_spoilt, "a byte that is no way", "more", 1, 0, 7, r"^host\.py: the cable has lost a byte, or has one too many: 7 is no way\n$"
+    for place, awaited in SILENT.items():
+        yield falls_silent, f"silent from byte {place} on", 1, place % totals[1] if place else 0, awaited
+    for place in draw.sample(range(totals[0]), 20 - len(SILENT)):
+        yield falls_silent, f"the board hears nothing from byte {place} on", 0, place, ""
+    for place in 41, 101, totals[1] - TAIL[1] - 5:
+        yield comes_again, f"another answer, byte {place}", place
+    for m, setting in itertools.product((0, 2), range(3)):
+        yield says_who_is_killed, f"module {m} is killed in setting {setting}", m, setting, "--cable", "cable"
+    yield says_who_is_killed, "a module is killed, and the host is the rack's", 2, 1
+
+
+def hosts():
+    """Hosts that are wrong, or that modules don't fit, and those that follow a killed one, or come before the rack."""
+    case, other = ("3x2x2", read("three-transfers.txt"), APART), "has other tables than those of this batch and schedule"
+    yield compares, "tables of another schedule", f"host.py: module 0 {other}\nhost.py: module 1 {other}\nhost.py: module 2 {other}\n", \
+        case, {}, None, ["--schedule", f"{EXAMPLES}/three-transfers.plan.txt"]
+    swapped = f"host.py: module 0 {other}; they are those of module 2\nhost.py: module 2 {other}; they are those of module 0\n"
+    yield compares, "exchanged slots", swapped, case, {}, {0: 2, 2: 0}
+    yield compares, "a module is missing", "host.py: the chain has 3 modules: module 3 is missing\n", case, {}, None, [], "batch 1\npush 3 0 0 0\n"
+    size = "module.Module.told = property(lambda self: self.t, lambda self, t: setattr(self, 't', t[:2] + b'\\1\\0\\2\\0'))"
+    blocks = "host.py: module 1 has 1 blocks of 2 words, and module 0 has 2 of 2\nhost.py: module 1 has 1 blocks, and the batch names its block 1\n"
+    yield compares, "a module of another size", blocks, case, {1: size}
+    yield compares, "an image of another size", "file has 0 bytes, and 3 modules of 2 blocks of 2 words have 48\n", case, {}, None, \
+        ["--schedule", "schedule", "--image", "file"]
+    yield compares, "another number comes back", "host.py: 1 came back, and awaited was 0 from the modules, which have to do setting 0\n", \
+        ("1x2x1", "batch 1\npush 0 0 0 1\n", []), {0: ERRS}
+    yield host_says, "a plain file for a cable", "host.py: file is a plain file, and no cable\n", "file"
+    yield goes_on, "a host that is killed in its pause"
+    yield waits, "a host before its rack"
+    yield host_says, "--go-on", "host.py: by --go-on drive would set the next setting before the modules have moved the blocks of this one\n", \
+        "cable", "--go-on"
+    yield host_says, "standard input", "host.py: no file is standard input: the program reads them more than once\n", "cable", "--wiring", "-"
+    yield host_says, "a batch that is refused", "refused file\n", "cable", "--schedule", "missing"
+    yield host_says, "no cable", "host.py: [Errno 2] No such file or directory: 'missing'\n", "missing"
+
+
+def alone():
+    """Racks that are refused or told to end, and a switch, a module, a relay and a host alone."""
+    yield refuses, "two transfers that write one block", "refused overlap 0 1", "exchange: batch:3: ", "3x1x1", "batch 2\npush 0 0 1 0\npush 2 0 1 0\n", []
+    yield refuses, "no schedule of the batch", "refused check missing 1", "exchange: {}/schedule", "2x1x1", read("swap.txt"), "settings 1\nsetting 0\n"
+    yield refuses, "a batch of more modules", "refused no module 0", "exchange: batch:2: ", "1x1x1", "batch 1\npush 0 0 1 0\n", []
+    unwired = "exchange: batch:2: link 0 of module 0; backwards:2 leaves it out"
+    yield refuses, "a link that isn't on the switch", "refused no link 0", unwired, "3x2x2", "batch 1\npush 0 0 2 0\n", ["--wiring", "backwards"]
+    yield needs_two, "17 modules, of which the batch names two"
     whole = b"".join(PARTS)
-    racks.carries("words in parts", JOIN + SETTLE, whole, b"")
-    racks.carries("words before the switch has settled", JOIN, b"", b"switch.py: words come over link 0 of module 0, which isn't joined; have rack.py and host.py the same wiring and schedule?\n")
-    racks.receives("a block in parts", PARTS, [], b"\0", b"\0\0\xff\xff", whole, 0)
-    racks.receives("a part of a block", PARTS[:1], [], b"", b"", b"module.py: a link has ended", 3)
-    racks.is_relayed("the relay alone")
-    racks.is_moved_over_a_pty("a terminal", *CASES[1][1:])
-    unwired = "batch:2: link 0 of module 0; backwards:2 leaves it out"
-    racks.refuses("a link that isn't on the switch", "refused no link 0", unwired, "3x2x2", "batch 1\npush 0 0 2 0\n", ["--wiring", "backwards"])
-    racks.says_what_differs("a host of another wiring")
-    racks.ends("a cable that ends")
-    racks.says_who_is_killed("a module is killed")
-    racks.says_who_is_killed("a module is killed, with a host apart", "--cable", "cable")
-    racks.finds_the_program("the program, where nothing says where it is")
-    racks.is_ended("a rack that is told to end, and its host")
-    racks.goes_on("a host that is killed in its pause")
-    tried = len(CASES) + len(RINGS) + 16 + count + try_board(racks)
-    print(f"rack of processes: {tried} tried, {len(wrong)} wrong")
+    yield carries, "words in parts", JOIN + SETTLE, 0, whole, ""
+    yield carries, "words before the switch has settled", JOIN, 0, b"", LOOSE.format("link 0 of module 0")
+    yield carries, "words of link 3 before that", JOIN, 3, b"", LOOSE.format("link 3 of module 1")
+    yield receives, "a block in parts", PARTS, [], b"\0", b"\0\0", whole, b"\xfb\xff\xff\xff", [], 0
+    yield receives, "a part of a block", PARTS[:1], [], b"", b"", b"", b"", ["module.py: a link has ended"], 3
+    yield is_relayed, "the relay alone"
+    yield relay_ends, "a relay whose chain has ended", b"\1\0\1\0", 3, "relay.py: a link has ended\n"
+    yield relay_ends, "a relay that is sent another way", b"\2\0", 1, "relay.py: the cable has lost a byte, or has one too many: 2 is no way\n"
+    yield ends, "a cable that ends"
+    yield is_ended, "a rack that is told to end, and its host"
+    yield finds_the_program, "the program, where nothing says where it is"
+    yield says_what_differs, "a host of another wiring"
+
+
+def tries(count, totals):
+    """What is tried: a function, a name, and what the function is given."""
+    yield from alone()
+    yield from hosts()
+    for case in CASES:
+        yield is_moved, *case
+    yield is_moved_over_a_pty, "a terminal", *CASES[1][1:]
+    for what, *ring in RINGS:
+        yield hangs, f"{what}, links in turn", *ring
+    yield from faults(totals)
+    for number in range(count):
+        yield is_moved, f"random batch {number}", *random_case(random.Random(f"rack {number}"))
+    yield from boards()
+
+
+def count_bytes(installed):
+    """How many bytes go each way over a cable that isn't spoilt."""
+    with tempfile.TemporaryDirectory(dir=".") as path, contextlib.closing(Room(installed, os.path.abspath(path), "a sound cable")) as room:
+        room.write(*SPOILT)
+        between = Between(room)
+        told = room.end(room.host("--image", "image", "--image-out", "left"))
+        room.expect(told == "setting 0 0 1\ndriven settings 1\n" and room.is_left() and room.end(between.rack) == "", told)
+        return between.counts
+
+
+def try_one(installed, number, function, what, *given):
+    os.mkdir(f"room-{number}")
+    with contextlib.closing(Room(installed, os.path.abspath(f"room-{number}"), what)) as room:
+        try:
+            function(room, *given)
+        except BaseException:
+            expect(what, False, traceback.format_exc())
+
+
+def try_all(installed, count, word):
+    host.PROGRAM = f"{installed}/bin/exchange"
+    with ThreadPoolExecutor(2 * len(os.sched_getaffinity(0))) as at_once:
+        named = (it for it in tries(count, count_bytes(installed)) if word in it[1])
+        ended = [at_once.submit(try_one, installed, number, *it) for number, it in enumerate(named)]
+    for it in ended:
+        it.result()
+    if len(ended) < (1 if word else LEAST + count):
+        wrong.append(f"{len(ended)} tried")
+    print(f"rack of processes: {len(ended)} tried, {len(wrong)} wrong")
 
 
 def main():
-    count = int(sys.argv[1]) if len(sys.argv) > 1 else 40
-    with tempfile.TemporaryDirectory(prefix="racks-") as room:
-        installed = os.path.abspath(os.environ.get("RACK") or f"{room}/rack")
+    words = [word for word in sys.argv[1:] if word != "--stop"]
+    count = int(words.pop(0)) if words and words[0].isdecimal() else 20
+    signal.signal(signal.SIGTERM, stop)
+    # Processes whose own are gone become this one's.
+    ctypes.CDLL(None).prctl(36, 1)
+    with tempfile.TemporaryDirectory(prefix="racks-") as path:
+        installed = os.path.abspath(os.environ.get("RACK") or f"{path}/rack")
         if not os.environ.get("RACK"):
             subprocess.run([f"{TOP}/tools/install/install.sh", installed], stdout=subprocess.DEVNULL, check=True)
-        os.chdir(room)
-        try_all(Racks(installed), count)
+        os.chdir(path)
+        try_all(installed, count, " ".join(words))
         os.chdir("/")
     sys.exit(1 if wrong else 0)
 

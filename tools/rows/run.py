@@ -123,11 +123,22 @@ MADE = {
 
 
 class Row:
-    """A row: where it stands, its lines of commands, the sections that say what there is, and those that say what comes of it."""
+    """A row: where it stands, its lines of commands with what each alone prints on standard error, the sections that say what there is, and
+    those that say what comes of it."""
 
     def __init__(self, place, name):
         self.place, self.name = place, name
-        self.lines, self.there, self.wanted, self.status = [], [], [], 0
+        self.lines, self.told, self.there, self.wanted, self.status = [], [], [], [], 0
+
+    def is_open(self):
+        """Whether it leaves open what comes on standard error beside a refusal."""
+        is_refusal = self.status == 1 and any(words == ["out"] and re.fullmatch(rb"refused [^\n]*\n", text) for words, text in self.wanted)
+        return is_refusal and not all(self.told) and not any(words[0] == "err" for words, _ in self.wanted)
+
+    def wanted_of(self, told):
+        """What has to come of a line that alone prints this on standard error: what no section names has to be empty."""
+        named = [it for it in self.wanted if not told or it[0][0] != "err"] + ([(["err"], told)] if told else [])
+        return named + [([it], b"") for it in ("out", "err") if it not in {words[0] for words, _ in named}]
 
 
 class Unreadable(Exception):
@@ -162,7 +173,7 @@ def take_text(lines):
 
 # The sections of a row, by their first words.
 THERE = re.compile(r"(?:(?:file|bytes|pipe|folder|made) \S+|input)\Z")
-WANTED = re.compile(r"(?:(?:out|err)(?: begins| ends| has| lines| bytes| as \S+)?|err some)\Z")
+WANTED = re.compile(r"(?:out|err)(?: begins| ends| has| bytes| as \S+)?\Z")
 
 
 def read_rows(file):
@@ -179,6 +190,7 @@ def read_rows(file):
             rows[-1].there += shared
         elif row and line.startswith("$ "):
             row.lines.append(line[2:])
+            row.told.append(take_text(lines))
         elif row and re.match(r"status \d+\Z", line):
             row.status = int(line[7:])
         elif THERE.match(line):
@@ -189,8 +201,10 @@ def read_rows(file):
             raise Unreadable(f"{place}: {line!r} isn't a line of a row")
     names = [row.name for row in rows]
     for row in rows:
-        if not row.lines or not row.wanted or names.count(row.name) > 1:
+        if not row.lines or not (row.wanted or all(row.told)) or names.count(row.name) > 1:
             raise Unreadable(f"{row.place}: row {row.name} runs nothing, wants nothing, or isn't the only one of its name")
+        if row.is_open():
+            raise Unreadable(f"{row.place}: row {row.name} doesn't say what comes on standard error beside its refusal")
     return rows
 
 
@@ -282,6 +296,7 @@ def run(row, line, programs):
     with tempfile.TemporaryDirectory(prefix="rows-") as room:
         os.chdir(room)
         os.symlink(f"{TOP}/examples", "examples")
+        here = os.getcwd().encode()
         given, held = [put(*it) for it in row.there], Held()
         inputs = [it for it in given if it is not None] + [held.read]
         how = {"stdin": inputs[0], "stdout": subprocess.PIPE, "stderr": subprocess.PIPE, "start_new_session": True}
@@ -291,7 +306,7 @@ def run(row, line, programs):
         for it in [*inputs, held.write]:
             os.close(it)
         os.chdir(TOP)
-    return ended
+    return ended._replace(out=ended.out.replace(here, b"FOLDER"), err=ended.err.replace(here, b"FOLDER"))
 
 
 def differs(words, wanted, found):
@@ -306,17 +321,12 @@ def differs(words, wanted, found):
     piece = wanted[:-1] if wanted.endswith(b"\n") else wanted
     if how in ("", "as", "bytes"):
         well = found == wanted
-    elif how == "some":
-        well = found != b""
     elif how == "begins":
         well = found.startswith(piece)
     elif how == "ends":
         well = found.endswith(wanted)
-    elif how == "has":
-        well = piece in found
     else:
-        begins, lines = piece.split(b"\n"), found.split(b"\n")[:-1]
-        well = len(begins) == len(lines) and all(line.startswith(it) for line, it in zip(lines, begins))
+        well = piece in found
     return None if well else f"{' '.join(words)}: wanted {shorten(wanted)}, found {shorten(found)}"
 
 
@@ -325,19 +335,11 @@ def shorten(text):
     return f"{text!r}" if len(text) < 2000 else f"{text[:1000]!r} .. {text[-500:]!r}"
 
 
-def told_beside(ended):
-    """What standard error has to have where a row doesn't say it: nothing, or one line of the program beside a refusal."""
-    is_refusal = ended.status == 1 and re.fullmatch(rb"refused [^\n]*\n", ended.out)
-    return (["err", "lines"], b"exchange: ") if is_refusal else (["err"], b"")
-
-
-def judge(row, ended):
-    """All that is wrong with how a line of a row ended."""
+def judge(row, told, ended):
+    """All that is wrong with how a line of a row ended, which alone prints this on standard error."""
     if ended.wrong:
         return [ended.wrong]
-    unnamed = {"out", "err"} - {words[0] for words, _ in row.wanted}
-    wanted = row.wanted + [told_beside(ended) if it == "err" else ([it], b"") for it in sorted(unnamed)]
-    problems = [differs(words, text, getattr(ended, words[0])) for words, text in wanted]
+    problems = [differs(words, text, getattr(ended, words[0])) for words, text in row.wanted_of(told)]
     if ended.status != row.status:
         problems.append(f"status: wanted {row.status}, found {ended.status}")
     return [it for it in problems if it]
@@ -346,9 +348,9 @@ def judge(row, ended):
 def try_row(row, programs):
     """Runs the lines of a row, each of which has to print the same, up to one that is wrong: whether none is, and whether one hangs."""
     first = None
-    for line in row.lines:
+    for line, told in zip(row.lines, row.told):
         ended = run(row, line, programs)
-        problems = judge(row, ended)
+        problems = judge(row, told, ended)
         first = first or ended
         if not problems and ended.out != first.out:
             problems = [f"out: found {shorten(ended.out)}, and {shorten(first.out)} for {row.lines[0]}"]

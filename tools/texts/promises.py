@@ -8,6 +8,9 @@ cites, and that these cite, down to names that are made from code (specs.declare
 the toolchain. Counted are their lines, without comments. The document has `NAME` (N lines) for each
 promise, where the lines of the grammar aren't counted, and one sentence on all of them. Each block of
 definitions that it shows has to stand in the file as it is.
+
+Each law, a public function of a crate's src/laws.rt, has to be called by code, or named by what its
+crate's lib.rt says of the crate, or by a page that names the crate in the same paragraph, row or point.
 """
 
 import glob
@@ -24,6 +27,9 @@ NAMES = re.compile(r"(pub )?use Rattle\.([\w-]+)\.specs\.([\w.]+)\.\{([^}]*)\}")
 FILES = re.compile(r"use Rattle\.([\w-]+)\.specs\.([\w.]+) as ([\w-]+)")
 HEAD = re.compile(r" *(?:abbrev pub|unfoldable pub|opaque pub|(?:pub )?record|(?:pub )?data) +([^\s:({]+)")
 WORDS = re.compile(r"[^\s(){}\[\],;:.λ→×⊎≡]+")
+
+# Where a part of a page ends: a paragraph, a point of a list, or a row of a table.
+PARTS = re.compile(r"\n\s*\n|\n(?=[-|])")
 
 
 def definitions(lines):
@@ -47,8 +53,7 @@ def read():
     for path in glob.glob(f"{TOP}/crates/*/specs/**/*.antt", recursive=True):
         crate, rest = path[len(TOP) + len("/crates/") :].split("/specs/")
         file = (crate, rest[: -len(".antt")].replace("/", "."))
-        with open(path, encoding="utf-8") as opened:
-            text = opened.read()
+        text = text_of(path)
         told[file], names[file], handed[file] = definitions(text.split("\n")), {}, {}
         for again, of, place, those in NAMES.findall(text):
             for one in filter(None, map(str.strip, those.split(","))):
@@ -95,16 +100,45 @@ def rests_on(start, told, names, handed):
     return seen, made, others
 
 
+def text_of(path):
+    """What a file holds."""
+    with open(path, encoding="utf-8") as file:
+        return file.read()
+
+
+def unused_laws():
+    """How many laws there are, and those that no page names and no code calls, with their crates."""
+    pages = [f"{TOP}/README.md", f"{TOP}/CONTRIBUTING.md", *glob.glob(f"{TOP}/docs/*.md")]
+    parts = [part for page in pages for part in PARTS.split(text_of(page))]
+    code, laws, unused = {}, 0, []
+    for path in glob.glob(f"{TOP}/crates/*/src/**/*.rt", recursive=True):
+        code[path] = re.sub(r"(?m)^ *//[^!].*", "", text_of(path))
+    for path in sorted(path for path in code if path.endswith("/src/laws.rt")):
+        crate = path.split("/")[-3]
+        about = code.get(path.replace("/laws.rt", "/lib.rt"), "")
+        own = {other: text for other, text in code.items() if f"/{crate}/" in other or re.search(rf"\buse {crate}\b", text)}
+        for name in re.findall(r"(?m)^pub fn (\w+)", code[path]):
+            laws += 1
+            told = re.search(rf"(?m)^//!.*\b{name}\b", about) or any(
+                f"`{name}`" in part and re.search(rf"\b{crate}\b", part) for part in parts
+            )
+            called = re.search(rf"(?m)^    (let \w+ = )?{name}\(", code[path]) or any(
+                re.search(rf"(?m)^ *[^/].*laws::{name}\(|^use {crate}::laws::{name};", text) for text in own.values()
+            )
+            if not told and not called:
+                unused.append(f"{crate} {name}")
+    return laws, unused
+
+
 def main():
     told, names, handed = read()
-    with open(f"{TOP}/docs/PROMISES.md", encoding="utf-8") as file:
-        document = file.read()
-    with open(f"{TOP}/crates/exchange/specs/Promises.antt", encoding="utf-8") as file:
-        text = file.read()
-    with open(CLAUSE, encoding="utf-8") as file:
-        clause = [n[3] for n in NAMES.findall(file.read()) if (n[1], n[2]) == PLACE]
+    document = text_of(f"{TOP}/docs/PROMISES.md")
+    text = text_of(f"{TOP}/crates/exchange/specs/Promises.antt")
+    clause = [n[3] for n in NAMES.findall(text_of(CLAUSE)) if (n[1], n[2]) == PLACE]
     faults = []
-    for block in re.findall(r"```antt\n(.*?)```", document, re.S):
+    blocks = re.findall(r"```antt\n(.*?)```", document, re.S)
+    print(f"promises: {len(blocks)} blocks of definitions compared")
+    for block in blocks:
         if block not in text:
             faults.append(f"no such definition: {block.splitlines()[0]}")
     grammar = rests_on([("command_words", "Jobs", "AskFor")], told, names, handed)[0]
@@ -124,9 +158,12 @@ def main():
     print(f"promises: all {all_of}")
     if all_of not in " ".join(document.split()):
         faults.append("the sentence on all promises isn't so")
+    laws, unused = unused_laws()
+    faults += [f"no page names this law, and no code calls it: {law}" for law in unused]
+    print(f"promises: {laws} laws, each named or called, but for {len(unused)}")
     for fault in faults:
         print(f"promises: {fault}")
-    sys.exit(1 if faults or not start else 0)
+    sys.exit(1 if faults or not start or not laws else 0)
 
 
 if __name__ == "__main__":

@@ -207,7 +207,9 @@ def try_document(name):
         make_folder(folder)
         for block in parts(name)[0]:
             if block.kind.startswith("file "):
-                with open(f"{folder}/{block.kind.split()[1]}", "w", encoding="utf-8") as file:
+                place = f"{folder}/{block.kind.split()[1]}"
+                os.makedirs(os.path.dirname(place), exist_ok=True)
+                with open(place, "w", encoding="utf-8") as file:
                     file.write("".join(f"{line}\n" for line in block.lines))
             elif block.kind == "console":
                 results = [try_command(shown, folder) for shown in commands(block)]

@@ -68,7 +68,8 @@ impl<L: ExchangeName, P: ConfigPort, W: WireMaker, G, H: History> Shared<L, P, W
             Sides::Each {
                 book,
                 waiting,
-                written: _,
+                odd: _,
+                even: _,
                 record,
             } => Ok(close_each(
                 book.into_inner(),
@@ -131,8 +132,12 @@ fn close_each<L: ExchangeName, P: ConfigPort, W: WireMaker, G, H: History>(
         text: _,
         count: _,
         front: _,
+        gathers: _,
         writes: _,
+        round: _,
+        taken_over: _,
         lost: _,
+        late: _,
         handed: _,
         mut entries,
         mut keeper,

@@ -225,6 +225,7 @@ fn part<L: ExchangeName, P: ConfigPort, W: WireMaker, G, H: History>(
     let (own, its) = deal_sides(&mut keeper, sessions);
     let handed = book.past();
     let taken = Snapshot::of(&book.past());
+    let gathers = recorder.gathers();
     // Asked for only for its contract, which says that no text is behind all entries.
     recorder.is_whole();
     Sides::Each {
@@ -238,14 +239,19 @@ fn part<L: ExchangeName, P: ConfigPort, W: WireMaker, G, H: History>(
             text: Vec::new(alloc),
             count: 0,
             front: 0,
+            gathers,
             writes: false,
+            round: 0,
+            taken_over: 0,
             lost: false,
+            late: false,
             handed,
             entries,
             keeper,
             of: PhantomData,
         }),
-        written: Condvar::new(),
+        odd: Condvar::new(),
+        even: Condvar::new(),
         record: Mutex::new(RecordSide {
             recorder,
             taken,

@@ -22,9 +22,12 @@ use own_lists::OwnList;
 use std::sync::{Condvar, Mutex, MutexGuard, Wait};
 use std::thread::yield_now;
 
-/// How often a seat lets other threads run while one writes, before it sleeps. Where none waits for
-/// the disk a writing is done sooner than who sleeps is woken.
+/// How often a seat lets other threads run while more entries come, before it writes, or while
+/// another writes, before it sleeps: where none waits for the disk a writing is done sooner than who
+/// sleeps is woken.
 const TURNS: usize = 8;
+/// How often it looks where who writes waits for more entries.
+const LOOKS: usize = 2;
 
 /// The recorder, all that were taken over, the list of what was noted of these, and a spare buffer.
 #[derive(Drop)]
@@ -104,10 +107,14 @@ impl<L: ExchangeName, H: History> RecordSide<L, H> {
 /// Sees to it that all that the seat has asked can be told. While another seat writes, one whose
 /// last entry doesn't stand sleeps. Then it writes all that waits, if that entry still doesn't stand
 /// and no writing has failed. `Err` where one has, or there was no memory to hand the entry on.
+///
+/// Each writing wakes all whose entries it wrote, and one of those who wait for the next one, which
+/// then writes. So who sleeps does so at `odd` or `even`, by the number of its entry's writing.
 pub fn settle<L: ExchangeName, H: History, R: Wait>(
     rt: &R,
     waiting: &Mutex<Waiting<L, H>>,
-    written: &Condvar,
+    odd: &Condvar,
+    even: &Condvar,
     record: &Mutex<RecordSide<L, H>>,
     seat: &mut Seat<L>,
 ) -> Result<(), Unrecorded>
@@ -120,37 +127,70 @@ pub fn settle<L: ExchangeName, H: History, R: Wait>(
         unreachable!()
     };
     let last = place.last;
-    let mut side = reached(rt, waiting, written, last);
+    let mut side = reached(rt, waiting, odd, even, last);
     let writes = side.begin(last);
+    let mut is_odd = false;
     if writes {
-        drop(side);
+        gather(rt, waiting, side);
         record.lock(rt).flush(rt, waiting);
         side = waiting.lock(rt);
         side.end();
+        is_odd = side.round % 2 == 1;
     }
+    let wakes_all = side.wakes_all();
     let (settled, place) = side.settle(session, place);
     seat.place = Some(place);
     drop(side);
     if writes {
-        written.notify_all();
+        let (done, next) = if is_odd { (odd, even) } else { (even, odd) };
+        if wakes_all {
+            next.notify_all();
+        } else {
+            next.notify_one();
+        }
+        done.notify_all();
     }
     settled
+}
+
+// Lets other threads run while entries come, so that more are written at once, where that is worth
+// it.
+fn gather<L: ExchangeName, H: History, R: Wait>(
+    rt: &R,
+    waiting: &Mutex<Waiting<L, H>>,
+    side: MutexGuard<Waiting<L, H>>,
+) {
+    let turns = if side.gathers { TURNS } else { 0 };
+    let mut count = side.count;
+    drop(side);
+    for _ in 0..turns {
+        yield_now();
+        let now = waiting.lock(rt).count;
+        if now == count {
+            break;
+        }
+        count = now;
+    }
 }
 
 // What waits, once all entries up to this place stand, or no seat writes.
 fn reached<'b, L: ExchangeName, H: History, R: Wait>(
     rt: &R,
     waiting: &'b Mutex<Waiting<L, H>>,
-    written: &Condvar,
+    odd: &Condvar,
+    even: &Condvar,
     place: u64,
 ) -> MutexGuard<'b, Waiting<L, H>> {
-    for _ in 0..TURNS {
-        let side = waiting.lock(rt);
+    let mut side = waiting.lock(rt);
+    let looks = if side.gathers { LOOKS } else { TURNS };
+    for _ in 0..looks {
         if !side.has_to_sleep(place) {
             return side;
         }
         drop(side);
         yield_now();
+        side = waiting.lock(rt);
     }
-    written.wait_while(rt, waiting.lock(rt), |side| side.has_to_sleep(place))
+    let written = if side.is_odd(place) { odd } else { even };
+    written.wait_while(rt, side, |side| side.has_to_sleep(place))
 }

@@ -28,6 +28,9 @@ pub trait Recorder {
         ensures whole { result ≡ whole self.now }
         ensures none { (all : List Entry) → texts all all ≡ [] };
 
+    /// Whether a writing takes so long that who writes waits for more entries first.
+    fn gathers(&self) -> bool;
+
     /// Writes the text of all of these entries that weren't taken over yet.
     fn append(&mut self, all: &SeenEntries, text: &[u8]) -> Result<(), Unrecorded>
         requires whole { whole self.old ≡ true }
@@ -61,6 +64,10 @@ impl Recorder for NoRecorder {
 
     fn is_whole(&self) -> bool {
         self.is_whole
+    }
+
+    fn gathers(&self) -> bool {
+        false
     }
 
     fn append(&mut self, all: &SeenEntries, _text: &[u8]) -> Result<(), Unrecorded> {

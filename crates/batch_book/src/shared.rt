@@ -90,7 +90,8 @@ pub(crate) enum Sides<L: ExchangeName, P: ConfigPort, W: WireMaker, G, H: Histor
     Each {
         book: Mutex<BookSide<L, P, W, G, H>>,
         waiting: Mutex<Waiting<L, H>>,
-        written: Condvar,
+        odd: Condvar,
+        even: Condvar,
         record: Mutex<RecordSide<L, H>>,
     },
 }
@@ -228,9 +229,10 @@ impl<L: ExchangeName, P: ConfigPort, W: WireMaker + Sync, G: Gate + Sync, H: His
             Sides::Each {
                 book: _,
                 waiting,
-                written,
+                odd,
+                even,
                 record,
-            } => settle(rt, waiting, written, record, seat),
+            } => settle(rt, waiting, odd, even, record, seat),
         }
     }
 }

@@ -41,10 +41,17 @@ pub struct Waiting<L: ExchangeName, H: History> {
     pub count: u64,
     // Up to which place all entries stand where they belong.
     pub front: u64,
+    // Whether who writes waits for more entries first.
+    pub gathers: bool,
     // Whether a seat writes.
     pub writes: bool,
+    // How many writings were begun, and up to which place entries went with them.
+    pub round: u64,
+    pub taken_over: u64,
     // Whether a writing has failed. Then no call is made any more.
     pub lost: bool,
+    // Whether there was no memory to hand an entry on. Then it may go with a later writing.
+    pub late: bool,
     pub handed: Snapshot<PastEntries>,
     pub entries: ledger::Book<L>,
     pub keeper: Keeper<NotedEntry, L>,
@@ -72,6 +79,20 @@ impl<L: ExchangeName, H: History> Waiting<L, H> {
     /// Whether a seat writes, and not all entries up to this place stand.
     pub fn has_to_sleep(&self, place: u64) -> bool {
         self.writes && self.front < place
+    }
+
+    /// Whether an entry of this place goes with a writing whose number is odd.
+    pub fn is_odd(&self, place: u64) -> bool {
+        if place <= self.taken_over {
+            self.round % 2 == 1
+        } else {
+            self.round % 2 == 0
+        }
+    }
+
+    /// Whether who sleeps may do so where its entry's writing doesn't wake it.
+    pub fn wakes_all(&self) -> bool {
+        self.lost || self.late
     }
 
     /// Whether entries up to this place have to be written. Then the seat that asks writes them.
@@ -132,6 +153,7 @@ impl<L: ExchangeName, H: History> Waiting<L, H> {
             &mut self.handed,
             &mut self.count,
         );
+        self.late |= self.count != place;
         let all = Snapshot::of(&book.past());
         let note = NotedEntry::side(BOOK_SIDE, 0, &all, &Snapshot::of(&self.handed));
         let its = self.keeper.add(its, &note);
@@ -163,6 +185,8 @@ impl<L: ExchangeName, H: History> Waiting<L, H> {
         let note = NotedEntry::side(RECORD_SIDE, self.front, &all, &all);
         let own = self.keeper.add(own, &note);
         mem::swap(&mut self.text, spare);
+        self.round = self.round.saturating_add(1);
+        self.taken_over = self.count;
         (all, self.count, own)
     }
 

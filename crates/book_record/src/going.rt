@@ -11,11 +11,13 @@ use std::alloc::Global;
 use std::io::Write;
 
 /// The book goes on from its entries: the next ones go to this writer. What the writer holds, and
-/// the entries, are those that the stream is named by.
+/// the entries, are those that the stream is named by. Where it gathers, as many sessions may share a
+/// writer that waits for a disk, who writes lets others run first.
 pub fn stream_on<W: Write + Send, N: StreamName + Send>(
     alloc: Global,
     book: Book<Silent>,
     writer: W,
+    gathers: bool,
 ) -> Book<Streamed<W, N>>
     requires held { W.contents writer ≡ N.held }
     requires earlier { book.history ≡ N.earlier }
@@ -23,7 +25,7 @@ pub fn stream_on<W: Write + Send, N: StreamName + Send>(
 {
     let (bare, log) = book.part();
     let Silent { past } = log;
-    Book::go_on(bare, Streamed::behind(alloc, past, writer))
+    Book::go_on(bare, Streamed::behind(alloc, past, writer, gathers))
 }
 
 /// The book without its history, and the writer, which has got the text of the entries that were

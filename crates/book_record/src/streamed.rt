@@ -36,8 +36,9 @@ impl<W: Write + Drop, N: StreamName> Drop for Streamed<W, N> {
 
 impl<W: Write, N: StreamName> Streamed<W, N> {
     /// A history that goes on behind these entries, at this writer: they, and what the writer
-    /// holds, are those that the stream is named by.
-    pub fn behind(alloc: Global, past: PastEntries, writer: W) -> Streamed<W, N>
+    /// holds, are those that the stream is named by. Where it gathers, who writes waits for more
+    /// entries first.
+    pub fn behind(alloc: Global, past: PastEntries, writer: W, gathers: bool) -> Streamed<W, N>
         requires held { W.contents writer ≡ N.held }
         requires earlier { past ≡ N.earlier }
         ensures holds { result.written.holds ≡ W.contents writer }
@@ -45,7 +46,7 @@ impl<W: Write, N: StreamName> Streamed<W, N> {
         ensures stands { result.written.stands ≡ past }
         ensures whole { result.written.whole ≡ true }
     {
-        let written = Written::behind(&past, writer);
+        let written = Written::behind(&past, writer, gathers);
         Streamed {
             written,
             waiting: WaitingText::behind(alloc, past),

@@ -16,6 +16,7 @@ use std::snapshot::Snapshot;
 /// those that it was given. Once a writing has failed nothing more is written.
 pub struct Written<W: Write, N: StreamName> {
     writer: W,
+    gathers: bool,
     whole: bool,
     stands: Snapshot<SeenEntries>,
     tried: Snapshot<SeenEntries>,
@@ -27,6 +28,7 @@ impl<W: Write + Drop, N: StreamName> Drop for Written<W, N> {
     fn drop(self) {
         let Written {
             writer: _,
+            gathers: _,
             whole: _,
             stands: _,
             tried: _,
@@ -54,7 +56,7 @@ impl<W: Write, N: StreamName> Model for Written<W, N> {
 impl<W: Write, N: StreamName> Written<W, N> {
     /// The writer of a stream of these entries: they, and what the writer holds, are those that the
     /// stream is named by.
-    pub(crate) fn behind(past: &PastEntries, writer: W) -> Written<W, N>
+    pub(crate) fn behind(past: &PastEntries, writer: W, gathers: bool) -> Written<W, N>
         requires held { W.contents writer ≡ N.held }
         requires earlier { past.now ≡ N.earlier }
         ensures holds { result.holds ≡ W.contents writer }
@@ -65,6 +67,7 @@ impl<W: Write, N: StreamName> Written<W, N> {
         let seen = Snapshot::of(&Snapshot::of(past));
         Written {
             writer,
+            gathers,
             whole: true,
             stands: Snapshot::of(&seen),
             tried: Snapshot::of(&seen),
@@ -87,6 +90,7 @@ impl<W: Write, N: StreamName> Written<W, N> {
     {
         let Written {
             writer,
+            gathers: _,
             whole: _,
             stands: _,
             tried: _,
@@ -125,6 +129,10 @@ impl<W: Write, N: StreamName> Recorder for Written<W, N> {
 
     fn is_whole(&self) -> bool {
         self.whole
+    }
+
+    fn gathers(&self) -> bool {
+        self.gathers
     }
 
     fn append(&mut self, all: &SeenEntries, text: &[u8]) -> Result<(), Unrecorded> {

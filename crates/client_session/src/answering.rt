@@ -8,28 +8,20 @@ use crate::command::SessionCommand;
 use crate::exchange_seat::ExchangeSeat;
 use crate::fault::ServeFault;
 use crate::reply_line::ReplyLine;
+use crate::setup::Setup;
 use batch::Batch;
-use batch_book::{Call, ExchangeName, History, Reply};
-use crossbar::ConfigPort;
+use batch_book::{Call, Reply};
 use exchange_limits::WorkerCount;
-use peek_poke::WireMaker;
 use refusals::Refusal;
-use schedule_certificate::{Gate, OpenGate, schedule};
+use schedule_certificate::{OpenGate, schedule};
 use std::alloc::Global;
 use std::sync::Wait;
 use std::thread::Threads;
 
 /// Makes a call that fetches no batch, and puts its reply line.
-fn call<
-    R: Threads + Wait + Sync,
-    L: ExchangeName,
-    P: ConfigPort,
-    W: WireMaker + Sync,
-    G: Gate + Sync,
-    K: History,
->(
+fn call<R: Threads + Wait + Sync, X: Setup>(
     rt: &R,
-    seat: &mut ExchangeSeat<'_, L, P, W, G, K>,
+    seat: &mut ExchangeSeat<'_, X>,
     line: &mut ReplyLine,
     id: usize,
     call: Call,
@@ -38,7 +30,7 @@ fn call<
     requires other { IsNoFetch call }
     ensures done { Does seat.old seat.new (TellsReply seat.old.session id call) (λ es. es ≡ [])
         line.new result }
-    ensures loses { OnErr result (K.loses ≡ true) }
+    ensures loses { OnErr result (X.Entries.loses ≡ true) }
 {
     let made = seat.call(rt, call);
     match &made {
@@ -51,24 +43,17 @@ fn call<
 }
 
 /// Submits the batch that the text denotes, or tells the text's first fault.
-pub(crate) fn submit<
-    R: Threads + Wait + Sync,
-    L: ExchangeName,
-    P: ConfigPort,
-    W: WireMaker + Sync,
-    G: Gate + Sync,
-    K: History,
->(
+pub(crate) fn submit<R: Threads + Wait + Sync, X: Setup>(
     rt: &R,
     alloc: Global,
-    seat: &mut ExchangeSeat<'_, L, P, W, G, K>,
+    seat: &mut ExchangeSeat<'_, X>,
     line: &mut ReplyLine,
     text: &[u8],
 ) -> Result<(), ServeFault>
     requires { line.old ≡ [] }
     ensures done { Does seat.old seat.new (Submits seat.old.shape seat.old.session text.now)
         (λ es. es ≡ []) line.new result }
-    ensures loses { OnErr result (K.loses ≡ true) }
+    ensures loses { OnErr result (X.Entries.loses ≡ true) }
 {
     match Batch::read(alloc, text, seat.shape()) {
         Ok(batch) => call(rt, seat, line, 0, Call::Submit(batch)),
@@ -80,17 +65,10 @@ pub(crate) fn submit<
 }
 
 /// Fetches a batch, plans it outside the exchange, and settles its plan.
-fn plan<
-    R: Threads + Wait + Sync,
-    L: ExchangeName,
-    P: ConfigPort,
-    W: WireMaker + Sync,
-    G: Gate + Sync,
-    K: History,
->(
+fn plan<R: Threads + Wait + Sync, X: Setup>(
     rt: &R,
     alloc: Global,
-    seat: &mut ExchangeSeat<'_, L, P, W, G, K>,
+    seat: &mut ExchangeSeat<'_, X>,
     line: &mut ReplyLine,
     id: usize,
     workers: WorkerCount,
@@ -98,7 +76,7 @@ fn plan<
     requires { line.old ≡ [] }
     ensures done { Does seat.old seat.new (Plans seat.old.session id)
         (IsFetching seat.old.session id) line.new result }
-    ensures loses { OnErr result (K.loses ≡ true) }
+    ensures loses { OnErr result (X.Entries.loses ≡ true) }
 {
     let reply = seat.call(rt, Call::Fetch(id))?;
     match reply {
@@ -118,17 +96,10 @@ fn plan<
 
 /// Does what a line commands that has no lines behind it, and puts the reply line. The fault is
 /// that a call wasn't made, since the record is broken.
-pub(crate) fn answer<
-    R: Threads + Wait + Sync,
-    L: ExchangeName,
-    P: ConfigPort,
-    W: WireMaker + Sync,
-    G: Gate + Sync,
-    K: History,
->(
+pub(crate) fn answer<R: Threads + Wait + Sync, X: Setup>(
     rt: &R,
     alloc: Global,
-    seat: &mut ExchangeSeat<'_, L, P, W, G, K>,
+    seat: &mut ExchangeSeat<'_, X>,
     line: &mut ReplyLine,
     command: Option<SessionCommand>,
     workers: WorkerCount,
@@ -138,7 +109,7 @@ pub(crate) fn answer<
     ensures done { (text : List ℕ) → Does seat.old seat.new
         (DoesCommand seat.old.shape seat.old.session command text)
         (IsBegun seat.old.session command) line.new result }
-    ensures loses { OnErr result (K.loses ≡ true) }
+    ensures loses { OnErr result (X.Entries.loses ≡ true) }
 {
     match command {
         None => {

@@ -1,56 +1,49 @@
 //! A seat, and what its session asks of the exchange.
 
-ghost use Rattle.std.specs.Prelude.{◌≡◌, true, false, Some, IfOk, IfErr, OnOk, OnErr};
+ghost use Rattle.std.specs.Prelude.{◌≡◌, true, Some, IfOk, IfErr, OnOk, OnErr};
 ghost use Rattle.client_session.specs.declared.fault.ServeFault.TheVariants.{Record};
 ghost use Rattle.client_session.specs.Seats.{seat_view, IsCalled, IsUncalled, IsProgressRead};
 
 use crate::fault::ServeFault;
+use crate::setup::Setup;
 use batch::Shape;
-use batch_book::{Call, ExchangeName, History, Reading, Reply, Seat, Shared, Unrecorded};
-use crossbar::ConfigPort;
-use peek_poke::WireMaker;
-use schedule_certificate::Gate;
+use batch_book::{Call, History, Reading, Reply, Seat, Shared, Unrecorded};
 use std::marker::Model;
 use std::sync::Wait;
 use std::thread::Threads;
 
 /// A seat beside the exchange that it belongs to. Contracts see the seat as its session does.
 #[derive(Drop)]
-pub(crate) struct ExchangeSeat<'a, L: ExchangeName, P: ConfigPort, W: WireMaker, G, K: History> {
-    shared: &'a Shared<L, P, W, G, K>,
-    seat: Seat<L>,
+pub(crate) struct ExchangeSeat<'a, X: Setup> {
+    shared: &'a Shared<X::Name, X::Port, X::Wires, X::Gate, X::Entries>,
+    seat: Seat<X::Name>,
 }
 
-impl<'a, L: ExchangeName, P: ConfigPort, W: WireMaker, G, K: History> Model
-    for ExchangeSeat<'a, L, P, W, G, K> {
+impl<'a, X: Setup> Model for ExchangeSeat<'a, X> {
     ghost use Rattle.std.specs.Prelude.{◌≡◌, Some};
     ghost use Rattle.client_session.specs.Seats.{SeatView, seat_view};
 
     ghost Value = { SeatView };
 
-    ghost view = { λ d. seat_view K.loses d.shared.now.shape d.seat };
+    ghost view = { λ d. seat_view X.Entries.loses d.shared.now.shape d.seat };
 
     ghost invariant = { λ d. d.seat.exchange ≡ Some d.shared.now.word };
 }
 
-impl<'a, L: ExchangeName, P: ConfigPort, W: WireMaker, G, K: History> ExchangeSeat<
-    'a,
-    L,
-    P,
-    W,
-    G,
-    K,
-> {
+impl<'a, X: Setup> ExchangeSeat<'a, X> {
     /// The seat at its exchange.
-    pub fn new(shared: &'a Shared<L, P, W, G, K>, seat: Seat<L>) -> ExchangeSeat<'a, L, P, W, G, K>
+    pub fn new(
+        shared: &'a Shared<X::Name, X::Port, X::Wires, X::Gate, X::Entries>,
+        seat: Seat<X::Name>,
+    ) -> ExchangeSeat<'a, X>
         requires { seat.exchange ≡ Some shared.now.word }
-        ensures { result ≡ seat_view K.loses shared.now.shape seat }
+        ensures { result ≡ seat_view X.Entries.loses shared.now.shape seat }
     {
         ExchangeSeat { shared, seat }
     }
 
     /// The seat.
-    pub fn into_seat(self) -> Seat<L>
+    pub fn into_seat(self) -> Seat<X::Name>
         ensures { seat_view self.entry.loses self.entry.shape result ≡ self.entry }
     {
         self.seat
@@ -67,7 +60,7 @@ impl<'a, L: ExchangeName, P: ConfigPort, W: WireMaker, G, K: History> ExchangeSe
     pub fn waits(&self) -> bool
         ensures { result ≡ true → self.now.loses ≡ true }
     {
-        K::groups() && self.seat.waits()
+        X::Entries::groups() && self.seat.waits()
     }
 
     /// Reads the progress word.
@@ -76,16 +69,7 @@ impl<'a, L: ExchangeName, P: ConfigPort, W: WireMaker, G, K: History> ExchangeSe
     {
         self.shared.progress(&mut self.seat)
     }
-}
 
-impl<L: ExchangeName, P: ConfigPort, W: WireMaker + Sync, G: Gate + Sync, K: History> ExchangeSeat<
-    '_,
-    L,
-    P,
-    W,
-    G,
-    K,
-> {
     /// Makes a call of the book, whose reply can be told once the seat is settled.
     pub fn call<R: Threads + Wait + Sync>(
         &mut self,
@@ -94,7 +78,7 @@ impl<L: ExchangeName, P: ConfigPort, W: WireMaker + Sync, G: Gate + Sync, K: His
     ) -> Result<Reply, Unrecorded>
         ensures ok { IfOk result (λ reply. IsCalled self.old call reply self.new) }
         ensures err { OnErr result (IsUncalled self.old self.new) }
-        ensures loses { OnErr result (K.loses ≡ true) }
+        ensures loses { OnErr result (X.Entries.loses ≡ true) }
     {
         self.shared.try_call(rt, &mut self.seat, call)
     }
@@ -105,7 +89,7 @@ impl<L: ExchangeName, P: ConfigPort, W: WireMaker + Sync, G: Gate + Sync, K: His
         ensures ok { OnOk result (self.new ≡ record self.old { log = self.old.asked }) }
         ensures fault { IfErr result (λ fault. fault ≡ Record) }
         ensures err { OnErr result (self.new ≡ record self.old { broken = true }) }
-        ensures loses { OnErr result (K.loses ≡ true) }
+        ensures loses { OnErr result (X.Entries.loses ≡ true) }
     {
         self.shared.settle(rt, &mut self.seat)?;
         Ok(())

@@ -28,6 +28,7 @@ mod limits;
 mod listener;
 pub mod reply_line;
 mod serving;
+mod setup;
 mod sources;
 mod turns;
 

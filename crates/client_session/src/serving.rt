@@ -21,6 +21,7 @@ use crate::held_lines::HeldLines;
 use crate::input::Input;
 use crate::listener::Listener;
 use crate::reply_line::ReplyLine;
+use crate::setup::{Parts, Setup};
 use crate::turns::turn;
 use batch_book::{ExchangeName, History, Seat, Shared};
 use byte_streams::write_bytes;
@@ -62,18 +63,9 @@ fn tell_refusal<H: Listener>(listener: &mut H, refusal: Option<Refusal>)
 
 /// Sees to it that all which the session has asked can be told, and then writes the lines that are
 /// held, together. The listener hears of the refusal that the last line says.
-fn tell<
-    R: Wait,
-    L: ExchangeName,
-    P: ConfigPort,
-    W: WireMaker + Sync,
-    G: Gate + Sync,
-    K: History,
-    O: Write,
-    H: Listener,
->(
+fn tell<R: Wait, X: Setup, O: Write, H: Listener>(
     rt: &R,
-    seat: &mut ExchangeSeat<'_, L, P, W, G, K>,
+    seat: &mut ExchangeSeat<'_, X>,
     writer: &mut O,
     listener: &mut H,
     held: &mut HeldLines,
@@ -83,7 +75,7 @@ fn tell<
     ensures none { OnOk result (held.new ≡ []) }
     ensures err { IfErr result (λ e. AreUntold e seat.old seat.new (O.contents writer.old)
         (O.contents writer.new) held.old) }
-    ensures loses { IfErr result (λ e. e ≡ ServeFault.Record → K.loses ≡ true) }
+    ensures loses { IfErr result (λ e. e ≡ ServeFault.Record → X.Entries.loses ≡ true) }
     ensures beside { TellsOfRefusals H.may_tell (H.told listener.old) (H.told listener.new) }
 {
     let lines = held.as_bytes();
@@ -120,18 +112,9 @@ fn quick_line(input: &Input) -> Option<usize>
 
 /// Tells what is held, where no more is to be held before the next command. Else it gives the
 /// length of that one's line.
-fn tell_first<
-    R: Wait,
-    L: ExchangeName,
-    P: ConfigPort,
-    W: WireMaker + Sync,
-    G: Gate + Sync,
-    K: History,
-    O: Write,
-    H: Listener,
->(
+fn tell_first<R: Wait, X: Setup, O: Write, H: Listener>(
     rt: &R,
-    seat: &mut ExchangeSeat<'_, L, P, W, G, K>,
+    seat: &mut ExchangeSeat<'_, X>,
     input: &Input,
     writer: &mut O,
     listener: &mut H,
@@ -144,7 +127,7 @@ fn tell_first<
         IfSome found (λ n. HasLine input.now.pending n × (n ≤ LINE_BYTES))) }
     ensures err { IfErr result (λ e. AreUntold e seat.old seat.new (O.contents writer.old)
         (O.contents writer.new) held.old) }
-    ensures loses { IfErr result (λ e. e ≡ ServeFault.Record → K.loses ≡ true) }
+    ensures loses { IfErr result (λ e. e ≡ ServeFault.Record → X.Entries.loses ≡ true) }
     ensures beside { TellsOfRefusals H.may_tell (H.told listener.old) (H.told listener.new) }
 {
     if held.has_room() && seat.waits() && !held.refuses() {
@@ -157,20 +140,10 @@ fn tell_first<
 }
 
 /// Serves the session of a seat at its exchange, but for its last reply lines, which are held.
-fn serve_lines<
-    R: Threads + Wait + Sync,
-    L: ExchangeName,
-    P: ConfigPort,
-    W: WireMaker + Sync,
-    G: Gate + Sync,
-    K: History,
-    I: AskedReader,
-    O: Write,
-    H: Listener,
->(
+fn serve_lines<R: Threads + Wait + Sync, X: Setup, I: AskedReader, O: Write, H: Listener>(
     rt: &R,
     alloc: Global,
-    seat: &mut ExchangeSeat<'_, L, P, W, G, K>,
+    seat: &mut ExchangeSeat<'_, X>,
     reader: &mut I,
     writer: &mut O,
     listener: &mut H,
@@ -182,7 +155,7 @@ fn serve_lines<
         (I.remaining reader.new) (O.contents writer.old) (O.contents writer.new) seat.old seat.new
         (HoldsAtEnd (fault_in result) (I.remaining reader.new) held.new seat.old seat.new) }
     ensures asks { AsksWithinLimit (I.asked reader.old) (I.asked reader.new) (fault_in result) }
-    ensures loses { fault_in result ≡ Some ServeFault.Record → K.loses ≡ true }
+    ensures loses { fault_in result ≡ Some ServeFault.Record → X.Entries.loses ≡ true }
     ensures beside { TellsOfRefusals H.may_tell (H.told listener.old) (H.told listener.new) }
 {
     let mut input = Input::new();
@@ -214,20 +187,10 @@ fn is_cut_off(ended: &Result<(), ServeFault>) -> bool
 }
 
 /// Serves the session of a seat at its exchange.
-fn serve_seat<
-    R: Threads + Wait + Sync,
-    L: ExchangeName,
-    P: ConfigPort,
-    W: WireMaker + Sync,
-    G: Gate + Sync,
-    K: History,
-    I: AskedReader,
-    O: Write,
-    H: Listener,
->(
+fn serve_seat<R: Threads + Wait + Sync, X: Setup, I: AskedReader, O: Write, H: Listener>(
     rt: &R,
     alloc: Global,
-    seat: &mut ExchangeSeat<'_, L, P, W, G, K>,
+    seat: &mut ExchangeSeat<'_, X>,
     reader: &mut I,
     writer: &mut O,
     listener: &mut H,
@@ -237,7 +200,7 @@ fn serve_seat<
         (I.remaining reader.new) (O.contents writer.old) (O.contents writer.new) seat.old seat.new
         (HasEnded (fault_in result) (I.remaining reader.new) seat.old seat.new) }
     ensures asks { AsksWithinLimit (I.asked reader.old) (I.asked reader.new) (fault_in result) }
-    ensures loses { fault_in result ≡ Some ServeFault.Record → K.loses ≡ true }
+    ensures loses { fault_in result ≡ Some ServeFault.Record → X.Entries.loses ≡ true }
     ensures beside { TellsOfRefusals H.may_tell (H.told listener.old) (H.told listener.new) }
 {
     let mut held = HeldLines::new();
@@ -304,7 +267,7 @@ pub fn serve<
     ensures loses { fault_back result ≡ Some ServeFault.Record → K.loses ≡ true }
     ensures beside { TellsOfRefusals H.may_tell (H.told listener.old) (H.told listener.new) }
 {
-    let mut exchange_seat = ExchangeSeat::new(shared, seat);
+    let mut exchange_seat = ExchangeSeat::<Parts<L, P, W, G, K>>::new(shared, seat);
     let ended = serve_seat(
         rt,
         alloc,

@@ -16,12 +16,9 @@ use crate::input::Input;
 use crate::limits::{INPUT_BYTES, LINE_BYTES, MAX_READS};
 use crate::listener::Listener;
 use crate::reply_line::ReplyLine;
+use crate::setup::Setup;
 use batch::MAX_TRANSFERS;
-use batch_book::{ExchangeName, History};
-use crossbar::ConfigPort;
 use exchange_limits::WorkerCount;
-use peek_poke::WireMaker;
-use schedule_certificate::Gate;
 use std::alloc::Global;
 use std::sync::Wait;
 use std::thread::Threads;
@@ -53,19 +50,10 @@ fn take_lines<I: AskedReader>(
 }
 
 /// Takes the line in front and those of its batch, submits it, and puts the reply line.
-fn batch<
-    R: Threads + Wait + Sync,
-    L: ExchangeName,
-    P: ConfigPort,
-    W: WireMaker + Sync,
-    G: Gate + Sync,
-    K: History,
-    I: AskedReader,
-    H: Listener,
->(
+fn batch<R: Threads + Wait + Sync, X: Setup, I: AskedReader, H: Listener>(
     rt: &R,
     alloc: Global,
-    seat: &mut ExchangeSeat<'_, L, P, W, G, K>,
+    seat: &mut ExchangeSeat<'_, X>,
     input: &mut Input,
     reader: &mut I,
     listener: &mut H,
@@ -82,7 +70,7 @@ fn batch<
         input.old input.new seat.old seat.new line.new false) }
     ensures err { IfErr result (λ e. TurnFails e (I.remaining reader.old) (I.remaining reader.new)
         input.old seat.old seat.new) }
-    ensures loses { IfErr result (λ e. e ≡ ServeFault.Record → K.loses ≡ true) }
+    ensures loses { IfErr result (λ e. e ≡ ServeFault.Record → X.Entries.loses ≡ true) }
     ensures asks { GivesOrStops (I.asked reader.old) (I.asked reader.new)
         input.old.reads input.new.reads result }
     ensures beside { H.told listener.new ≡ H.told listener.old }
@@ -120,19 +108,10 @@ fn ends(command: Option<SessionCommand>) -> bool
 
 /// Takes the command in front with its lines, does it, and puts its reply line into an empty one.
 /// Gives whether the session ends with it.
-pub(crate) fn turn<
-    R: Threads + Wait + Sync,
-    L: ExchangeName,
-    P: ConfigPort,
-    W: WireMaker + Sync,
-    G: Gate + Sync,
-    K: History,
-    I: AskedReader,
-    H: Listener,
->(
+pub(crate) fn turn<R: Threads + Wait + Sync, X: Setup, I: AskedReader, H: Listener>(
     rt: &R,
     alloc: Global,
-    seat: &mut ExchangeSeat<'_, L, P, W, G, K>,
+    seat: &mut ExchangeSeat<'_, X>,
     input: &mut Input,
     reader: &mut I,
     listener: &mut H,
@@ -148,7 +127,7 @@ pub(crate) fn turn<
         input.old input.new seat.old seat.new line.new ends) }
     ensures err { IfErr result (λ e. TurnFails e (I.remaining reader.old) (I.remaining reader.new)
         input.old seat.old seat.new) }
-    ensures loses { IfErr result (λ e. e ≡ ServeFault.Record → K.loses ≡ true) }
+    ensures loses { IfErr result (λ e. e ≡ ServeFault.Record → X.Entries.loses ≡ true) }
     ensures asks { GivesOrStops (I.asked reader.old) (I.asked reader.new)
         input.old.reads input.new.reads result }
     ensures beside { H.told listener.new ≡ H.told listener.old }

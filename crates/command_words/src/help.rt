@@ -106,7 +106,8 @@ of a row shows the transfers that link 0 of the module starts, the lower half
 those that link 3 answers. A cell has the number and the colour of the module at
 the other end, and an arrow to the right where words go there, or to the left
 where they come from there. Point at a cell, and the browser shows its transfer.
-The half of the busiest link is framed.
+The half of the busiest link is framed. A dashed line stands before each setting
+that changes the switch.
 
 Any schedule of BATCH is drawn. The picture's title says whether it has `the
 fewest` settings or `where F are enough`; then how often it changes the switch,
@@ -649,9 +650,7 @@ pub(crate) fn help_on(argument: Argument) -> &'static str {
         Argument::Module => "The module whose orders to print, from 0 to 31",
         Argument::Steady => "Plan so that the switch changes seldom",
         Argument::GoOn => "Wait for no line of standard input after a setting",
-        Argument::Workers => "\
-How many workers there may be, from 1 to 64. Any number gives the
-same answer; one is usually quickest",
+        Argument::Workers => "How many workers there may be; one is usually quickest",
         Argument::Quiet => "Print nothing on standard error beside a refusal",
     }
 }

@@ -3,21 +3,23 @@ use Rattle.std.proofs.Common.{◌≡◌, ◌≤◌, ◌∙◌, ◌++◌, ℕ, ze
 use Rattle.std.specs.Prelude.{IfOk, ⊤}
 use Rattle.std.specs.Io.KnownBytes.{Appends}
 use Rattle.clap.specs.Words.{Text}
-use Rattle.command_words.specs.Jobs.{AskFor, Files, files_of}
+use Rattle.command_words.specs.Jobs.{AskFor, Files, file_uses, files_of}
 use Rattle.command_words.specs.declared.jobs.ArgumentsFault.TheVariants.{Clap, NoMemory}
 use Rattle.command_words.specs.declared.jobs.Job.{Job}
 use Rattle.command_words.specs.declared.jobs.Job.TheVariants.{C004, Drive, Host, Serve, Talk}
 use Rattle.command_words.specs.declared.jobs.Request.{Request}
 use Rattle.exchange.proofs.OneRequest.{no_fault, one_request}
 use Rattle.drive_answers.specs.Ways.{Ways}
-use Rattle.exchange.proofs.EndStatuses.{IsEither, of_response}
+use Rattle.exchange.proofs.EndStatuses.{IsEither, gave_up, of_response}
 use Rattle.exchange.proofs.HeldFiles.{held_files}
 use Rattle.exchange.proofs.PromisedCalls.{Comes, HasNone}
 use Rattle.exchange.specs.Ends.{IsCutFor, IsDone, IsDoneInPart, IsEndForArguments, IsPrinted, Keeping, Leaving, Streams, printed_of}
 use Rattle.exchange.specs.Keeping.{AreKeptBut}
-use Rattle.exchange.specs.Promises.{AreHeld, AsksFor, HasDone, HoldsText, Run, front_of, run_of}
+use Rattle.exchange.specs.Promises.{AreHeld, AsksFor, HasGivenUp, HoldsText, KeepsApart, Run, front_of, run_of}
+use Rattle.exchange.proofs.KeepsEach.{HasDone}
 use Rattle.exchange.specs.Responses.{Given, HasSessions, IsAnswerTo, IsJobAnswer, IsJobCut, IsOfTexts, IsResponseTo, IsTextAnswer, IsToldCut, Named, Response}
 use Rattle.exchange.specs.declared.limits.TheConstants.{MISUSED, UNWRITTEN}
+use Rattle.named_files.specs.Apart.{AreSeenApart}
 use Rattle.named_files.specs.Contents.{Holding}
 use Rattle.named_files.specs.Notes.{IsToldInPart, unanswered}
 use Rattle.named_files.specs.Outputs.{lost_none, none_opened}
@@ -34,9 +36,6 @@ use Rattle.plan_answers.specs.declared.limits.TheConstants.{DONE, REFUSED}
 
 pub never_done : (status : ℕ) → status ≡ REFUSED → status ≡ DONE → ⊥
 never_done status refused done = omega (arith, refused, done)
-
-never_unwritten : (status : ℕ) → status ≡ UNWRITTEN → status ≡ DONE → ⊥
-never_unwritten status unwritten done = omega (arith, unwritten, done)
 
 -- ---- what the clause of `respond` says
 
@@ -186,6 +185,20 @@ jobs_come e after same none_so is request asks = elim (end_of e request asks is)
   | inr gives_up ↦ inr (inr (record { prints = gives_up.1.text; status = gives_up.1.status; ports_are = none_so gives_up.0 }))
 ]
 
+-- ---- what is written is apart from what is read
+
+apart_of : (e : Ended) (job : Job) (response : Response) → IsResponseTo e.named e.given job response → IsPrinted e.streams.out_before e.streams.out_after (printed_of response) e.code → AreSeenApart e.named.leads (file_uses job) ⊎ (HasGivenUp (ended_run e) ⊎ (e.code ≡ UNWRITTEN))
+apart_of e job response (inl comes) printed = inl comes.0
+apart_of e job response (inr none) printed =
+    let text = subst (λ (told : List ℕ). Appends e.streams.out_before e.streams.out_after (told ++ response.end.text)) none.0 printed.text in
+    inr (inl (gave_up (ended_run e) none.4.0 (subst (λ (p : Printed). Appends e.streams.out_before e.streams.out_after p.text) none.4.1 text)))
+
+pub keeps_apart : (e : Ended) → EndsSo e → KeepsApart e.named.leads (ended_run e)
+keeps_apart e is job asks = elim (end_of e (record { job = job; is_quiet = asks.0 }) asks.1 is) [
+  | inl done ↦ apart_of e job done.0 done.1 done.3
+  | inr gives_up ↦ inr (inl (gave_up (ended_run e) why.NoMemory gives_up.1.text))
+]
+
 -- ---- where the arguments ask for nothing
 
 pub asks_nothing : (e : Ended) → EndsSo e → (request : Request) → AskFor e.words request → e.code ≡ MISUSED → ⊥
@@ -332,7 +345,3 @@ bounded (suc (suc (suc n))) high = absurd (high (omega arith))
 
 pub ends_well : (e : Ended) → EndsSo e → e.code ≤ UNWRITTEN
 ends_well e is = bounded e.code (below e is)
-
--- nothing is promised so where not all could be written
-pub not_done : (run : Run) (job : Job) → run.status ≡ UNWRITTEN → HasDone run job → ⊥
-not_done run job unwritten done = never_unwritten run.status unwritten done.1

@@ -7,28 +7,30 @@ use Rattle.batch_book.specs.History.{Account}
 use Rattle.clap.specs.Words.{Text}
 use Rattle.command_words.specs.Jobs.{AskFor, Files, MayHaveName, file, file_uses, files_beside, files_of, files_read, input_name, kept_files, recorded_in}
 use Rattle.command_words.specs.declared.jobs.Job.{Job}
-use Rattle.command_words.specs.declared.jobs.Job.TheVariants.{Host, Serve, Talk}
+use Rattle.command_words.specs.declared.jobs.Job.TheVariants.{Apply, C004, Check, Direct, Draw, Drive, Host, Orders, Plan, Prices, Replay, Run as RunJob, Serve, Switch as SwitchJob, Talk}
+use Rattle.plan_answers.specs.declared.limits.TheConstants.{DONE, REFUSED}
 use Rattle.command_words.specs.declared.jobs.RecordFile.{RecordFile}
 use Rattle.command_words.specs.declared.jobs.SharedRack.{SharedRack}
 use Rattle.command_words.specs.declared.uses.Access.TheVariants.{Read}
 use Rattle.drive_answers.specs.Ways.{Ways}
 use Rattle.exchange.proofs.AskedPlan.{some_ask}
-use Rattle.exchange.proofs.AskedJobs.{Answers, Ended, EndsSo, JobsCome, KeepsSo, SessionsCome, all_written, asks_nothing, cut_ends, ended_run, ends_well, jobs_come, sessions_come, text_ends, the_run}
+use Rattle.exchange.proofs.AskedJobs.{Answers, never_done, Ended, EndsSo, JobsCome, KeepsSo, SessionsCome, all_written, asks_nothing, cut_ends, ended_run, ends_well, jobs_come, keeps_apart, sessions_come, text_ends, the_run}
 use Rattle.exchange.proofs.HeldFiles.{alone, earlier, held_files, pass}
 use Rattle.exchange.proofs.OneRequest.{one_request}
 use Rattle.exchange.proofs.PromisedSessions.{AreCallsOf}
 use Rattle.exchange.proofs.PromisedCalls.{are_kept, are_part, are_told, before, behind, clients_come, kept_named, none_begun, none_ended, scripts_come, talk_comes}
-use Rattle.exchange.proofs.PromisedDrives.{keeps_drives, keeps_stops, no_drives, no_stops}
+use Rattle.exchange.proofs.PromisedDrives.{keeps_drives, keeps_stops}
 use Rattle.exchange.proofs.PromisedOthers.{keeps_nothing, keeps_others}
-use Rattle.exchange.proofs.PromisedPictures.{keeps_pictures, keeps_prices, no_pictures, no_prices}
-use Rattle.exchange.proofs.PromisedPlans.{keeps_checks, keeps_directions, keeps_plans, no_checks, no_directions, no_plans}
-use Rattle.exchange.proofs.PromisedRefusals.{keeps_refusals, no_refusals}
-use Rattle.exchange.proofs.PromisedReplays.{keeps_replays, no_replays}
-use Rattle.exchange.proofs.PromisedReplies.{keeps_replies, no_replies}
-use Rattle.exchange.proofs.PromisedRuns.{keeps_images, keeps_runs, no_images, no_runs}
-use Rattle.exchange.proofs.PromisedSwitches.{keeps_orders, keeps_switches, no_orders, no_switches}
+use Rattle.exchange.proofs.PromisedPictures.{keeps_pictures, keeps_prices}
+use Rattle.exchange.proofs.PromisedPlans.{keeps_checks, keeps_directions, keeps_plans}
+use Rattle.exchange.proofs.PromisedRefusals.{keeps_refusals}
+use Rattle.exchange.proofs.PromisedReplays.{keeps_replays}
+use Rattle.exchange.proofs.PromisedReplies.{keeps_replies}
+use Rattle.exchange.proofs.PromisedRuns.{keeps_images, keeps_runs}
+use Rattle.exchange.proofs.PromisedSwitches.{keeps_orders, keeps_switches}
 use Rattle.exchange.specs.Ends.{IsCutFor, Leaving}
-use Rattle.exchange.specs.Promises.{AreKept, AreKeptInPart, AreToldKept, Calls, HoldsText, IsAsItWas, IsEmpty, IsWrongLive, IsWrongRackOf, Clients, Kept, KeepsAll, KeepsClients, KeepsNothing, KeepsOthers, KeepsPromises, KeepsScripts, KeepsTalks, Leave, Run, clients_of, front_of, kept_by, run_of}
+use Rattle.exchange.specs.Promises.{AreKept, AreKeptInPart, AreToldKept, Calls, HoldsText, IsAsItWas, IsEmpty, IsWrongLive, IsWrongRackOf, Clients, Kept, KeepsNothing, KeepsOthers, KeepsPromises, Leave, Run, clients_of, front_of, kept_by, run_of, World, IsDone, IsRefused, KeepsJobs, HasGivenUp, AsksFor, LeavesAll}
+use Rattle.exchange.proofs.KeepsEach.{KeepsAll, KeepsClients, KeepsScripts, KeepsTalks}
 use Rattle.exchange.specs.Responses.{Given, Named, Response}
 use Rattle.exchange.specs.declared.limits.TheConstants.{UNWRITTEN}
 use Rattle.kept_sessions.specs.Keeping.{AreLiveKept, AreWritten}
@@ -130,24 +132,86 @@ keeps_all named given ports words prints status files clients scripts_leave live
   refusals = keeps_refusals _ all;
 }
 
+-- one table of all jobs
+module _ (w : World) (k : KeepsAll w.run w.before w.after w.kept w.clients w.scripts_leave w.live_leave) (others : KeepsOthers w.run w.before w.after w.kept w.clients) where
+  is_written : w.run.status ≡ DONE → w.run.status ≡ UNWRITTEN → ⊥
+  is_written done unwritten = omega (arith, done, unwritten)
+
+  was_written : w.run.status ≡ REFUSED → w.run.status ≡ UNWRITTEN → ⊥
+  was_written refused unwritten = omega (arith, refused, unwritten)
+
+  done_of : (job : Job) → AsksFor w.run job → w.run.status ≡ DONE → IsDone w job
+  done_of (Plan file planning workers) asks done = k.plans file planning workers (asks, done)
+  done_of (Check batch schedule) asks done = k.checks batch schedule (asks, done)
+  done_of (Draw batch schedule chosen) asks done = k.pictures batch schedule chosen (asks, done)
+  done_of (Prices batch schedule) asks done = k.prices batch schedule (asks, done)
+  done_of (SwitchJob batch scheduled wiring workers) asks done = k.switches batch scheduled wiring workers (asks, done)
+  done_of (Orders batch scheduled only workers) asks done = k.orders batch scheduled only workers (asks, done)
+  done_of (Direct moves) asks done = k.directions moves (asks, done)
+  done_of (Apply shape batch image workers) asks done = k.images shape batch image workers (asks, done)
+  done_of (RunJob shape batch scheduled image workers) asks done = k.runs shape batch scheduled image workers (asks, done)
+  done_of (Drive batch port port_b scheduled wiring first goes_on workers) asks done = k.drives batch port port_b scheduled wiring first goes_on workers (asks, done)
+  done_of C004 asks done = k.replies.0 (asks, done)
+  done_of (Serve rack scripts workers) asks done = elim (k.scripts rack scripts workers asks (is_written done)) [ inl is ↦ is | inr none ↦ absurd (never_done w.run.status none.status done) ]
+  done_of (Host rack names workers) asks done = elim (k.live rack names workers asks (is_written done)) [ inl is ↦ is | inr none ↦ absurd (never_done w.run.status none.0.status done) ]
+  done_of (Talk rack) asks done = elim (k.talks rack asks (is_written done)) [ inl is ↦ is | inr none ↦ absurd (never_done w.run.status none.status done) ]
+  done_of (Replay shape recorded image first) asks done = (k.replays shape recorded image first).0 (asks, done)
+
+  abbrev GivesUp : Type 0
+  GivesUp = HasGivenUp w.run × LeavesAll w.before w.after w.kept w.clients
+
+  or_given_up : (P : Type 0) → P ⊎ HasGivenUp w.run → LeavesAll w.before w.after w.kept w.clients → P ⊎ GivesUp
+  or_given_up P (inl is) left = inl is
+  or_given_up P (inr gives_up) left = inr (gives_up, left)
+
+  refused_of : (job : Job) → AsksFor w.run job → w.run.status ≡ REFUSED → IsRefused w job ⊎ GivesUp
+  refused_of (Plan file planning workers) asks refused = or_given_up _ (k.refusals (Plan file planning workers) tt asks refused) (others (Plan file planning workers) asks)
+  refused_of (Check batch schedule) asks refused = or_given_up _ (k.refusals (Check batch schedule) tt asks refused) (others (Check batch schedule) asks)
+  refused_of (Draw batch schedule chosen) asks refused = or_given_up _ (k.refusals (Draw batch schedule chosen) tt asks refused) (others (Draw batch schedule chosen) asks)
+  refused_of (Prices batch schedule) asks refused = or_given_up _ (k.refusals (Prices batch schedule) tt asks refused) (others (Prices batch schedule) asks)
+  refused_of (SwitchJob batch scheduled wiring workers) asks refused = or_given_up _ (k.refusals (SwitchJob batch scheduled wiring workers) tt asks refused) (others (SwitchJob batch scheduled wiring workers) asks)
+  refused_of (Orders batch scheduled only workers) asks refused = or_given_up _ (k.refusals (Orders batch scheduled only workers) tt asks refused) (others (Orders batch scheduled only workers) asks)
+  refused_of (Direct moves) asks refused = or_given_up _ (k.refusals (Direct moves) tt asks refused) (others (Direct moves) asks)
+  refused_of (Apply shape batch image workers) asks refused = or_given_up _ (k.refusals (Apply shape batch image workers) tt asks refused) (others (Apply shape batch image workers) asks)
+  refused_of (RunJob shape batch scheduled image workers) asks refused = or_given_up _ (k.refusals (RunJob shape batch scheduled image workers) tt asks refused) (others (RunJob shape batch scheduled image workers) asks)
+  refused_of (Drive batch port port_b scheduled wiring first goes_on workers) asks refused = elim (k.stops batch port port_b scheduled wiring first goes_on workers asks refused) [
+    | inl stopped ↦ inl (inl stopped)
+    | inr other ↦ elim other [
+      | inl is ↦ inl (inr is)
+      | inr gives_up ↦ let left = others (Drive batch port port_b scheduled wiring first goes_on workers) asks in inr (gives_up.0, (gives_up.1, left.0, left.1))
+    ]
+  ]
+  refused_of C004 asks refused = or_given_up _ (k.replies.1 asks refused) (others C004 asks)
+  refused_of (Serve rack scripts workers) asks refused = inl (k.scripts rack scripts workers asks (was_written refused))
+  refused_of (Host rack names workers) asks refused = inl (k.live rack names workers asks (was_written refused))
+  refused_of (Talk rack) asks refused = inl (k.talks rack asks (was_written refused))
+  refused_of (Replay shape recorded image first) asks refused = or_given_up _ ((k.replays shape recorded image first).1 asks refused) (others (Replay shape recorded image first) asks)
+
+  pub keeps_jobs : KeepsJobs w
+  keeps_jobs job asks = (done_of job asks, refused_of job asks)
+
+abbrev world_of : Run → (before after : Ways) → Kept → Clients → (scripts_leave live_leave : Leave) → World
+world_of run before after kept clients scripts_leave live_leave = record { run = run; before = before; after = after; kept = kept; clients = clients; scripts_leave = scripts_leave; live_leave = live_leave }
+
 pub keeps_promises : {C : Type 0} (e : Ended) (after : Ways) (received : C → Closed) (receipts : Receipts C) (comes : Text → Option (List ℕ)) (had : Text → List ℕ) (endings : List (Ending (List ℕ))) → e.given.clients ≡ clients_by comes had
     → ((job : Job) (response : Response) → e.keeps job response → response.ports ≡ after) → ((job : Job) (response : Response) → e.keeps job response → KeepsSo e.named.holds received receipts (ends_of endings) lost_none job response)
     → (e.none → (receipts ≡ none_opened) × (after ≡ e.given.ports) × (ends_of endings ≡ [])) → EndsSo e
-    → KeepsPromises (ended_run e) (front_of e.named.holds e.given.input e.streams.out_before e.streams.out_after e.words) e.given.ports after (kept_by received receipts) (clients_of comes had endings)
+    → KeepsPromises e.named.leads (ended_run e) (front_of e.named.holds e.given.input e.streams.out_before e.streams.out_after e.words) e.given.ports after (kept_by received receipts) (clients_of comes had endings)
 keeps_promises e after received receipts comes had endings known ports so none is =
     let come = sessions_come e received receipts (ends_of endings) so (λ n. ((none n).0, (none n).2)) is in
     let files = kept_by received receipts in
     record {
       one = one_request e.words;
       ends = ends_well e is;
-      all = keeps_all e.named e.given after e.words _ e.code files (clients_of comes had endings) (AreKept files) (AreKept files) (text_ends e is) (jobs_come e after ports (λ n. (none n).1) is)
+      jobs = keeps_jobs (world_of (ended_run e) e.given.ports after files (clients_of comes had endings) (AreKept files) (AreKept files)) (keeps_all e.named e.given after e.words _ e.code files (clients_of comes had endings) (AreKept files) (AreKept files) (text_ends e is) (jobs_come e after ports (λ n. (none n).1) is)
           (scripts_kept received receipts comes had endings e.named e.given known e.words _ e.code (λ lost. lost ≡ lost_none) come (AreKept files)
           (λ lost same rack book calls are written. are_kept received rack [] receipts book calls are (subst (λ (l : Lost). AreWritten received (recorded_in rack) rack.image_out [] book receipts l) same written)))
           (clients_kept received receipts comes had endings e.named e.given known e.words _ e.code (λ lost. lost ≡ lost_none) come (AreKept files) (live_whole received receipts e.named.holds))
-          (talks_kept received receipts comes had endings e.named e.given known e.words _ e.code (λ lost. lost ≡ lost_none) come (AreKept files) (live_whole received receipts e.named.holds));
+          (talks_kept received receipts comes had endings e.named e.given known e.words _ e.code (λ lost. lost ≡ lost_none) come (AreKept files) (live_whole received receipts e.named.holds))) (keeps_others received receipts comes had endings after e ports so none is);
       misuse = λ misused request asks. asks_nothing e is request asks misused;
       some = some_ask;
       others = keeps_others received receipts comes had endings after e ports so none is;
+      apart = keeps_apart e is;
       nothing = keeps_nothing received receipts comes had endings after e ports so none is;
       fronts_too = λ unwritten. absurd (all_written e is unwritten);
     }
@@ -158,42 +222,25 @@ pub keeps_in_part : {C : Type 0} (words : List Text) (named : Named) (left : Lea
     → IsCutFor named left words given out_before out_after
     → KeepsOthers (run_of named.holds given.input out_before out_after words code) given.ports left.ports (kept_by received receipts) (clients_of comes had endings)
     → KeepsNothing (run_of named.holds given.input out_before out_after words code) given.ports left.ports (kept_by received receipts) (clients_of comes had endings)
-    → KeepsPromises (run_of named.holds given.input out_before out_after words code) (front_of named.holds given.input out_before out_after words) given.ports left.ports (kept_by received receipts) (clients_of comes had endings)
+    → KeepsPromises named.leads (run_of named.holds given.input out_before out_after words code) (front_of named.holds given.input out_before out_after words) given.ports left.ports (kept_by received receipts) (clients_of comes had endings)
 keeps_in_part words named left given out_before out_after code received receipts comes had endings known so none ports none_ports unwritten is others nothing =
     let cut = cut_ends received receipts (ends_of endings) words named left given out_before out_after so none ports none_ports is in
     let files = kept_by received receipts in
     record {
       one = one_request words;
       ends = omega (arith, unwritten);
-      all = record {
-        plans = no_plans _ unwritten;
-        checks = no_checks _ unwritten;
-        runs = no_runs _ unwritten;
-        images = no_images _ unwritten;
-        directions = no_directions _ unwritten;
-        switches = no_switches _ unwritten;
-        orders = no_orders _ unwritten;
-        drives = no_drives _ _ _ unwritten;
-        stops = no_stops _ _ _ unwritten;
-        replies = no_replies _ unwritten;
-        pictures = no_pictures _ unwritten;
-        prices = no_prices _ unwritten;
-        scripts = λ rack scripts workers asks written. absurd (written unwritten);
-        live = λ rack names workers asks written. absurd (written unwritten);
-        talks = λ rack asks written. absurd (written unwritten);
-        replays = no_replays _ unwritten;
-        refusals = no_refusals _ unwritten;
-      };
+      jobs = λ job asks. ((λ done. absurd (omega (arith, done, unwritten))), λ refused. absurd (omega (arith, refused, unwritten)));
       misuse = λ misused request asks. absurd (omega (arith, misused, unwritten));
       some = some_ask;
       others = others;
+      apart = λ job asks. inr (inr unwritten);
       nothing = nothing;
       fronts_too = λ same. (
         cut.status,
         cut.either,
-        keeps_all named given left.ports words _ cut.status files (clients_of comes had endings) (AreKeptInPart files) (AreToldKept files) cut.texts cut.jobs
+        keeps_jobs (world_of (front_of named.holds given.input out_before out_after words cut.status) given.ports left.ports files (clients_of comes had endings) (AreKeptInPart files) (AreToldKept files)) (keeps_all named given left.ports words _ cut.status files (clients_of comes had endings) (AreKeptInPart files) (AreToldKept files) cut.texts cut.jobs
             (scripts_kept received receipts comes had endings named given known words _ cut.status (λ lost. ⊤) cut.sessions (AreKeptInPart files) (λ lost may rack book calls are written. are_part received rack [] receipts book calls are lost written))
             (clients_kept received receipts comes had endings named given known words _ cut.status (λ lost. ⊤) cut.sessions (AreToldKept files) (live_told received receipts named.holds))
-            (talks_kept received receipts comes had endings named given known words _ cut.status (λ lost. ⊤) cut.sessions (AreToldKept files) (live_told received receipts named.holds)),
+            (talks_kept received receipts comes had endings named given known words _ cut.status (λ lost. ⊤) cut.sessions (AreToldKept files) (live_told received receipts named.holds))) others,
       );
     }

@@ -32,16 +32,16 @@ use Rattle.drive_answers.specs.Answers as drives
 use Rattle.drive_answers.specs.Answers.{IsDriveAnswer, IsDrivenOver, IsFirstDriveWrong, IsTried, rack_for, switches_in}
 use Rattle.drive_answers.specs.Endings.{completed_line, fault_words, left_line, stopped_line}
 use Rattle.drive_answers.specs.Ways.{IsUnopened, Names, Ways, used}
-use Rattle.exchange.proofs.AskedJobs.{JobsCome, Responded, ToldInPart, never_done, not_done, the_run}
+use Rattle.exchange.proofs.AskedJobs.{JobsCome, Responded, ToldInPart, never_done, the_run}
 use Rattle.exchange.proofs.EndStatuses.{gave_up}
 use Rattle.exchange.proofs.HeldFiles.{given_text, held_files}
-use Rattle.exchange.proofs.PromisedRefusals.{done_is, unwritten_is}
+use Rattle.exchange.proofs.PromisedRefusals.{done_is}
 use Rattle.exchange.proofs.PromisedPlans.{plan_is}
 use Rattle.exchange.proofs.PromisedRuns.{denoted, scheduled}
 use Rattle.exchange.proofs.PromisedSwitches.{HoldsBoard, schedule_of, wired_so}
-use Rattle.exchange.specs.Promises.{AreHeld, AreNoWays, HasAnswered, HasDriven, HasGivenUp, HasRefusedDrive, HasStopped, HoldsBatch, HoldsGiven, IsFirstWrongOn, IsScheduled, IsWired, KeepsDrives, KeepsStops, Ports, Run, Stands, StoodInTurn, lines_told, SaySchedule, lacking, no_setting, ports_of, switches_of, texts_wrong, wiring_wrong}
+use Rattle.exchange.specs.Promises.{AreHeld, AreNoWays, HasAnswered, HasDriven, HasGivenUp, HasRefusedDrive, HasStopped, HoldsBatch, HoldsGiven, IsFirstWrongOn, IsScheduled, IsWired, Ports, Run, Stands, StoodInTurn, lines_told, SaySchedule, lacking, no_setting, ports_of, switches_of, texts_wrong, wiring_wrong}
+use Rattle.exchange.proofs.KeepsEach.{KeepsDrives, KeepsStops}
 use Rattle.exchange.specs.Responses.{Given as Knows, Named, source_in, text_in}
-use Rattle.exchange.specs.declared.limits.TheConstants.{UNWRITTEN}
 use Rattle.link_graph.specs.Schedules.{IsScheduleOf}
 use Rattle.named_files.specs.declared.unanswered.Unanswered.TheVariants as why
 use Rattle.plan_answers.specs.Refusals.{IsRefused, Printed}
@@ -381,9 +381,6 @@ keeps_drives named known after words prints status come batch port port_b from w
   ]
 ]
 
-pub no_drives : (run : Run) (before after : Ways) → run.status ≡ UNWRITTEN → KeepsDrives run before after
-no_drives run before after unwritten batch port port_b from wiring first goes_on workers done = absurd (not_done run _ unwritten done)
-
 -- ---- where it ends early
 
 -- what is so of the texts, however the drive went
@@ -611,6 +608,3 @@ keeps_stops named known after words prints status come batch port port_b from wi
     | inr none ↦ inr (inr (gave_up (the_run named known words prints status) why.NoMemory none.prints, none.ports_are))
   ]
 ]
-
-pub no_stops : (run : Run) (before after : Ways) → run.status ≡ UNWRITTEN → KeepsStops run before after
-no_stops run before after unwritten batch port port_b from wiring first goes_on workers asks refused = absurd (unwritten_is run.status unwritten refused)

@@ -5,11 +5,11 @@ use Rattle.batch.specs.Extent.{widest}
 use Rattle.batch.specs.declared.transfer.Transfer.{Transfer}
 use Rattle.clap.specs.Words.{Text}
 use Rattle.command_words.specs.declared.jobs.Job.TheVariants.{Draw, Prices}
-use Rattle.exchange.proofs.AskedJobs.{Answers, never_done, not_done, text_done}
+use Rattle.exchange.proofs.AskedJobs.{Answers, never_done, text_done}
 use Rattle.exchange.proofs.HeldFiles.{given_text}
-use Rattle.exchange.specs.Promises.{HasDrawn, HasPriced, IsTitled, KeepsPictures, KeepsPrices, Run, StandsIn}
+use Rattle.exchange.specs.Promises.{HasDrawn, HasPriced, IsTitled, Run, StandsIn}
+use Rattle.exchange.proofs.KeepsEach.{KeepsPictures, KeepsPrices}
 use Rattle.exchange.specs.Responses.{text_in}
-use Rattle.exchange.specs.declared.limits.TheConstants.{UNWRITTEN}
 use Rattle.link_graph.specs.Certificates.{Naming}
 use Rattle.plan_answers.specs.Drawings.{IsDrawnWith, drawn, undrawn}
 use Rattle.plan_answers.specs.Pricing.{IsPriced, priced, unpriced}
@@ -109,9 +109,6 @@ keeps_pictures run all batch schedule chosen done =
     let holds = run.holds in
     drawn_so run batch schedule chosen (text_in is.files.list) (text_in is.files.other) is.answer.0 is.printed (given_text holds batch is.files.list is.held.list) (given_text holds schedule is.files.other is.held.other) is.prints (sym is.status ∙ done.1) is.answer.1
 
-pub no_pictures : (run : Run) → run.status ≡ UNWRITTEN → KeepsPictures run
-no_pictures run unwritten batch schedule chosen done = absurd (not_done run _ unwritten done)
-
 -- ---- prices
 
 priced_so : (run : Run) (batch schedule : Text) (text other : List ℕ) (printed : Printed)
@@ -137,6 +134,3 @@ pub keeps_prices : (run : Run) → Answers run → KeepsPrices run
 keeps_prices run all batch schedule done =
     let is = text_done run (Prices batch schedule) tt all done in
     priced_so run batch schedule (text_in is.files.list) (text_in is.files.other) is.printed (given_text run.holds batch is.files.list is.held.list) (given_text run.holds schedule is.files.other is.held.other) is.prints (sym is.status ∙ done.1) is.answer
-
-pub no_prices : (run : Run) → run.status ≡ UNWRITTEN → KeepsPrices run
-no_prices run unwritten batch schedule done = absurd (not_done run _ unwritten done)

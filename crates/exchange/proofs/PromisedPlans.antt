@@ -8,11 +8,11 @@ use Rattle.batch.specs.Text.{Denotes, IsWithin}
 use Rattle.batch.specs.declared.transfer.Transfer.{Transfer}
 use Rattle.clap.specs.Words.{Text}
 use Rattle.command_words.specs.declared.jobs.Job.TheVariants.{Check, Direct, Plan}
-use Rattle.exchange.proofs.AskedJobs.{Answers, never_done, not_done, text_done}
+use Rattle.exchange.proofs.AskedJobs.{Answers, never_done, text_done}
 use Rattle.exchange.proofs.HeldFiles.{given_text}
-use Rattle.exchange.specs.Promises.{HasChecked, HasDirected, HasPlanned, HoldsBatch, IsPlanOf, KeepsChecks, KeepsDirections, KeepsPlans, Run}
+use Rattle.exchange.specs.Promises.{HasChecked, HasDirected, HasPlanned, HoldsBatch, IsPlanOf, Run}
+use Rattle.exchange.proofs.KeepsEach.{KeepsChecks, KeepsDirections, KeepsPlans}
 use Rattle.exchange.specs.Responses.{text_in}
-use Rattle.exchange.specs.declared.limits.TheConstants.{UNWRITTEN}
 use Rattle.link_graph.proofs.Koenig.{certified}
 use Rattle.link_graph.specs.Certificates.{Naming}
 use Rattle.move_directions.proofs.Bounds.{fewest}
@@ -69,9 +69,6 @@ keeps_plans run all file planning workers done =
     let is = text_done run (Plan file planning workers) tt all done in
     planned run file planning (text_in is.files.list) is.printed (given_text run.holds file is.files.list is.held.list) is.prints (sym is.status ∙ done.1) is.answer
 
-pub no_plans : (run : Run) → run.status ≡ UNWRITTEN → KeepsPlans run
-no_plans run unwritten file planning workers done = absurd (not_done run _ unwritten done)
-
 -- ---- checks
 
 checked : (run : Run) (batch schedule : Text) (text other : List ℕ) (printed : Printed) → run.holds batch text → run.holds schedule other → run.prints printed.text → printed.status ≡ DONE → IsChecked widest text other printed → HasChecked run batch schedule
@@ -99,9 +96,6 @@ keeps_checks run all batch schedule done =
     let holds = run.holds in
     checked run batch schedule (text_in is.files.list) (text_in is.files.other) is.printed (given_text holds batch is.files.list is.held.list) (given_text holds schedule is.files.other is.held.other) is.prints (sym is.status ∙ done.1) is.answer
 
-pub no_checks : (run : Run) → run.status ≡ UNWRITTEN → KeepsChecks run
-no_checks run unwritten batch schedule done = absurd (not_done run _ unwritten done)
-
 -- ---- directions
 
 directed : (run : Run) (file : Text) (text : List ℕ) (printed : Printed) → run.holds file text → run.prints printed.text → printed.status ≡ DONE → IsDirected text printed → HasDirected run file
@@ -123,6 +117,3 @@ pub keeps_directions : (run : Run) → Answers run → KeepsDirections run
 keeps_directions run all moves done =
     let is = text_done run (Direct moves) tt all done in
     directed run moves (text_in is.files.list) is.printed (given_text run.holds moves is.files.list is.held.list) is.prints (sym is.status ∙ done.1) is.answer
-
-pub no_directions : (run : Run) → run.status ≡ UNWRITTEN → KeepsDirections run
-no_directions run unwritten moves done = absurd (not_done run _ unwritten done)

@@ -15,9 +15,9 @@ use Rattle.command_words.specs.declared.jobs.Job.TheVariants.{Apply, Check, Dire
 use Rattle.exchange.proofs.AskedJobs.{Answers, IsAnswered}
 use Rattle.exchange.proofs.EndStatuses.{gave_up}
 use Rattle.exchange.proofs.PromisedRights.{drawings_right, switches_right}
-use Rattle.exchange.specs.Promises.{AreRightTexts, CanBeRun, HasRefused, IsFirstOverlapIn, IsFirstWrongDrawn, IsFirstWrongIn, IsFirstWrongOn, IsOfTextsAlone, IsShown, KeepsRefusals, Run, invalid, lacking, no_range, outside, texts_wrong, wiring_wrong}
+use Rattle.exchange.specs.Promises.{AreRightTexts, CanBeRun, HasRefused, IsFirstOverlapIn, IsFirstWrongDrawn, IsFirstWrongIn, IsFirstWrongOn, IsShown, Run, invalid, lacking, no_range, outside, texts_wrong, wiring_wrong}
+use Rattle.exchange.proofs.KeepsEach.{IsOfTextsAlone, KeepsRefusals}
 use Rattle.exchange.specs.Responses.{IsOfTexts, IsTextAnswer, source_in, text_in}
-use Rattle.exchange.specs.declared.limits.TheConstants.{UNWRITTEN}
 use Rattle.move_directions.proofs.OneReading as moves_reading
 use Rattle.plan_answers.proofs.OneDrawing.{read_right}
 use Rattle.plan_answers.proofs.OneSource.{from_right, right_denoted, right_or_wrong}
@@ -68,7 +68,7 @@ switched_on from text (Some wiring) printed (switching.miswired fault first line
 undrawn_so : (text schedule : List ℕ) (chosen : Option (List ℕ)) (refusal : Refusal) → IsFirstUndrawn widest text schedule chosen refusal → IsFirstWrongDrawn text schedule chosen refusal
 undrawn_so text schedule chosen refusal (drawings.no_range bad is) = no_range bad is
 undrawn_so text schedule chosen refusal (drawings.invalid range wanted wrong) = invalid range wanted wrong
-undrawn_so text schedule chosen refusal (drawings.no_setting range batch settings verdict k wanted valid beyond is) = outside range batch settings k wanted valid.read beyond is
+undrawn_so text schedule chosen refusal (drawings.no_setting range batch settings k wanted read beyond is) = outside range batch settings k wanted read beyond is
 
 wrong_of : (job : Job) (texts : Files (List ℕ)) (printed : Printed) → IsOfTextsAlone job → IsTextAnswer job texts printed → printed.status ≡ REFUSED → Refused (IsFirstWrongIn job texts) printed
 wrong_of (Plan file planning workers) texts printed alone (answers.planned batch denotes plan done) status = absurd (done_is printed.status done status)
@@ -170,9 +170,3 @@ keeps_refusals run all job alone asks status = elim (all job (of_texts job alone
   | inl is ↦ inl (refused run job alone is status)
   | inr gives_up ↦ inr (gave_up run gives_up.0 gives_up.1)
 ]
-
-pub unwritten_is : (status : ℕ) → status ≡ UNWRITTEN → status ≡ REFUSED → ⊥
-unwritten_is status unwritten refused = omega (arith, unwritten, refused)
-
-pub no_refusals : (run : Run) → run.status ≡ UNWRITTEN → KeepsRefusals run
-no_refusals run unwritten job alone asks status = absurd (unwritten_is run.status unwritten status)

@@ -5,15 +5,15 @@ use Rattle.batch.specs.Extent.{Extent}
 use Rattle.batch.specs.ShapeText.{DenotesShape}
 use Rattle.clap.specs.Words.{Text}
 use Rattle.command_words.specs.declared.jobs.Job.TheVariants.{Replay}
-use Rattle.exchange.proofs.AskedJobs.{Answers, never_done, not_done, text_done}
+use Rattle.exchange.proofs.AskedJobs.{Answers, never_done, text_done}
 use Rattle.exchange.proofs.EndStatuses.{gave_up}
 use Rattle.exchange.proofs.HeldFiles.{given_text}
-use Rattle.exchange.proofs.PromisedRefusals.{done_is, unwritten_is}
+use Rattle.exchange.proofs.PromisedRefusals.{done_is}
 use Rattle.exchange.proofs.PromisedSessions.{opens}
 use Rattle.exchange.specs.Promises as promise
-use Rattle.exchange.specs.Promises.{AsksFor, HasDone, HasGivenUp, HasRefusedReplay, HasReplayed, HoldsGiven, IsFirstWrongReplayed, KeepsReplays, Run}
+use Rattle.exchange.specs.Promises.{AsksFor, HasGivenUp, HasRefusedReplay, HasReplayed, HoldsGiven, IsFirstWrongReplayed, Run}
+use Rattle.exchange.proofs.KeepsEach.{HasDone, KeepsReplays}
 use Rattle.exchange.specs.Responses.{text_in}
-use Rattle.exchange.specs.declared.limits.TheConstants.{UNWRITTEN}
 use Rattle.plan_answers.specs.Refusals.{Printed, Refuses}
 use Rattle.plan_answers.specs.declared.limits.TheConstants.{DONE, REFUSED}
 use Rattle.refusals.specs.declared.refusal.Refusal.{Refusal}
@@ -81,6 +81,3 @@ replay_refused run all shape recorded image first asks status = elim (all (Repla
 
 pub keeps_replays : (run : Run) → Answers run → KeepsReplays run
 keeps_replays run all shape recorded image first = (replay_done run all shape recorded image first, replay_refused run all shape recorded image first)
-
-pub no_replays : (run : Run) → run.status ≡ UNWRITTEN → KeepsReplays run
-no_replays run unwritten shape recorded image first = (λ done. absurd (not_done run _ unwritten done), λ asks refused. absurd (unwritten_is run.status unwritten refused))

@@ -7,13 +7,12 @@ use Rattle.clap.specs.Words.{Text}
 use Rattle.command_words.specs.Jobs.{Files, files_of}
 use Rattle.command_words.specs.declared.jobs.Job.TheVariants.{C004}
 use Rattle.drive_answers.specs.Ways.{Ways}
-use Rattle.exchange.proofs.AskedJobs.{JobsCome, Responded, ToldInPart, never_done, not_done, the_run}
+use Rattle.exchange.proofs.AskedJobs.{JobsCome, Responded, ToldInPart, never_done, the_run}
 use Rattle.exchange.proofs.EndStatuses.{gave_up}
 use Rattle.exchange.proofs.HeldFiles.{pass}
-use Rattle.exchange.proofs.PromisedRefusals.{unwritten_is}
-use Rattle.exchange.specs.Promises.{HasGivenUp, HasReplied, HasRepliedInPart, KeepsReplies, Run}
+use Rattle.exchange.specs.Promises.{HasGivenUp, HasReplied, HasRepliedInPart, Run}
+use Rattle.exchange.proofs.KeepsEach.{KeepsReplies}
 use Rattle.exchange.specs.Responses.{Given, IsC004By, Named}
-use Rattle.exchange.specs.declared.limits.TheConstants.{UNWRITTEN}
 use Rattle.named_files.specs.Contents.{AreContents, Holding}
 use Rattle.named_files.specs.declared.unanswered.Unanswered.TheVariants as why
 use Rattle.plan_answers.specs.Refusals.{Printed}
@@ -108,6 +107,3 @@ module _ (named : Named) (given : Given) (ports : Ways) (words : List Text) (pri
       ]
     ],
   )
-
-pub no_replies : (run : Run) → run.status ≡ UNWRITTEN → KeepsReplies run
-no_replies run unwritten = (λ done. absurd (not_done run _ unwritten done), λ asks refused. absurd (unwritten_is run.status unwritten refused))

@@ -6,12 +6,12 @@ use Rattle.batch.specs.declared.transfer.Transfer.{Transfer}
 use Rattle.clap.specs.Words.{Text}
 use Rattle.command_words.specs.Jobs.{schedule_in}
 use Rattle.command_words.specs.declared.jobs.Job.TheVariants.{Apply, Run as RunJob}
-use Rattle.exchange.proofs.AskedJobs.{Answers, never_done, not_done, text_done}
+use Rattle.exchange.proofs.AskedJobs.{Answers, never_done, text_done}
 use Rattle.exchange.proofs.HeldFiles.{given_text}
 use Rattle.exchange.proofs.PromisedPlans.{plan_is, wider}
-use Rattle.exchange.specs.Promises.{BeginsWith, HasApplied, HasMoved, HasRunBatch, HoldsGiven, IsScheduled, KeepsImages, KeepsRuns, Run}
+use Rattle.exchange.specs.Promises.{BeginsWith, HasApplied, HasMoved, HasRunBatch, HoldsGiven, IsScheduled, Run}
+use Rattle.exchange.proofs.KeepsEach.{KeepsImages, KeepsRuns}
 use Rattle.exchange.specs.Responses.{source_in, text_in}
-use Rattle.exchange.specs.declared.limits.TheConstants.{UNWRITTEN}
 use Rattle.module_memory.specs.Store.{Store}
 use Rattle.plan_answers.specs.Refusals.{Printed}
 use Rattle.plan_answers.specs.Schedules.{IsScheduleFrom}
@@ -76,9 +76,6 @@ keeps_runs run all shape batch from image workers done =
     let is = text_done run (RunJob shape batch from image workers) tt all done in
     ran_so run shape batch from image (text_in is.files.list) is.files.other is.files.image is.printed (given_text run.holds batch is.files.list is.held.list) is.held.other is.held.image is.prints (sym is.status ∙ done.1) is.answer
 
-pub no_runs : (run : Run) → run.status ≡ UNWRITTEN → KeepsRuns run
-no_runs run unwritten shape batch from image workers done = absurd (not_done run _ unwritten done)
-
 applied : (run : Run) (shape batch image : Text) (text bytes : List ℕ) (printed : Printed) → run.holds batch text → run.holds image bytes → run.prints printed.text → printed.status ≡ DONE → IsApplied shape text bytes printed → HasApplied run shape batch image
 applied run shape batch image text bytes printed held held_image prints status (ran r done) = record {
   transfers = r.transfers;
@@ -94,6 +91,3 @@ keeps_images run all shape batch image workers done =
     let is = text_done run (Apply shape batch image workers) tt all done in
     let holds = run.holds in
     applied run shape batch image (text_in is.files.list) (text_in is.files.other) is.printed (given_text holds batch is.files.list is.held.list) (given_text holds image is.files.other is.held.other) is.prints (sym is.status ∙ done.1) is.answer
-
-pub no_images : (run : Run) → run.status ≡ UNWRITTEN → KeepsImages run
-no_images run unwritten shape batch image workers done = absurd (not_done run _ unwritten done)

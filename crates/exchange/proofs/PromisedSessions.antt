@@ -17,7 +17,7 @@ use Rattle.clap.specs.Words.{Text}
 use Rattle.client_session.proofs.Lists.{every_both}
 use Rattle.client_session.specs.Seats.{SeatView}
 use Rattle.client_session.specs.Sessions.{HasEnded, IsSession, added_entries, lines_of, lost_entries, lost_texts}
-use Rattle.client_session.specs.Turns.{AreReadings, IsAboveReadings, IsBegun as HasBegunBefore, IsLostTurn, IsTurn, LostTurn, Turn as Turned, readings_of, turn_text}
+use Rattle.client_session.specs.Turns.{AreReadings, IsAboveReadings, IsBegun as HasBegunBefore, IsFetching, IsLostTurn, IsTurn, LostTurn, Turn as Turned, readings_of, turn_text}
 use Rattle.client_session.specs.declared.command.SessionCommand.{SessionCommand}
 use Rattle.client_session.specs.declared.command.SessionCommand.TheVariants.{Batch, Bye, Drop, Peek, Plan as PlanOf, Poke, Progress, Run as RunOf, Show}
 use Rattle.client_session.specs.declared.fault.ServeFault.{ServeFault}
@@ -76,34 +76,30 @@ plain number recorded old new fault after read made told untold turns left s all
 whole_told : (old new : SeatView) (read : List ℕ) (made : List Entry) (told : List ℕ) (turns : List Turned) (left : List ℕ) → IsSession false old new turns read left made told → IsSession false old new turns read left made (told ++ [])
 whole_told old new read made told turns left s = subst (λ (x : List ℕ). IsSession false old new turns read left made x) (sym (append-nil told)) s
 
-no_entry : (es : List Entry) → es ≡ [] → length es ≤ 1
-no_entry es none = let e : length es ≡ 0 = ap (λ (l : List Entry). length l) none in omega (arith, e)
+fetching : (by : ℕ) (command : Option SessionCommand) (es : List Entry) → HasBegunBefore by command es → (id : ℕ) × IsFetching by id es
+fetching by (Some (PlanOf id)) es is = (id, is)
+fetching by None es none = (0, inl none)
+fetching by (Some (Batch count)) es none = (0, inl none)
+fetching by (Some (RunOf id)) es none = (0, inl none)
+fetching by (Some (Show id)) es none = (0, inl none)
+fetching by (Some (Drop id)) es none = (0, inl none)
+fetching by (Some (Peek «module» address)) es none = (0, inl none)
+fetching by (Some (Poke «module» address word)) es none = (0, inl none)
+fetching by (Some Progress) es none = (0, inl none)
+fetching by (Some Bye) es none = (0, inl none)
 
-few_before : (by : ℕ) (command : Option SessionCommand) (es : List Entry) → HasBegunBefore by command es → length es ≤ 1
-few_before by (Some (PlanOf id)) es (inl none) = no_entry es none
-few_before by (Some (PlanOf id)) es (inr one) = let e : length es ≡ 1 = ap (λ (l : List Entry). length l) one.1 in omega (arith, e)
-few_before by None es none = no_entry es none
-few_before by (Some (Batch count)) es none = no_entry es none
-few_before by (Some (RunOf id)) es none = no_entry es none
-few_before by (Some (Show id)) es none = no_entry es none
-few_before by (Some (Drop id)) es none = no_entry es none
-few_before by (Some (Peek «module» address)) es none = no_entry es none
-few_before by (Some (Poke «module» address word)) es none = no_entry es none
-few_before by (Some Progress) es none = no_entry es none
-few_before by (Some Bye) es none = no_entry es none
+lost_fetching : (by : ℕ) (lost : List LostTurn) → AllByRecursion (IsLostTurn by) lost → length lost ≤ 1 → (id : ℕ) × IsFetching by id (lost_entries lost)
+lost_fetching by [] all one = (0, inl refl)
+lost_fetching by (t ∷ []) all one = subst (λ (es : List Entry). (id : ℕ) × IsFetching by id es) (sym (append-nil t.entries)) (fetching by t.command t.entries all.0.begun)
+lost_fetching by (t ∷ u ∷ more) all one = absurd (omega (arith, one))
 
-few_lost : (by : ℕ) (lost : List LostTurn) → AllByRecursion (IsLostTurn by) lost → length lost ≤ 1 → length (lost_entries lost) ≤ 1
-few_lost by [] all one = omega arith
-few_lost by (t ∷ []) all one = subst (λ (es : List Entry). length es ≤ 1) (sym (append-nil t.entries)) (few_before by t.command t.entries all.0.begun)
-few_lost by (t ∷ u ∷ more) all one = absurd (omega (arith, one))
-
-ended_so : (number : ℕ) (recorded : Bool) (fault : Option ServeFault) (after : Option (List ℕ)) (old new : SeatView) (read : List ℕ) (made : List Entry) (told : List ℕ) → old.log ≡ [] → new.asked ≡ made → (recorded ≡ false → old.loses ≡ false) → (fault ≡ Some Record → recorded ≡ true) → HasEnded fault after old new read made told → HasEndedSo number recorded old new fault after read made told
-ended_so number recorded None after old new read made told none same keeps lost (turns, left, s, inl whole, all) =
+ended_so : (number : ℕ) (recorded : Bool) (fault : Option ServeFault) (after : Option (List ℕ)) (old new : SeatView) (read : List ℕ) (made : List Entry) (told : List ℕ) → old.log ≡ [] → old.session ≡ number → new.asked ≡ made → (recorded ≡ false → old.loses ≡ false) → (fault ≡ Some Record → recorded ≡ true) → HasEnded fault after old new read made told → HasEndedSo number recorded old new fault after read made told
+ended_so number recorded None after old new read made told none its same keeps lost (turns, left, s, inl whole, all) =
     plain number recorded old new None after read made told [] turns left (whole_told old new read made told turns left s) (all ∙ same) (refl, refl, refl, inl (whole.0, ap₂ (λ (x y : List ℕ). x ++ y) whole.1 (no_more after whole.2)))
-ended_so number recorded None after old new read made told none same keeps lost (turns, left, s, inr bye, all) =
+ended_so number recorded None after old new read made told none its same keeps lost (turns, left, s, inr bye, all) =
     plain number recorded old new None after read made told [] turns left (whole_told old new read made told turns left s) (all ∙ same) (refl, refl, refl, inr bye)
-ended_so number recorded (Some Write) after old new read made told none same keeps lost c = plain number recorded old new (Some Write) after read made told c.missing c.turns c.rest c.session (c.recorded ∙ same) (refl, refl, c.may_end, c.few, λ unrecorded. c.last (keeps unrecorded))
-ended_so number recorded (Some Record) after old new read made told none same keeps lost b = record {
+ended_so number recorded (Some Write) after old new read made told none its same keeps lost c = plain number recorded old new (Some Write) after read made told c.missing c.turns c.rest c.session (c.recorded ∙ same) (refl, refl, c.may_end, c.few, λ unrecorded. c.last (keeps unrecorded))
+ended_so number recorded (Some Record) after old new read made told none its same keeps lost b = record {
   turns = b.turns;
   held = b.held;
   left = lost_texts b.lost ++ b.rest;
@@ -115,13 +111,13 @@ ended_so number recorded (Some Record) after old new read made told none same ke
   entries = b.entries_are ∙ ap (λ (x : List Entry). x ++ lost_entries b.lost) b.session.entries_are;
   stand = subst (λ (x : List Entry). Starts (x ++ added_entries b.turns) new.log) none b.recorded;
   readings = b.session.readings;
-  ends = (lost refl, refl, few_lost old.session b.lost b.are_lost b.one, b.may_end, b.few);
+  ends = (lost refl, refl, subst (λ (n : ℕ). (id : ℕ) × IsFetching n id (lost_entries b.lost)) its (lost_fetching old.session b.lost b.are_lost b.one), b.may_end, b.few);
 }
-ended_so number recorded (Some Read) after old new read made told none same keeps lost e = plain number recorded old new (Some Read) after read made told [] e.0 e.1 (whole_told old new read made told e.0 e.1 e.2) (e.5 ∙ same) (refl, refl, refl, e.3)
-ended_so number recorded (Some LineTooLong) after old new read made told none same keeps lost e = plain number recorded old new (Some LineTooLong) after read made told [] e.0 e.1 (whole_told old new read made told e.0 e.1 e.2) (e.5 ∙ same) (refl, refl, refl, e.3)
-ended_so number recorded (Some Cut) after old new read made told none same keeps lost e = plain number recorded old new (Some Cut) after read made told [] e.0 e.1 (whole_told old new read made told e.0 e.1 e.2) (e.5 ∙ same) (refl, refl, refl, e.3)
-ended_so number recorded (Some Turns) after old new read made told none same keeps lost e = plain number recorded old new (Some Turns) after read made told [] e.0 e.1 (whole_told old new read made told e.0 e.1 e.2) (e.5 ∙ same) (refl, refl, refl, e.3)
-ended_so number recorded (Some NoMemory) after old new read made told none same keeps lost e = plain number recorded old new (Some NoMemory) after read made told [] e.0 e.1 (whole_told old new read made told e.0 e.1 e.2) (e.5 ∙ same) (refl, refl, refl, e.3)
+ended_so number recorded (Some Read) after old new read made told none its same keeps lost e = plain number recorded old new (Some Read) after read made told [] e.0 e.1 (whole_told old new read made told e.0 e.1 e.2) (e.5 ∙ same) (refl, refl, refl, e.3)
+ended_so number recorded (Some LineTooLong) after old new read made told none its same keeps lost e = plain number recorded old new (Some LineTooLong) after read made told [] e.0 e.1 (whole_told old new read made told e.0 e.1 e.2) (e.5 ∙ same) (refl, refl, refl, e.3)
+ended_so number recorded (Some Cut) after old new read made told none its same keeps lost e = plain number recorded old new (Some Cut) after read made told [] e.0 e.1 (whole_told old new read made told e.0 e.1 e.2) (e.5 ∙ same) (refl, refl, refl, e.3)
+ended_so number recorded (Some Turns) after old new read made told none its same keeps lost e = plain number recorded old new (Some Turns) after read made told [] e.0 e.1 (whole_told old new read made told e.0 e.1 e.2) (e.5 ∙ same) (refl, refl, refl, e.3)
+ended_so number recorded (Some NoMemory) after old new read made told none its same keeps lost e = plain number recorded old new (Some NoMemory) after read made told [] e.0 e.1 (whole_told old new read made told e.0 e.1 e.2) (e.5 ∙ same) (refl, refl, refl, e.3)
 
 -- ---- one session
 
@@ -146,7 +142,7 @@ pub record IsSeen (b : Beginning) (calls : Calls) (came : Option (List ℕ)) (t 
 
 pub one_session : (b : Beginning) (calls : Calls) (before after : Option (List ℕ)) (t : Transcript) → b.loses ≡ calls.recorded → IsServedSession b before after t → HasOwn calls t.part → (s : Session) × IsSeen b calls before t s
 one_session b calls before after t recorded h owns =
-    let e = ended_so t.part.session calls.recorded t.fault after h.seat _ h.read t.part.asked t.told h.is_new.log refl (λ none. h.is_new.loses_is ∙ recorded ∙ none) (λ is. sym recorded ∙ h.lost is) h.ended in
+    let e = ended_so t.part.session calls.recorded t.fault after h.seat _ h.read t.part.asked t.told h.is_new.log h.is_new.session_is refl (λ none. h.is_new.loses_is ∙ recorded ∙ none) (λ is. sym recorded ∙ h.lost is) h.ended in
     let turns = e.turns ++ e.held in (
       session_so t.part.session t.fault e.turns e.held t.told (e.left ++ unwrap_or after []),
       record {

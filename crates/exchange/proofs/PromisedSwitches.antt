@@ -20,12 +20,13 @@ use Rattle.crossbar.specs.declared.board.BoardWiring.{BoardWiring}
 use Rattle.crossbar.specs.declared.chip.Wiring.{Wiring}
 use Rattle.crossbar.specs.declared.pair.Pair.{Pair}
 use Rattle.crossbar.specs.declared.chip.Wiring.TheVariants.{Back, Board, Both, Forth}
-use Rattle.exchange.proofs.AskedJobs.{Answers, never_done, not_done, text_done}
+use Rattle.rack_answers.proofs.HeldSettings.{held_is_settled}
+use Rattle.exchange.proofs.AskedJobs.{Answers, never_done, text_done}
 use Rattle.exchange.proofs.HeldFiles.{given_text}
 use Rattle.exchange.proofs.PromisedRuns.{denoted, scheduled}
-use Rattle.exchange.specs.Promises.{HasOrdered, HasSwitched, HoldsGiven, IsScheduled, IsWired, KeepsOrders, KeepsSwitches, Run, Turn, wirings}
+use Rattle.exchange.specs.Promises.{HasOrdered, HasSwitched, HoldsGiven, IsScheduled, IsWired, Run, Turn, wirings}
+use Rattle.exchange.proofs.KeepsEach.{KeepsOrders, KeepsSwitches}
 use Rattle.exchange.specs.Responses.{source_in, text_in}
-use Rattle.exchange.specs.declared.limits.TheConstants.{UNWRITTEN}
 use Rattle.link_graph.specs.Schedules.{IsScheduleOf}
 use Rattle.module_memory.proofs.StepLists.{any_run}
 use Rattle.module_orders.proofs.Obeyed.{obeyed_is_placed, run_is_obeyed}
@@ -76,6 +77,7 @@ module _ (batch : List Transfer) (settings : List (List ℕ)) (fits : IsBatch ba
     are = λ k lt. turning_commands wiring (standing_before batch settings k) (pairs_at batch settings k) (standing k lt) (pairs_there k lt);
     quiet = λ k lt. quiet_turning wiring (standing_before batch settings k) (pairs_at batch settings k) (standing k lt) (pairs_there k lt);
     turn = λ switch k lt. settings_turn batch settings (room_of wiring) wiring switch k fits is has (omega arith) lt;
+    held = λ k lt same. held_is_settled batch settings k wiring fits is lt same;
   }
 
 turned_usual : (batch : List Transfer) (settings : List (List ℕ)) → IsBatch batch → IsScheduleOf batch settings → (wide : Bool) → is_wide batch ≡ wide → AllByRecursion (λ one. Turn one batch settings (sent_for one batch settings)) (if wide then Forth ∷ Back ∷ [] else Both ∷ [])
@@ -145,9 +147,6 @@ keeps_switches run all batch from wiring workers done =
     let is = text_done run (SwitchJob batch from wiring workers) tt all done in
     switched_on run batch from wiring (text_in is.files.list) is.files.other is.files.wiring is.printed (given_text run.holds batch is.files.list is.held.list) is.held.other is.held.wiring is.prints (sym is.status ∙ done.1) is.answer
 
-pub no_switches : (run : Run) → run.status ≡ UNWRITTEN → KeepsSwitches run
-no_switches run unwritten batch from wiring workers done = absurd (not_done run _ unwritten done)
-
 -- ---- `orders`
 
 -- a text can say how many settings there are
@@ -184,6 +183,3 @@ pub keeps_orders : (run : Run) → Answers run → KeepsOrders run
 keeps_orders run all batch from only workers done =
     let is = text_done run (Orders batch from only workers) tt all done in
     ordered run batch from only (text_in is.files.list) is.files.other is.printed (given_text run.holds batch is.files.list is.held.list) is.held.other is.prints (sym is.status ∙ done.1) is.answer
-
-pub no_orders : (run : Run) → run.status ≡ UNWRITTEN → KeepsOrders run
-no_orders run unwritten batch from only workers done = absurd (not_done run _ unwritten done)

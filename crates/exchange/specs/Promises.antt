@@ -19,7 +19,7 @@ use Rattle.c004_commands.specs.Commands.{AreCommands}
 use Rattle.c004_commands.specs.declared.command.Command.{Command}
 use Rattle.clap.specs.Words.{IsAmong, Text}
 use Rattle.clap.specs.declared.error.kind.ErrorKind.TheVariants.{DisplayHelp, DisplayVersion}
-use Rattle.command_words.specs.Jobs.{AskFor, Files, faults_of, files_of, input_name, recorded_in}
+use Rattle.command_words.specs.Jobs.{AskFor, Files, faults_of, file_uses, files_of, input_name, recorded_in}
 use Rattle.command_words.specs.declared.jobs.Job.{Job}
 use Rattle.command_words.specs.declared.jobs.Job.TheVariants.{Apply, C004, Check, Direct, Draw, Drive, Host, Orders, Plan, Prices, Replay, Run as RunJob, Serve, Switch as SwitchJob, Talk}
 use Rattle.crossbar.specs.Pairs.{switch_of}
@@ -43,6 +43,7 @@ use Rattle.move_directions.specs.declared.moves.Move.{Move}
 use Rattle.move_directions.specs.Directions.{NoneIsShorter}
 use Rattle.move_directions.specs.Moves.{Directs}
 use Rattle.move_directions.specs.Text.{Denotes as DenotesMoves}
+use Rattle.named_files.specs.Apart.{AreSeenApart, Leading}
 use Rattle.named_files.specs.Contents.{Holding}
 use Rattle.link_graph.specs.declared.link.End.{End}
 use Rattle.plan_answers.specs.Drawings.{AreShown, AreWanted}
@@ -52,14 +53,14 @@ use Rattle.plan_answers.specs.declared.setting_range.SettingRange.{SettingRange}
 use Rattle.schedule_picture.specs.Laws.{AreFewest, CellsOverlap, IsDrawnAt}
 use Rattle.schedule_picture.specs.Picture.{changes_words, columns_text, heading_text}
 use Rattle.schedule_picture.specs.declared.shown.Shown.{Shown}
-use Rattle.steady_schedule.specs.Changes.{changes}
+use Rattle.steady_schedule.specs.Changes.{changes, join_same}
 use Rattle.plan_answers.specs.declared.source.Planning.{Planning}
 use Rattle.plan_answers.specs.declared.source.Planning.TheVariants.{Plain, Steady}
 use Rattle.plan_answers.specs.declared.source.Source.{Source}
 use Rattle.plan_answers.specs.declared.source.Source.TheVariants as source
 use Rattle.rack_answers.specs.Reports.{report_for}
 use Rattle.rack_answers.specs.Switching.{lines_on}
-use Rattle.steady_schedule.specs.Needs.{ChangesAtNeed}
+use Rattle.steady_schedule.specs.Needs.{ChangesAtNeed, setting_at}
 use Rattle.steady_schedule.specs.Prices.{AreNeeded}
 use Rattle.switch_settings.specs.Racks.{is_wide}
 use Rattle.switch_settings.specs.Settings.{numbers_in, setting_pairs}
@@ -103,7 +104,7 @@ use Rattle.batch_book.specs.Seats.{own}
 use Rattle.batch_book.specs.Values.{greatest}
 use Rattle.batch_book.specs.declared.entry.Entry.{Entry}
 use Rattle.client_session.specs.Sessions.{EndByBye, GoOn, IsEndOfLastLine, MayEnd, added_entries, lines_of}
-use Rattle.client_session.specs.Turns.{AreReadings, IsTurn, Turn as Turned, turn_text}
+use Rattle.client_session.specs.Turns.{AreReadings, IsFetching, IsTurn, Turn as Turned, turn_text}
 use Rattle.command_words.specs.declared.jobs.Request.{Request}
 use Rattle.command_words.specs.declared.jobs.SharedRack.{SharedRack}
 use Rattle.session_answers.specs.Frames.{end_line as line_of_end, end_text, heading}
@@ -170,10 +171,6 @@ front_of holds input before after words status =
 -- the arguments ask for this job
 abbrev pub AsksFor : Run → Job → Type 0
 AsksFor run job = (quiet : Bool) × AskFor run.words (record { job = job; is_quiet = quiet })
-
--- they do, and the run ended with status 0
-abbrev pub HasDone : Run → Job → Type 0
-HasDone run job = AsksFor run job × (run.status ≡ DONE)
 
 -- the arguments ask for one thing at most
 abbrev pub AskForOne : List Text → Type 0
@@ -250,11 +247,6 @@ pub record HasPlanned (run : Run) (file : Text) (planning : Planning) : Type 0 w
   pub says : Says printed (said settings (Some named))
   pub prints : run.prints printed
 
-abbrev pub KeepsPlans : Run → Type 0
-KeepsPlans run =
-    (file : Text) (planning : Planning) (workers : ℕ) → HasDone run (Plan file planning workers)
-    → HasPlanned run file planning
-
 -- ---- 3: checks
 
 -- the text says a schedule of the batch with so many settings, none is shorter, and what is named
@@ -277,10 +269,6 @@ pub record HasChecked (run : Run) (batch schedule : Text) : Type 0 where
   pub held_schedule : run.holds schedule text
   pub shown : IsShown transfers text count
   pub prints : run.prints (codes "shortest " ++ decimal count ++ codes "\n")
-
-abbrev pub KeepsChecks : Run → Type 0
-KeepsChecks run =
-    (batch schedule : Text) → HasDone run (Check batch schedule) → HasChecked run batch schedule
 
 -- ---- 4: runs
 
@@ -324,17 +312,6 @@ pub record HasApplied (run : Run) (shape batch image : Text) : Type 0 where
   pub moved : HasMoved run shape (Some image) transfers left
   pub prints : run.prints (image_of left)
 
-abbrev pub KeepsRuns : Run → Type 0
-KeepsRuns run =
-    (shape batch : Text) (scheduled : Source Text) (image : Option Text) (workers : ℕ)
-    → HasDone run (RunJob shape batch scheduled image workers)
-    → HasRunBatch run shape batch scheduled image
-
-abbrev pub KeepsImages : Run → Type 0
-KeepsImages run =
-    (shape batch image : Text) (workers : ℕ) → HasDone run (Apply shape batch image workers)
-    → HasApplied run shape batch image
-
 -- ---- 5: directions
 
 -- The file held the text of moves. Printed was the text of a batch that does them, in their order,
@@ -352,9 +329,6 @@ pub record HasDirected (run : Run) (file : Text) : Type 0 where
       → NoneIsShorter moves (length settings)
   pub says : Denotes widest printed batch
   pub prints : run.prints printed
-
-abbrev pub KeepsDirections : Run → Type 0
-KeepsDirections run = (moves : Text) → HasDone run (Direct moves) → HasDirected run moves
 
 -- ---- 6: switches
 
@@ -383,7 +357,7 @@ wirings None batch = if is_wide batch then Forth ∷ Back ∷ [] else Both ∷ [
 
 -- The commands are those of a C004, and none of them asks for a reply. Whatever the switch was,
 -- behind those for the settings up to each it joins just the pairs of links that this one needs,
--- and is ready.
+-- and is ready. For a setting that joins the same pairs as the one before nothing is cut or joined.
 pub record Turn (wiring : Wiring) (batch : List Transfer) (settings : List (List ℕ))
     (commands : ℕ → List Command) : Type 0 where
   pub are : (k : ℕ) → k < length settings → AreCommands (commands k)
@@ -391,6 +365,9 @@ pub record Turn (wiring : Wiring) (batch : List Transfer) (settings : List (List
   pub turn : (switch : Switch) (k : ℕ) → k < length settings
       → after_all (flat_map commands (range_with_len 0 (k + 1))) switch
       ≡ switch_of wiring (setting_pairs batch (numbers_in settings k))
+  pub held : (k : ℕ) → k + 1 < length settings
+      → join_same batch (setting_at settings k) (setting_at settings (k + 1)) ≡ true
+      → commands (k + 1) ≡ Settle ∷ []
 
 -- The file held a batch. Printed were, for each setting of a schedule and nothing else, the bytes
 -- of such commands for each switch.
@@ -408,12 +385,6 @@ pub record HasSwitched (run : Run) (batch : Text) (scheduled : Source Text) (wir
   pub prints : run.prints (flat_map
       (λ k. lines_on board (is_wide transfers) k (λ one. sent one k))
       (range_with_len 0 (length settings)))
-
-abbrev pub KeepsSwitches : Run → Type 0
-KeepsSwitches run =
-    (batch : Text) (scheduled : Source Text) (wiring : Option Text) (workers : ℕ)
-    → HasDone run (SwitchJob batch scheduled wiring workers)
-    → HasSwitched run batch scheduled wiring
 
 -- Modules that obey all these orders, setting by setting, in whatever order words pass within one,
 -- leave on any rack with the blocks of the batch what a run leaves.
@@ -445,11 +416,6 @@ pub record HasOrdered (run : Run) (batch : Text) (scheduled : Source Text) (only
   pub can : CanBeObeyed (told_to None orders) transfers settings
   pub tells : Tells printed (told_to only orders)
   pub prints : run.prints printed
-
-abbrev pub KeepsOrders : Run → Type 0
-KeepsOrders run =
-    (batch : Text) (scheduled : Source Text) (only : Option ℕ) (workers : ℕ)
-    → HasDone run (Orders batch scheduled only workers) → HasOrdered run batch scheduled only
 
 -- ---- `drive`
 
@@ -529,13 +495,6 @@ pub record HasDriven (run : Run) (ports : Ports) (batch : Text) (scheduled : Sou
   pub stood : StoodInTurn board transfers settings first count passed
   pub prints : run.prints (lines_told settings first count ++ completed_line (length settings))
 
-abbrev pub KeepsDrives : Run → Ways → Ways → Type 0
-KeepsDrives run before after =
-    (batch port : Text) (port_b : Option Text) (scheduled : Source Text) (wiring : Option Text)
-    (first : ℕ) (goes_on : Bool) (workers : ℕ)
-    → HasDone run (Drive batch port port_b scheduled wiring first goes_on workers)
-    → HasDriven run (ports_of port port_b before after) batch scheduled wiring first
-
 -- the texts say a schedule of this batch: a plan of it, or the user's own
 abbrev pub SaySchedule : Source (List ℕ) → List ℕ → List Transfer → List (List ℕ) → Type 0
 SaySchedule (source.Plan planning) text batch settings =
@@ -613,16 +572,6 @@ pub record HasRefusedDrive (run : Run) (ports : Ports) (job : Job) (scheduled : 
   pub prints : run.prints (refusal_line refusal)
   pub unopened : ports.after ≡ ports.before
 
-abbrev pub KeepsStops : Run → Ways → Ways → Type 0
-KeepsStops run before after =
-    (batch port : Text) (port_b : Option Text) (scheduled : Source Text) (wiring : Option Text)
-    (first : ℕ) (goes_on : Bool) (workers : ℕ)
-    → let job = Drive batch port port_b scheduled wiring first goes_on workers in
-    let ports = ports_of port port_b before after in
-    AsksFor run job → run.status ≡ REFUSED
-    → HasStopped run ports batch scheduled wiring first
-    ⊎ (HasRefusedDrive run ports job scheduled first ⊎ (HasGivenUp run × (after ≡ before)))
-
 -- `c004` was handed what stands on standard input, and replied to it as a switch of the data sheet
 -- does; nothing else was printed.
 pub record HasReplied (run : Run) : Type 0 where
@@ -644,11 +593,6 @@ pub record HasRepliedInPart (run : Run) : Type 0 where
   pub held : run.holds input_name (came ++ rest)
   pub replied : HasRun (record { switch = idle; begun = [] }) came replies told left
   pub prints : run.prints replies
-
-abbrev pub KeepsReplies : Run → Type 0
-KeepsReplies run =
-    (HasDone run C004 → HasReplied run)
-    × (AsksFor run C004 → run.status ≡ REFUSED → HasRepliedInPart run ⊎ HasGivenUp run)
 
 -- ---- 7: pictures
 
@@ -700,11 +644,6 @@ pub record HasDrawn (run : Run) (batch schedule : Text) (chosen : Option Text) :
   pub apart : AreCellsApart transfers settings shown
   pub prints : run.prints printed
 
-abbrev pub KeepsPictures : Run → Type 0
-KeepsPictures run =
-    (batch schedule : Text) (chosen : Option Text) → HasDone run (Draw batch schedule chosen)
-    → HasDrawn run batch schedule chosen
-
 -- The files held a batch and a schedule of it. Printed was a table of prices, with how many changes
 -- they show, and nothing else. Each schedule of the batch with as many settings has so many.
 pub record HasPriced (run : Run) (batch schedule : Text) : Type 0 where
@@ -718,10 +657,6 @@ pub record HasPriced (run : Run) (batch schedule : Text) : Type 0 where
   pub prices : SaysPrices transfers (length settings) printed
   pub needed : AreNeeded transfers (length settings) prices.priced.changes
   pub prints : run.prints printed
-
-abbrev pub KeepsPrices : Run → Type 0
-KeepsPrices run =
-    (batch schedule : Text) → HasDone run (Prices batch schedule) → HasPriced run batch schedule
 
 -- ---- 8: clients
 
@@ -757,7 +692,8 @@ all_turns s = s.turns ++ s.held
 -- made these entries. By itself: all was told, and all was read, or `bye` was the last command.
 -- Where it couldn't be told, an end of its lines is missing, no more than a session holds; without
 -- a record, of its last line. Where calls couldn't be recorded, nothing was told of the last
--- commands that were done, whose lines are no more than that, and one more may have made an entry.
+-- commands that were done, whose lines are no more than that, and one more may have fetched a batch,
+-- which changes nothing.
 -- No command was done behind `bye`.
 abbrev pub EndsSo : (recorded : Bool) → Session → (untold : List ℕ) → List Entry → Option ServeFault
     → Type 0
@@ -768,7 +704,8 @@ EndsSo recorded s untold unseen (Some Write) =
     (s.held ≡ []) × (unseen ≡ []) × MayEnd s.turns × (length untold ≤ HELD_BYTES)
     × (recorded ≡ false → IsEndOfLastLine s.turns untold)
 EndsSo recorded s untold unseen (Some Record) =
-    (recorded ≡ true) × (untold ≡ []) × (length unseen ≤ 1) × MayEnd (all_turns s)
+    (recorded ≡ true) × (untold ≡ []) × ((id : ℕ) × IsFetching s.number id unseen)
+    × MayEnd (all_turns s)
     × (length (lines_of s.held) ≤ HELD_BYTES)
 EndsSo recorded s untold unseen (Some fault) =
     (s.held ≡ []) × (untold ≡ []) × (unseen ≡ []) × GoOn s.turns
@@ -942,13 +879,6 @@ pub record HasRefusedSessions (run : Run) (kept : Kept) (is_wrong : Refusal → 
   pub recorded : is_left kept.recorded
   pub unput : IsUnput kept.image
 
-abbrev pub KeepsScripts : Run → Kept → Leave → Type 0
-KeepsScripts run kept keeps =
-    (rack : SharedRack) (scripts : List Text) (workers : ℕ)
-    → AsksFor run (Serve rack scripts workers) → run.status ≢ UNWRITTEN
-    → HasServed run rack scripts (keeps rack [])
-    ⊎ HasRefusedSessions run kept (IsWrongRackOf run rack) IsEmpty
-
 -- ---- live clients
 
 -- what is known of the files of live clients: what comes from one, where that is known; and what one
@@ -1021,15 +951,6 @@ pub record HasHosted (run : Run) (rack : SharedRack) (names : List Text) (client
   pub prints : run.prints (flat_map (hosted_text names) sessions)
   pub kept : keeps calls
 
-abbrev pub KeepsClients : Run → Kept → Clients → Leave → Type 0
-KeepsClients run kept clients keeps =
-    (rack : SharedRack) (names : List Text) (workers : ℕ) → AsksFor run (Host rack names workers)
-    → run.status ≢ UNWRITTEN
-    → HasHosted run rack names clients (keeps rack names)
-    ⊎ (HasRefusedSessions run kept
-    (λ refusal. IsWrongLive run rack names refusal ⊎ (refusal ≡ Threads))
-    (IsAsItWas run rack.record_out names) × (clients.ends ≡ []))
-
 -- The one client had a session with what comes of standard input. Printed was what it was told; and
 -- behind that, where a fault ended it, a line says so.
 pub record HasTalked (run : Run) (rack : SharedRack) (keeps : Calls → Type 0) : Type 0 where
@@ -1046,12 +967,6 @@ pub record HasTalked (run : Run) (rack : SharedRack) (keeps : Calls → Type 0) 
   pub status : run.status ≡ status_at (is_some its.fault)
   pub prints : run.prints (its.told ++ line_of_end its.fault)
   pub kept : keeps calls
-
-abbrev pub KeepsTalks : Run → Kept → Leave → Type 0
-KeepsTalks run kept keeps =
-    (rack : SharedRack) → AsksFor run (Talk rack) → run.status ≢ UNWRITTEN
-    → HasTalked run rack (keeps rack [])
-    ⊎ HasRefusedSessions run kept (IsWrongLive run rack []) (IsAsItWas run rack.record_out [])
 
 -- ---- `replay`
 
@@ -1105,28 +1020,7 @@ pub record HasRefusedReplay (run : Run) (shape : Option Text) (recorded : Text)
   pub wrong : IsFirstWrongReplayed shape text bytes first refusal
   pub prints : run.prints (refusal_line refusal)
 
-abbrev pub KeepsReplays : Run → Type 0
-KeepsReplays run =
-    (shape : Option Text) (recorded : Text) (image : Option Text) (first : Option ℕ)
-    → (HasDone run (Replay shape recorded image first)
-    → HasReplayed run shape recorded image first)
-    × (AsksFor run (Replay shape recorded image first) → run.status ≡ REFUSED
-    → HasRefusedReplay run shape recorded image first ⊎ HasGivenUp run)
-
 -- ---- 9: texts
-
--- a job needs nothing but its texts
-abbrev pub IsOfTextsAlone : Job → Type 0
-IsOfTextsAlone (Plan file planning workers) = ⊤
-IsOfTextsAlone (Check batch schedule) = ⊤
-IsOfTextsAlone (Draw batch schedule chosen) = ⊤
-IsOfTextsAlone (Prices batch schedule) = ⊤
-IsOfTextsAlone (SwitchJob batch scheduled wiring workers) = ⊤
-IsOfTextsAlone (Orders batch scheduled only workers) = ⊤
-IsOfTextsAlone (Direct moves) = ⊤
-IsOfTextsAlone (Apply shape batch image workers) = ⊤
-IsOfTextsAlone (RunJob shape batch scheduled image workers) = ⊤
-IsOfTextsAlone job = ⊥
 
 -- the first two transfers of the batch that write one block
 abbrev pub IsFirstOverlapIn : Source (List ℕ) → List ℕ → Refusal → Type 0
@@ -1238,11 +1132,6 @@ pub record HasRefused (run : Run) (job : Job) : Type 0 where
   pub not_right : AreRightTexts job texts → ⊥
   pub prints : run.prints (refusal_line refusal)
 
-abbrev pub KeepsRefusals : Run → Type 0
-KeepsRefusals run =
-    (job : Job) → IsOfTextsAlone job → AsksFor run job → run.status ≡ REFUSED
-    → HasRefused run job ⊎ HasGivenUp run
-
 -- ---- where the arguments ask for nothing
 
 -- status 2 is only for such
@@ -1284,11 +1173,39 @@ abbrev pub KeepsOthers : Run → (before after : Ways) → Kept → Clients → 
 KeepsOthers run before after kept clients =
     (job : Job) → AsksFor run job → LeavesOthers job before after kept clients
 
--- some arguments ask for something: these for a plan
-abbrev pub SomeAsk : Type 0
-SomeAsk =
-    AskFor (codes "exchange" ∷ codes "plan" ∷ codes "batch.txt" ∷ [])
-    (record { job = Plan (codes "batch.txt") Plain 1; is_quiet = false })
+-- these words ask for this job
+abbrev pub Ask : List Text → Job → Type 0
+Ask words job = AskFor (codes "exchange" ∷ words) (record { job = job; is_quiet = false })
+
+-- a rack of sessions without files
+abbrev pub plain_rack : SharedRack
+plain_rack =
+    record { shape = codes "1x1x1"; image = None; record_out = None; image_out = None }
+
+-- words ask for each command: these are the shortest
+pub record SomeAsk : Type 0 where
+  pub plan : Ask (codes "plan" ∷ codes "b" ∷ []) (Plan (codes "b") Plain 1)
+  pub check : Ask (codes "check" ∷ codes "b" ∷ codes "s" ∷ []) (Check (codes "b") (codes "s"))
+  pub draw : Ask (codes "draw" ∷ codes "b" ∷ codes "s" ∷ []) (Draw (codes "b") (codes "s") None)
+  pub prices : Ask (codes "draw" ∷ codes "b" ∷ codes "s" ∷ codes "--prices" ∷ [])
+      (Prices (codes "b") (codes "s"))
+  pub switch : Ask (codes "switch" ∷ codes "b" ∷ [])
+      (SwitchJob (codes "b") (source.Plan Plain) None 1)
+  pub orders : Ask (codes "orders" ∷ codes "b" ∷ []) (Orders (codes "b") (source.Plan Plain) None 1)
+  pub drive : Ask (codes "drive" ∷ codes "b" ∷ codes "p" ∷ [])
+      (Drive (codes "b") (codes "p") None (source.Plan Plain) None 0 false 1)
+  pub c004 : Ask (codes "c004" ∷ []) C004
+  pub direct : Ask (codes "direct" ∷ codes "m" ∷ []) (Direct (codes "m"))
+  pub apply : Ask (codes "apply" ∷ codes "1x1x1" ∷ codes "b" ∷ codes "i" ∷ [])
+      (Apply (codes "1x1x1") (codes "b") (codes "i") 1)
+  pub run : Ask (codes "run" ∷ codes "1x1x1" ∷ codes "b" ∷ [])
+      (RunJob (codes "1x1x1") (codes "b") (source.Plan Plain) None 1)
+  pub serve : Ask (codes "serve" ∷ codes "1x1x1" ∷ codes "s" ∷ [])
+      (Serve plain_rack (codes "s" ∷ []) 1)
+  pub host : Ask (codes "host" ∷ codes "1x1x1" ∷ codes "c" ∷ [])
+      (Host plain_rack (codes "c" ∷ []) 1)
+  pub talk : Ask (codes "talk" ∷ codes "1x1x1" ∷ []) (Talk plain_rack)
+  pub replay : Ask (codes "replay" ∷ codes "r" ∷ []) (Replay None (codes "r") None None)
 
 -- the grammar finds that the arguments ask for help, or for the version
 abbrev pub AskForHelp : List Text → Type 0
@@ -1320,30 +1237,74 @@ abbrev pub KeepsUnread : Run → (before after : Ways) → Kept → Clients → 
 KeepsUnread run before after kept clients =
     LeavesAll before after kept clients × IsMisused run
 
--- ---- all promises
+-- ---- each command
 
--- What is promised of a run that ends with status 0 or 1, with the ways to ports before it and behind
--- it, the files of a record and of an image, and live clients; and what sessions of scripts leave,
--- and live ones.
-pub record KeepsAll (run : Run) (before after : Ways) (kept : Kept) (clients : Clients)
-    (scripts_leave live_leave : Leave) : Type 0 where
-  pub plans : KeepsPlans run
-  pub checks : KeepsChecks run
-  pub runs : KeepsRuns run
-  pub images : KeepsImages run
-  pub directions : KeepsDirections run
-  pub switches : KeepsSwitches run
-  pub orders : KeepsOrders run
-  pub drives : KeepsDrives run before after
-  pub stops : KeepsStops run before after
-  pub replies : KeepsReplies run
-  pub pictures : KeepsPictures run
-  pub prices : KeepsPrices run
-  pub scripts : KeepsScripts run kept scripts_leave
-  pub live : KeepsClients run kept clients live_leave
-  pub talks : KeepsTalks run kept live_leave
-  pub replays : KeepsReplays run
-  pub refusals : KeepsRefusals run
+-- a run, with the ways to ports before it and behind it, the files of a record and of an image, and
+-- live clients; and what sessions of scripts leave, and live ones
+pub record World : Type 1 where
+  pub run : Run
+  pub before : Ways
+  pub after : Ways
+  pub kept : Kept
+  pub clients : Clients
+  pub scripts_leave : Leave
+  pub live_leave : Leave
+
+-- what came of a job that ended with status 0
+abbrev pub IsDone : World → Job → Type 0
+IsDone w (Plan file planning workers) = HasPlanned w.run file planning
+IsDone w (Check batch schedule) = HasChecked w.run batch schedule
+IsDone w (Draw batch schedule chosen) = HasDrawn w.run batch schedule chosen
+IsDone w (Prices batch schedule) = HasPriced w.run batch schedule
+IsDone w (SwitchJob batch scheduled wiring workers) = HasSwitched w.run batch scheduled wiring
+IsDone w (Orders batch scheduled only workers) = HasOrdered w.run batch scheduled only
+IsDone w (Direct moves) = HasDirected w.run moves
+IsDone w (Apply shape batch image workers) = HasApplied w.run shape batch image
+IsDone w (RunJob shape batch scheduled image workers) =
+    HasRunBatch w.run shape batch scheduled image
+IsDone w (Drive batch port port_b scheduled wiring first goes_on workers) =
+    HasDriven w.run (ports_of port port_b w.before w.after) batch scheduled wiring first
+IsDone w C004 = HasReplied w.run
+IsDone w (Serve rack scripts workers) = HasServed w.run rack scripts (w.scripts_leave rack [])
+IsDone w (Host rack names workers) =
+    HasHosted w.run rack names w.clients (w.live_leave rack names)
+IsDone w (Talk rack) = HasTalked w.run rack (w.live_leave rack [])
+IsDone w (Replay shape recorded image first) = HasReplayed w.run shape recorded image first
+
+-- the same with status 1: what was first wrong, or what had come of it where it ended early; a job
+-- that needs nothing but its texts is refused
+abbrev pub IsRefused : World → Job → Type 0
+IsRefused w (Drive batch port port_b scheduled wiring first goes_on workers) =
+    let ports = ports_of port port_b w.before w.after in
+    HasStopped w.run ports batch scheduled wiring first
+    ⊎ HasRefusedDrive w.run ports (Drive batch port port_b scheduled wiring first goes_on workers)
+    scheduled first
+IsRefused w C004 = HasRepliedInPart w.run
+IsRefused w (Serve rack scripts workers) =
+    HasServed w.run rack scripts (w.scripts_leave rack [])
+    ⊎ HasRefusedSessions w.run w.kept (IsWrongRackOf w.run rack) IsEmpty
+IsRefused w (Host rack names workers) =
+    HasHosted w.run rack names w.clients (w.live_leave rack names)
+    ⊎ (HasRefusedSessions w.run w.kept
+    (λ refusal. IsWrongLive w.run rack names refusal ⊎ (refusal ≡ Threads))
+    (IsAsItWas w.run rack.record_out names) × (w.clients.ends ≡ []))
+IsRefused w (Talk rack) =
+    HasTalked w.run rack (w.live_leave rack [])
+    ⊎ HasRefusedSessions w.run w.kept (IsWrongLive w.run rack [])
+    (IsAsItWas w.run rack.record_out [])
+IsRefused w (Replay shape recorded image first) =
+    HasRefusedReplay w.run shape recorded image first
+IsRefused w job = HasRefused w.run job
+
+-- each job that is asked for comes to that; or, with status 1, there was no answer, and no file was
+-- opened to be written, no port, and no client's
+abbrev pub KeepsJobs : World → Type 0
+KeepsJobs w =
+    (job : Job) → AsksFor w.run job → (w.run.status ≡ DONE → IsDone w job)
+    × (w.run.status ≡ REFUSED
+    → IsRefused w job ⊎ (HasGivenUp w.run × LeavesAll w.before w.after w.kept w.clients))
+
+-- ---- all promises
 
 -- Where not all could be written, a front was printed of what such a run prints, and what passed over
 -- ports is as there; so it is with the files of sessions, but that the record of live ones has all of
@@ -1351,17 +1312,41 @@ pub record KeepsAll (run : Run) (before after : Ways) (kept : Kept) (clients : C
 abbrev pub KeepsFronts : (ℕ → Run) → Ways → Ways → Kept → Clients → ℕ → Type 0
 KeepsFronts fronts before after kept clients status =
     status ≡ UNWRITTEN → (other : ℕ) × ((other ≡ DONE) ⊎ (other ≡ REFUSED))
-    × KeepsAll (fronts other) before after kept clients (AreKeptInPart kept) (AreToldKept kept)
+    × KeepsJobs (record {
+      run = fronts other;
+      before = before;
+      after = after;
+      kept = kept;
+      clients = clients;
+      scripts_leave = AreKeptInPart kept;
+      live_leave = AreToldKept kept;
+    })
+
+-- The files that a job writes were seen to be others than those that it reads, and than each other,
+-- as far as it is told where their names lead; or there was no answer.
+abbrev pub KeepsApart : Leading → Run → Type 0
+KeepsApart leads run =
+    (job : Job) → AsksFor run job
+    → AreSeenApart leads (file_uses job) ⊎ (HasGivenUp run ⊎ (run.status ≡ UNWRITTEN))
 
 -- A run of the program keeps them, and its status is 3 at most: it, and where a front was printed.
 -- Its arguments ask for one thing at most.
-pub record KeepsPromises (run : Run) (fronts : ℕ → Run) (before after : Ways) (kept : Kept)
-    (clients : Clients) : Type 0 where
+pub record KeepsPromises (leads : Leading) (run : Run) (fronts : ℕ → Run) (before after : Ways)
+    (kept : Kept) (clients : Clients) : Type 0 where
   pub one : AskForOne run.words
   pub ends : run.status ≤ UNWRITTEN
-  pub all : KeepsAll run before after kept clients (AreKept kept) (AreKept kept)
+  pub jobs : KeepsJobs (record {
+    run = run;
+    before = before;
+    after = after;
+    kept = kept;
+    clients = clients;
+    scripts_leave = AreKept kept;
+    live_leave = AreKept kept;
+  })
   pub misuse : KeepsMisuse run
   pub some : SomeAsk
   pub others : KeepsOthers run before after kept clients
+  pub apart : KeepsApart leads run
   pub nothing : KeepsNothing run before after kept clients
   pub fronts_too : KeepsFronts fronts before after kept clients run.status

@@ -35,7 +35,7 @@ pub fn answer<R: Runtime, S: System, P: Ports, I: Read, O: Write, E: Write>(
     err: &mut E,
 ) -> Left<S::Receipt>
     requires { peers.old.endings.items ≡ [] }
-    ensures arguments { IfOk arguments (λ w. KeepsPromises
+    ensures arguments { IfOk arguments (λ w. KeepsPromises (S.leads system.now)
         (run_of (S.holds system.now) (I.remaining input.old) (O.contents out.old)
         (O.contents out.new) (texts_of w.items) (exit_status result.code))
         (front_of (S.holds system.now) (I.remaining input.old) (O.contents out.old)

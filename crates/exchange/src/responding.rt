@@ -199,8 +199,9 @@ fn print_fault<O: Write, E: Write>(
     }
 }
 
-/// Writes a text of help. Where the program's own name, the first argument, has no `/`, the text
-/// says `exchange` in the place of `./exchange`, as far as there is memory for that.
+/// Writes a text of help. Where the program's own name, the first argument, has no `/`, or ends as
+/// that of an installed one does, the text says `exchange` in the place of `./exchange`, as far as
+/// there is memory for that.
 fn write_help<O: Write>(
     alloc: Global,
     arguments: &[String],
@@ -208,7 +209,7 @@ fn write_help<O: Write>(
     out: &mut O,
 ) -> io::Result<()> {
     if let Some(name) = arguments.first()
-        && !name.as_str().contains('/')
+        && (!name.as_str().contains('/') || name.as_str().ends_with("bin/exchange"))
         && let Ok(text) = installed_help(alloc, help)
     {
         return out.write_all(text.as_str().as_bytes());

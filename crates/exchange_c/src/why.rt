@@ -13,6 +13,7 @@ use plan_answers::{
 };
 use rack_answers::{answer_apply, answer_orders, answer_switch};
 use refusal_notes::{Listing, Named, Texts, second_line};
+use refusals::{Refusal, Validity};
 use schedule_certificate::NoThreads;
 use std::alloc::{AllocError, Global};
 
@@ -144,8 +145,20 @@ impl Asked {
     }
 }
 
+/// Whether there was no memory to find out what is told besides: a schedule whose certificate is
+/// missing or wrong is judged without it.
+fn is_cut(refusal: Refusal, validity: Validity) -> bool {
+    match refusal {
+        Refusal::NoCertificate
+        | Refusal::CheckWrongLink(_)
+        | Refusal::CheckCertificateRepeats(_)
+        | Refusal::CheckNotTight { .. } => validity == Validity::Unknown,
+        _ => false,
+    }
+}
+
 /// The second line of the refusal that a call gives of its texts, or nothing where it refuses none.
-/// Want of memory is the error.
+/// Want of memory for all of it is the error.
 fn why(alloc: Global, asked: Asked, given: Given<'_>, names: &[u8]) -> Result<Answer, AllocError>
     ensures { IfOk result (IsWhy asked
         given.entry.first.now given.entry.second.now given.entry.third.now) }
@@ -154,6 +167,9 @@ fn why(alloc: Global, asked: Asked, given: Given<'_>, names: &[u8]) -> Result<An
     let Some(refusal) = answer.refusal() else {
         return Ok(Answer::done(Vec::new(alloc)));
     };
+    if is_cut(refusal, answer.validity()) {
+        return Err(AllocError);
+    }
     let names = String::from_utf8_lossy(alloc, names)?;
     let shape = String::from_utf8_lossy(alloc, given.first)?;
     let texts = Texts {

@@ -170,6 +170,7 @@ fn host_recorded<N: StreamName + Send, R: Threads + Wait + Sync, S: System>(
     alloc: Global,
     book: Book<Silent>,
     stream: S::Stream,
+    gathers: bool,
     workers: WorkerCount,
     streams: &FileStreams<'_, S>,
     endings: &mut Vec<Ending<PassedBytes>>,
@@ -184,9 +185,14 @@ fn host_recorded<N: StreamName + Send, R: Threads + Wait + Sync, S: System>(
         (clients_by (S.says streams.now.system.now) (S.had streams.now.system.now)
         streams.now.clients.now) endings.old.items endings.new.items result.end left }
 {
-    let book = stream_on::<S::Stream, N>(alloc, book, stream);
+    let book = stream_on::<S::Stream, N>(alloc, book, stream, gathers);
     let (end, book) = host_over(rt, alloc, book, workers, streams, endings);
     over_recorded(end, book)
+}
+
+/// Whether sessions wait for a disk that they share.
+fn gathers(shared: &SharedRack) -> bool {
+    shared.record_out.as_ref().is_some_and(|out| out.syncs)
 }
 
 /// The sessions of a host's clients, from their beginning on.
@@ -194,6 +200,7 @@ fn host_from<R: Threads + Wait + Sync, S: System>(
     rt: &R,
     alloc: Global,
     start: Start<S::Stream>,
+    gathers: bool,
     workers: WorkerCount,
     streams: &FileStreams<'_, S>,
     endings: &mut Vec<Ending<PassedBytes>>,
@@ -212,7 +219,7 @@ fn host_from<R: Threads + Wait + Sync, S: System>(
     } = start;
     match stream {
         Some(stream) => host_recorded::<Brand, R, S>(
-            rt, alloc, book, stream, workers, streams, endings,
+            rt, alloc, book, stream, gathers, workers, streams, endings,
         ),
         None => {
             let (end, book) = host_over(rt, alloc, book, workers, streams, endings);
@@ -257,7 +264,15 @@ pub fn host<R: Runtime, S: System>(
         unopened,
     };
     let cut = start.cut;
-    let over = host_from(rt, alloc, start, workers, &streams, endings);
+    let over = host_from(
+        rt,
+        alloc,
+        start,
+        gathers(shared),
+        workers,
+        &streams,
+        endings,
+    );
     end_live(system, alloc, shared, over, image, cut)
 }
 
@@ -311,7 +326,7 @@ fn talk_recorded<
         left }
     ensures beside { TellsOfRefusals H.may_tell (H.told listener.old) (H.told listener.new) }
 {
-    let book = stream_on::<F, N>(alloc, book, stream);
+    let book = stream_on::<F, N>(alloc, book, stream, false);
     let (end, book) = talk_over(rt, alloc, book, input, out, listener);
     over_recorded(end, book)
 }

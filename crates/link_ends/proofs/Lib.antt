@@ -1,9 +1,5 @@
 pub mod Running
-pub mod Texts
 pub mod Outputs
 pub mod Begun
-pub mod Inverse
 pub mod Fronts
 pub mod Feeding
-pub mod Parts
-pub mod Windows

@@ -8,4 +8,3 @@ pub mod Asking
 pub mod Memory
 pub mod BootStates
 pub mod BootTaking
-pub mod Laws

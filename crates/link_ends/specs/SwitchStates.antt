@@ -1,9 +1,7 @@
 -- The bytes that keep a switch, and which switch they keep. Which they are is this project's
 -- choice.
-use Rattle.std.specs.Prelude.{◌≡◌, ◌≤◌, ◌<◌, ◌==◌, ℕ, List, [], ◌++◌, IsTrue, length, map, replicate, take, slice_index, ◌-◌, if◌then◌else◌, Some}
-use Rattle.std.specs.FinMap.{get}
-use Rattle.std.specs.List.{list_all, range_with_len}
-use Rattle.c004_commands.specs.Answers.{answer_byte}
+use Rattle.std.specs.Prelude.{◌≡◌, ◌≤◌, ◌<◌, ◌==◌, ℕ, List, [], IsTrue, length, map, take, slice_index}
+use Rattle.std.specs.List.{list_all}
 use Rattle.c004_commands.specs.Commands.{IsCommandFront}
 use Rattle.c004_commands.specs.declared.port.TheConstants.{PORTS}
 use Rattle.crossbar.specs.Latches.{sources_of}
@@ -46,20 +44,3 @@ pub record IsSwitchState (s : SwitchState) : Type 0 where
   pub begun : IsCommandFront (command_begun s)
   pub behind : HasZerosBehind s.begun_count s.begun
   pub connecting : s.connecting ≤ 1
-
--- a switch of the chip, and less than a whole command: outputs and inputs are ports
-pub record IsEnd (end : EndState) : Type 0 where
-  pub ports : (output input : ℕ) → get end.switch.sources output ≡ Some input
-      → (output < PORTS) × (input < PORTS)
-  pub begun : IsCommandFront end.begun
-
--- the bytes that keep a switch: what each output answers, what has come of a command, and whether
--- it is ready
-abbrev pub state_keeping : EndState → SwitchState
-state_keeping end =
-    record {
-      outputs = map (λ output. answer_byte (get end.switch.sources output)) (range_with_len 0 PORTS);
-      begun = end.begun ++ replicate (MOST_BEGUN - length end.begun) 0;
-      begun_count = length end.begun;
-      connecting = if end.switch.ready then 0 else 1;
-    }

@@ -7,21 +7,18 @@
 //! switch stays as it was. [`answer_commands`] stands at two streams of bytes. It hands over all
 //! that comes, to the end of the input or as far as it can read and write, and what it writes are
 //! the replies. Of each refused byte a line is told, or a front of it (`HasAnsweredInput` of
-//! `specs/Answering.antt`). For a text of commands the replies are the answers of all of them, and
-//! nothing is told (`laws::answers_text`).
+//! `specs/Answering.antt`).
 //!
 //! A [`SwitchState`] is a C004 as plain bytes that its caller keeps, copies and hands in with each
 //! call: what each output answers an enquiry, and what has come of the next command.
 //! [`SwitchState::reset`] is a switch as after a reset, to which nothing has come.
 //! [`SwitchState::take`] takes a byte as the switch of the bytes does (`SwitchTakesByte` of
-//! `specs/SwitchTaking.antt`, which is `HasTaken` over the switch that the bytes keep). Each switch
-//! has one state, and each state is that of one switch (`laws::one_state`).
+//! `specs/SwitchTaking.antt`, which is `HasTaken` over the switch that the bytes keep).
 //!
 //! A [`BootState`] is the end of a link of a module that waits to boot: what has come of the next
 //! message, and whether the end has failed. It is handed with each byte to [`BootState::take`], with
 //! the memory that pokes write and peeks read (`EndTakesByte` of `specs/BootTaking.antt`, which is
-//! that of the answering end of `peek_poke` over the words of that memory). The window of a rack's
-//! module is such memory (`laws::windows`).
+//! that of the answering end of `peek_poke` over the words of that memory).
 //!
 //! No call trusts the bytes of a state: those that no switch, or no end, has are told as such, and
 //! nothing changes. No call over a state takes memory.
@@ -33,7 +30,6 @@ mod boot_fault;
 mod boot_state;
 mod end;
 mod fault_line;
-pub mod laws;
 mod memory;
 mod switch_fault;
 mod switch_state;

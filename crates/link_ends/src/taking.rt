@@ -1,6 +1,6 @@
 //! A byte that a state takes.
 
-ghost use Rattle.std.specs.Prelude.{◌≡◌, ◌++◌, ◌∷◌, [], MatchOption};
+ghost use Rattle.std.specs.Prelude.{◌≡◌, ◌++◌, ◌∷◌, []};
 ghost use Rattle.c004_commands.specs.Commands.{IsCommandFront};
 ghost use Rattle.c004_commands.specs.declared.command.Command.TheVariants.{Connect, Cut};
 ghost use Rattle.crossbar.specs.Switch.{after, answer};

@@ -3,7 +3,6 @@ pub mod Copying
 pub mod Telling
 pub mod Lines
 pub mod Members
-pub mod OneTold
 pub mod Told
 pub mod Meeting
 pub mod Asides

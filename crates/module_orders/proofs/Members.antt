@@ -1,9 +1,9 @@
 -- What stands in lists that are made of others.
-use Rattle.std.proofs.Common.{ℕ, zero, suc, Bool, true, false, cond, ◌≡◌, ◌≢◌, ◌≤◌, ◌<◌, ◌+◌, List, [], ◌∷◌, ◌++◌, length, length-append, map, refl, sym, ap, ◌∙◌, subst, arith, inl, inr, ◌||◌}
+use Rattle.std.proofs.Common.{ℕ, Bool, true, false, cond, ◌≡◌, ◌≢◌, ◌<◌, List, [], ◌∷◌, length, map, refl, sym, ap, ◌∙◌, subst, arith, inl, inr, ◌||◌}
 use Rattle.std.specs.Prelude.{Contains, filter}
 use Rattle.std.specs.List.{flat_map, list_any, range_with_len}
-use Rattle.std.proofs.lemmas.Bool.{cases_eq, false≢true, false_from_ne_true}
-use Rattle.std.proofs.lemmas.List.Elements.{Contains-append_cases, Contains-append_left, Contains-append_right, filter-append}
+use Rattle.std.proofs.lemmas.Bool.{false≢true, false_from_ne_true}
+use Rattle.std.proofs.lemmas.List.Elements.{Contains-append_cases, Contains-append_left, Contains-append_right}
 use Rattle.std.proofs.lemmas.List.FromFn.{get_or-range_with_len, length-range_with_len}
 use Rattle.batch.proofs.Lists.{at_cons}
 
@@ -95,37 +95,3 @@ pub none_from : {X : Type 0} (p : X → Bool) (xs : List X) (x : X) → list_any
 none_from p xs x none c = false_from_ne_true (p x) (λ up. false≢true (sym none ∙ any_from p xs x c up))
 
 -- ---- how many stand there
-
--- none passes, so none is left
-pub filter_none : {X : Type 0} (p : X → Bool) (xs : List X) → ((x : X) → Contains xs x → p x ≡ false) → filter p xs ≡ []
-filter_none p [] none = refl
-filter_none p (x ∷ xs) none =
-    ap (λ (b : Bool). cond b (x ∷ filter p xs) (filter p xs)) (none x (here x x xs refl)) ∙ filter_none p xs (λ y c. none y (there x y xs c))
-
-pub filter_pieces : {X Y : Type 0} (p : Y → Bool) (f : X → List Y) (xs : List X) → filter p (flat_map f xs) ≡ flat_map (λ x. filter p (f x)) xs
-filter_pieces p f [] = refl
-filter_pieces p f (x ∷ xs) = filter-append p (f x) (flat_map f xs) ∙ ap (λ ys. filter p (f x) ++ ys) (filter_pieces p f xs)
-
-pub fewer_pieces : {X Y : Type 0} (q : X → Bool) (f : X → List Y) (xs : List X) → length (flat_map f (filter q xs)) ≤ length (flat_map f xs)
-fewer_pieces q f [] = omega arith
-fewer_pieces q f (x ∷ xs) =
-    let rest = fewer_pieces q f xs in
-    elim (q x) as (λ b. length (flat_map f (cond b (x ∷ filter q xs) (filter q xs))) ≤ length (f x ++ flat_map f xs)) [
-      | true ↦ omega (arith, length-append (f x) (flat_map f (filter q xs)), length-append (f x) (flat_map f xs), rest)
-      | false ↦ omega (arith, length-append (f x) (flat_map f xs), rest)
-    ]
-
-no_piece : {Y : Type 0} (f : ℕ → List Y) (a n i : ℕ) → i < a → ((j : ℕ) → j ≢ i → f j ≡ []) → length (flat_map f (range_with_len a n)) ≡ 0
-no_piece f a zero i l none = refl
-no_piece f a (suc n) i l none =
-    omega (arith, length-append (f a) (flat_map f (range_with_len (a + 1) n)), ap length (none a (λ e. omega arith)), no_piece f (a + 1) n i (omega arith) none)
-
--- where all pieces but one are empty, there is as much as in that one at most
-pub one_piece : {Y : Type 0} (f : ℕ → List Y) (a n i : ℕ) → ((j : ℕ) → j ≢ i → f j ≡ []) → (i < a + n → length (f i) ≤ 1) → length (flat_map f (range_with_len a n)) ≤ 1
-one_piece f a zero i none one = omega arith
-one_piece f a (suc n) i none one = elim (cases_eq a i) [
-  | inl e ↦
-      omega (arith, length-append (f a) (flat_map f (range_with_len (a + 1) n)), ap (λ (j : ℕ). length (f j)) e, one (omega arith), no_piece f (a + 1) n i (omega arith) none)
-  | inr other ↦
-      omega (arith, length-append (f a) (flat_map f (range_with_len (a + 1) n)), ap length (none a other), one_piece f (a + 1) n i none (λ l. one (omega arith)))
-]

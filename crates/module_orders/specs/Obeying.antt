@@ -41,17 +41,6 @@ first_end pair = record { end = Zero; «module» = pair.initiator }
 abbrev pub other_end : Pair → Link
 other_end pair = record { end = Three; «module» = pair.responder }
 
--- two links of a pair, either of them first
-abbrev pub AreJoined : Pair → Link → Link → Type 0
-AreJoined pair a b =
-    ((a ≡ first_end pair) × (b ≡ other_end pair)) ⊎ ((a ≡ other_end pair) × (b ≡ first_end pair))
-
--- one of the two sends, and the other receives
-abbrev pub AreOpposite : Act → Act → Type 0
-AreOpposite Send b = b ≡ Receive
-AreOpposite SendCopy b = b ≡ Receive
-AreOpposite Receive b = b ≢ Receive
-
 -- ---- words
 
 -- the module is told to copy the block aside

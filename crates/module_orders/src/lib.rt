@@ -6,12 +6,9 @@
 //! the block in that setting or in one before it. [`RackOrders::write`] gives the one text of them
 //! (`orders_text` of `specs/OrdersText.antt`).
 //!
-//! Each order on a link has its opposite on the link to which the setting joins it, there are no
-//! others, and none stands twice (`laws::orders_meet`). Modules that obey, setting by setting, in
-//! whatever order words pass within a setting, leave each destination with the words that its
-//! source had, and all else as it was; without any one of the copies they may leave other words
-//! (`laws::obeying`, over `specs/Obeying.antt`). The text tells the orders, and has no second
-//! reading (`laws::one_reading`).
+//! Modules that obey, setting by setting, in whatever order words pass within a setting, leave each
+//! destination with the words that its source had, and all else as it was; without any one of the
+//! copies they may leave other words (`laws::obeying`, over `specs/Obeying.antt`).
 #![tactic(auto)]
 
 mod changed;

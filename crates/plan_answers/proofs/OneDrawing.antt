@@ -115,30 +115,30 @@ one_text shape valid batch schedule settings_text t u a b least =
     (same_reading (Shows u a.range) shape valid batch schedule a.transfers b.transfers a.settings b.settings a.verdict b.verdict a.valid b.valid least shows)
 
 -- a setting that is missing in one reading is missing in each
-same_missing : (shape : Extent) → IsShape shape → (batch schedule : List ℕ) (settings_text : Option (List ℕ)) (f g : Option SettingRange) (ts us : List Transfer) (xs ys : List (List ℕ)) (v w : Verdict) (k : ℕ)
-    → AreWanted settings_text f → AreWanted settings_text g → IsValid shape batch schedule ts xs v → IsValid shape batch schedule us ys w → IsOutside g (length ys) k → IsOutside f (length xs) k
-same_missing shape valid batch schedule settings_text f g ts us xs ys v w k wanted want a b outside =
-    same_texts (λ t x n. IsOutside f (length x) k) shape valid batch schedule ts us xs ys a.read.certificate b.read.certificate a.read.texts b.read.texts (subst (λ (r : Option SettingRange). IsOutside r (length ys) k) (same_range settings_text g f want wanted) outside)
+same_missing : (shape : Extent) → IsShape shape → (batch schedule : List ℕ) (settings_text : Option (List ℕ)) (f g : Option SettingRange) (ts us : List Transfer) (xs ys : List (List ℕ)) (k : ℕ)
+    → AreWanted settings_text f → AreWanted settings_text g → IsScheduleRead shape batch schedule ts xs → IsScheduleRead shape batch schedule us ys → IsOutside g (length ys) k → IsOutside f (length xs) k
+same_missing shape valid batch schedule settings_text f g ts us xs ys k wanted want a b outside =
+    same_texts (λ t x n. IsOutside f (length x) k) shape valid batch schedule ts us xs ys a.certificate b.certificate a.texts b.texts (subst (λ (r : Option SettingRange). IsOutside r (length ys) k) (same_range settings_text g f want wanted) outside)
 
 -- what is drawn has nothing wrong
 drawn_right : (shape : Extent) → IsShape shape → (batch schedule : List ℕ) (settings_text : Option (List ℕ)) (text : List ℕ) (refusal : Refusal) → IsDrawing shape batch schedule settings_text text → IsFirstUndrawn shape batch schedule settings_text refusal → ⊥
 drawn_right shape valid batch schedule settings_text text refusal a (no_range bad is) = no_bad_range settings_text a.range a.wanted bad
 drawn_right shape valid batch schedule settings_text text refusal a (invalid range wanted wrong) = read_right shape valid batch schedule a.transfers a.settings refusal a.valid.read wrong
-drawn_right shape valid batch schedule settings_text text refusal a (no_setting range ts xs v k wanted is outside _) =
+drawn_right shape valid batch schedule settings_text text refusal a (no_setting range ts xs k wanted is outside _) =
     not_outside a.range (length a.settings) k a.shown a.are_shown
-    (same_missing shape valid batch schedule settings_text a.range range a.transfers ts a.settings xs a.verdict v k a.wanted wanted a.valid is outside)
+    (same_missing shape valid batch schedule settings_text a.range range a.transfers ts a.settings xs k a.wanted wanted a.valid.read is outside)
 
 one_undrawn : (shape : Extent) → IsShape shape → (batch schedule : List ℕ) (settings_text : Option (List ℕ)) (q r : Refusal) → IsFirstUndrawn shape batch schedule settings_text q → IsFirstUndrawn shape batch schedule settings_text r → q ≡ r
 one_undrawn shape valid batch schedule settings_text q r (no_range a is) (no_range b are) = is ∙ sym are
 one_undrawn shape valid batch schedule settings_text q r (no_range a is) (invalid range wanted b) = absurd (no_bad_range settings_text range wanted a)
-one_undrawn shape valid batch schedule settings_text q r (no_range a is) (no_setting range us ys w l wanted b out are) = absurd (no_bad_range settings_text range wanted a)
+one_undrawn shape valid batch schedule settings_text q r (no_range a is) (no_setting range us ys l wanted b out are) = absurd (no_bad_range settings_text range wanted a)
 one_undrawn shape valid batch schedule settings_text q r (invalid range wanted a) (no_range b are) = absurd (no_bad_range settings_text range wanted b)
 one_undrawn shape valid batch schedule settings_text q r (invalid range wanted a) (invalid other want b) = one_invalid shape valid batch schedule q r a b
-one_undrawn shape valid batch schedule settings_text q r (invalid range wanted a) (no_setting other us ys w l want b out are) = absurd (read_right shape valid batch schedule us ys q b.read a)
-one_undrawn shape valid batch schedule settings_text q r (no_setting range ts xs v k wanted a outside is) (no_range b are) = absurd (no_bad_range settings_text range wanted b)
-one_undrawn shape valid batch schedule settings_text q r (no_setting range ts xs v k wanted a outside is) (invalid other want b) = absurd (read_right shape valid batch schedule ts xs r a.read b)
-one_undrawn shape valid batch schedule settings_text q r (no_setting range ts xs v k wanted a outside is) (no_setting other us ys w l want b out are) =
-    is ∙ ap NoSetting (same_outside range (length xs) k l outside (same_missing shape valid batch schedule settings_text range other ts us xs ys v w l wanted want a b out)) ∙ sym are
+one_undrawn shape valid batch schedule settings_text q r (invalid range wanted a) (no_setting other us ys l want b out are) = absurd (read_right shape valid batch schedule us ys q b a)
+one_undrawn shape valid batch schedule settings_text q r (no_setting range ts xs k wanted a outside is) (no_range b are) = absurd (no_bad_range settings_text range wanted b)
+one_undrawn shape valid batch schedule settings_text q r (no_setting range ts xs k wanted a outside is) (invalid other want b) = absurd (read_right shape valid batch schedule ts xs r a b)
+one_undrawn shape valid batch schedule settings_text q r (no_setting range ts xs k wanted a outside is) (no_setting other us ys l want b out are) =
+    is ∙ ap NoSetting (same_outside range (length xs) k l outside (same_missing shape valid batch schedule settings_text range other ts us xs ys l wanted want a b out)) ∙ sym are
 
 pub one_drawing : (shape : Extent) → IsShape shape → (batch schedule : List ℕ) (settings_text : Option (List ℕ)) (least : ℕ) (p q : Printed) → IsDrawnWith shape batch schedule settings_text least p → IsDrawnWith shape batch schedule settings_text least q → q ≡ p
 one_drawing shape valid batch schedule settings_text least p q (drawn a so_many ends) (drawn b as_many stops) = printed_same q p (one_text shape valid batch schedule settings_text q.text p.text b a (so_many ∙ sym as_many)) (stops ∙ sym ends)

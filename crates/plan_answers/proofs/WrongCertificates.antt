@@ -1,21 +1,16 @@
 -- A schedule whose certificate is wrong is one of the batch all the same.
-use Rattle.std.proofs.Common.{◌≡◌, ℕ, List, Option, Some, None, refl, sym, subst, inl, inr, ◌⊎◌}
+use Rattle.std.proofs.Common.{◌≡◌, ℕ, List, Option, Some, None, sym, subst, inl, inr, ◌⊎◌}
 use Rattle.std.specs.Prelude.{⊤}
 use Rattle.batch.specs.declared.transfer.Transfer.{Transfer}
-use Rattle.batch.specs.Extent.{Extent}
 use Rattle.link_graph.specs.declared.check_fault.CheckFault.{CheckFault}
 use Rattle.link_graph.specs.declared.check_fault.CheckFault.TheVariants as check_fault
-use Rattle.link_graph.specs.declared.link.Link.{Link}
 use Rattle.link_graph.specs.Certificates.{Naming}
 use Rattle.link_graph.specs.Checks.{IsFirstCheckFault}
 use Rattle.link_graph.specs.Schedules.{IsScheduleOf}
 use Rattle.refusals.specs.declared.refusal.Refusal.{Refusal}
 use Rattle.refusals.specs.declared.refusal.Refusal.TheVariants.{CheckWrongLink, CheckCertificateRepeats, CheckNotTight}
 use Rattle.refusals.specs.Sources.{of_check}
-use Rattle.schedule_picture.specs.Verdicts.{IsBusiestOf, uses_of}
 use Rattle.plan_answers.specs.Answers.{IsUnshown}
-use Rattle.plan_answers.specs.Texts.{AreTexts}
-use Rattle.plan_answers.specs.Validities.{AreEnough}
 
 -- a refusal of the certificate
 abbrev IsOfCertificate : Refusal → Type 0
@@ -45,9 +40,6 @@ scheduled ts xs named (check_fault.CertificateRepeats t) first of = first.0
 scheduled ts xs named (check_fault.NotTight s u) first of = first.0
 scheduled ts xs named check_fault.NoMemory first of = absurd first
 
--- as many settings are enough as the busiest link has transfers
-pub enough : (shape : Extent) (batch schedule : List ℕ) (ts : List Transfer) (xs : List (List ℕ)) (m : Option Naming) (refusal : Refusal) (link : Option Link) → AreTexts shape batch schedule ts xs m → IsUnshown ts xs m refusal → IsOneOfThem refusal → IsBusiestOf ts link → AreEnough shape batch schedule (uses_of ts link)
-enough shape batch schedule ts xs None refusal link texts is one most = absurd (subst IsOfCertificate is (of_certificate refusal one))
-enough shape batch schedule ts xs (Some named) refusal link texts is one most =
-    let valid = scheduled ts xs named is.0 is.1 (subst IsOfCertificate is.2 (of_certificate refusal one)) in
-    record { transfers = ts; settings = xs; link = link; read = record { certificate = Some named; texts = texts; valid = valid }; busiest = most; uses = refl }
+pub valid_then : (ts : List Transfer) (xs : List (List ℕ)) (m : Option Naming) (refusal : Refusal) → IsUnshown ts xs m refusal → IsOneOfThem refusal → IsScheduleOf ts xs
+valid_then ts xs None refusal is one = absurd (subst IsOfCertificate is (of_certificate refusal one))
+valid_then ts xs (Some named) refusal is one = scheduled ts xs named is.0 is.1 (subst IsOfCertificate is.2 (of_certificate refusal one))

@@ -13,7 +13,7 @@ use Rattle.schedule_picture.specs.Picture.{picture_of, all_shown}
 use Rattle.plan_answers.specs.declared.limits.TheConstants.{DONE}
 use Rattle.plan_answers.specs.declared.setting_range.SettingRange.{SettingRange}
 use Rattle.plan_answers.specs.Refusals.{Printed, IsRefused}
-use Rattle.plan_answers.specs.Validities.{IsValid, IsInvalid}
+use Rattle.plan_answers.specs.Validities.{IsScheduleRead, IsValid, IsInvalid}
 
 -- ---- which settings are drawn
 
@@ -86,8 +86,8 @@ pub data IsFirstUndrawn (shape : Extent) (batch schedule : List ℕ) (settings_t
       → IsInvalid shape batch schedule refusal
       → IsFirstUndrawn shape batch schedule settings_text refusal
   no_setting : (range : Option SettingRange) (transfers : List Transfer)
-      (settings : List (List ℕ)) (verdict : Verdict) (k : ℕ) → AreWanted settings_text range
-      → IsValid shape batch schedule transfers settings verdict
+      (settings : List (List ℕ)) (k : ℕ) → AreWanted settings_text range
+      → IsScheduleRead shape batch schedule transfers settings
       → IsOutside range (length settings) k → refusal ≡ NoSetting k
       → IsFirstUndrawn shape batch schedule settings_text refusal
 

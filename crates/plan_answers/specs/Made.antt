@@ -6,4 +6,4 @@ use Rattle.plan_answers.specs.declared.scheduled.Made.TheVariants.{Plan, Steady,
 abbrev pub scheduled_in : Made → BatchSchedule
 scheduled_in (Plan plan) = record { batch = plan.batch; settings = plan.settings }
 scheduled_in (Steady batch plan) = record { batch = batch; settings = plan.settings }
-scheduled_in (Text texts) = record { batch = texts.batch; settings = texts.settings }
+scheduled_in (Text texts) = record { batch = texts.batch; settings = texts.schedule }

@@ -29,12 +29,6 @@ pub record IsValid (shape : Extent) (batch schedule : List ℕ) (transfers : Lis
   pub read : IsScheduleRead shape batch schedule transfers settings
   pub known : IsVerdict transfers settings read.certificate verdict
 
--- a batch, the settings of a schedule of it, and what is known of that
-pub record Judged : Type 0 where
-  pub batch : List Transfer
-  pub settings : List (List ℕ)
-  pub verdict : Verdict
-
 -- what is first wrong with settings that are no schedule of the batch
 abbrev pub IsUnscheduled : List Transfer → List (List ℕ) → Refusal → Type 0
 IsUnscheduled transfers settings refusal =

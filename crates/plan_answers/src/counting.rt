@@ -23,7 +23,8 @@ pub fn answer_changes(alloc: Global, batch: &[u8], schedule: &[u8]) -> Result<An
 {
     match ScheduleTexts::read(alloc, Shape::WIDEST, batch, schedule) {
         Ok(texts) => {
-            let (changes, least) = (texts.verdict.changes, texts.verdict.least);
+            let verdict = texts.verdict(alloc)?;
+            let (changes, least) = (verdict.changes, verdict.least);
             let line = format!(in alloc; "changes {changes} least {least}\n")?;
             Ok(Answer::done(line.into_bytes()))
         }

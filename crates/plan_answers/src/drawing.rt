@@ -4,7 +4,9 @@ ghost use Rattle.std.specs.Prelude.{◌≡◌, ◌≢◌, ℕ, ◌+◌, IfOk, If
 ghost use Rattle.batch.specs.Extent.{widest};
 ghost use Rattle.batch.specs.Text.{IsNumber};
 ghost use Rattle.schedule_picture.specs.declared.shown.Shown.{Shown};
+ghost use Rattle.schedule_picture.specs.declared.verdict.Verdict.{Verdict};
 ghost use Rattle.schedule_picture.specs.Picture.{picture_of};
+ghost use Rattle.schedule_picture.specs.Verdicts.{IsVerdict};
 ghost use Rattle.refusals.specs.declared.refusal.Refusal.TheVariants.{Settings, NoSetting, NoMemory};
 ghost use Rattle.plan_answers.specs.Answers.{IsOnlyWith};
 ghost use Rattle.plan_answers.specs.Drawings.{IsInOrder, AreWanted, IsBadSettingsText, AreShown, IsOutside, IsDrawing, IsFirstUndrawn, IsDrawnWith, IsDrawn};
@@ -63,18 +65,19 @@ fn draw_range(
     texts: &ScheduleTexts,
     range: Option<SettingRange>,
 ) -> Result<String, Refusal>
-    requires settings { IsNumber (length texts.now.settings) }
+    requires settings { IsNumber (length texts.now.schedule) }
     requires range { IfSome range IsInOrder }
-    ensures drawn { IfOk result (λ text. (shown : Shown)
-        × AreShown range (length texts.now.settings) shown
-        × (string_bytes text
-        ≡ picture_of texts.now.batch texts.now.settings texts.now.verdict shown)) }
+    ensures drawn { IfOk result (λ text. (verdict : Verdict) × (shown : Shown)
+        × IsVerdict texts.now.batch texts.now.schedule texts.now.certificate verdict
+        × AreShown range (length texts.now.schedule) shown
+        × (string_bytes text ≡ picture_of texts.now.batch texts.now.schedule verdict shown)) }
     ensures outside { IfErr result (λ refusal. refusal ≢ NoMemory → (k : ℕ)
-        × (refusal ≡ NoSetting k) × IsOutside range (length texts.now.settings) k) }
+        × (refusal ≡ NoSetting k) × IsOutside range (length texts.now.schedule) k) }
 {
     let schedule = texts.schedule();
     let shown = shown_of(range, schedule.settings())?;
-    Ok(draw(alloc, texts.batch(), schedule, texts.verdict, shown)?)
+    let verdict = texts.verdict(alloc)?;
+    Ok(draw(alloc, texts.batch(), schedule, verdict, shown)?)
 }
 
 /// The picture that is asked for, or what is first wrong.

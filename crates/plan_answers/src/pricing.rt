@@ -3,6 +3,7 @@
 ghost use Rattle.std.specs.Prelude.{◌≡◌, ◌++◌, ◌*◌, ◌+◌, IfOk, OnOk, codes, length, string_bytes};
 ghost use Rattle.batch.specs.Extent.{widest};
 ghost use Rattle.link_graph.specs.ScheduleText.{numbers};
+ghost use Rattle.link_graph.specs.Schedules.{IsScheduleOf};
 ghost use Rattle.link_graph.specs.declared.limits.TheConstants.{LINKS};
 ghost use Rattle.schedule_picture.specs.Elements.{Adds};
 ghost use Rattle.steady_schedule.specs.Prices.{IsPriceTable};
@@ -12,9 +13,9 @@ use crate::answer::Answer;
 use crate::schedule_texts::ScheduleTexts;
 use crate::validity::most_uses;
 use batch::{Batch, Shape};
-use link_graph::{LINKS, LinkGraph};
+use link_graph::{LINKS, LinkGraph, Schedule};
 use std::alloc::{AllocError, Global};
-use steady_schedule::{Priced, most_shown};
+use steady_schedule::{Priced, count_changes, most_shown};
 
 /// Puts the line of the prices of a length at the end of the text.
 fn push_prices(text: &mut String, prices: &[u32]) -> Result<(), AllocError>
@@ -42,21 +43,18 @@ fn table(alloc: Global, settings: usize, priced: &Priced) -> Result<String, Allo
     Ok(text)
 }
 
-/// A table of prices for schedules of the batch with so many settings. Nothing is looked for beyond
-/// these changes, which one has. Where so many settings aren't the fewest it shows nothing.
-fn prices_of(
-    alloc: Global,
-    batch: &Batch,
-    settings: usize,
-    changes: usize,
-) -> Result<Priced, AllocError>
-    ensures { IfOk result (IsPriceTable batch.now settings) }
+/// A table of prices for schedules of the batch with as many settings as this one. Nothing is
+/// looked for beyond its changes. Where its settings aren't the fewest the table shows nothing.
+fn prices_of(alloc: Global, batch: &Batch, schedule: &Schedule) -> Result<Priced, AllocError>
+    requires { IsScheduleOf batch.now schedule.now }
+    ensures { IfOk result (IsPriceTable batch.now (length schedule.now)) }
 {
     let graph = LinkGraph::of(batch)?;
+    let settings = schedule.settings();
     if settings != most_uses(&graph) {
         return Priced::none(alloc);
     }
-    most_shown(alloc, &graph, settings, changes)
+    most_shown(alloc, &graph, settings, count_changes(&graph, schedule))
 }
 
 /// The answer of `exchange draw --prices`: prices by which it is shown how often the switch has to
@@ -81,9 +79,10 @@ pub fn answer_prices(alloc: Global, batch: &[u8], schedule: &[u8]) -> Result<Ans
 {
     match ScheduleTexts::read(alloc, Shape::WIDEST, batch, schedule) {
         Ok(texts) => {
-            let settings = texts.schedule().settings();
-            let priced = prices_of(alloc, texts.batch(), settings, texts.verdict.changes)?;
-            Ok(Answer::done(table(alloc, settings, &priced)?.into_bytes()))
+            let schedule = texts.schedule();
+            let priced = prices_of(alloc, texts.batch(), schedule)?;
+            let text = table(alloc, schedule.settings(), &priced)?;
+            Ok(Answer::done(text.into_bytes()))
         }
         Err(refusal) => Answer::refused(alloc, refusal),
     }

@@ -3,38 +3,38 @@
 ghost use Rattle.std.specs.Prelude.{◌≡◌, ◌≢◌, IfOk, IfErr};
 ghost use Rattle.link_graph.specs.Schedules.{IsScheduleOf};
 ghost use Rattle.refusals.specs.declared.refusal.Refusal.TheVariants.{NoMemory};
-ghost use Rattle.plan_answers.specs.Validities.{IsValid, IsInvalid};
+ghost use Rattle.schedule_picture.specs.Verdicts.{IsVerdict};
+ghost use Rattle.plan_answers.specs.Texts.{AreTexts};
+ghost use Rattle.plan_answers.specs.Validities.{IsInvalid};
 
 use crate::texts::ReadTexts;
-use crate::validity::verdict_of;
+use crate::validity::standing_in;
 use batch::{Batch, Shape};
 use link_graph::Schedule;
 use refusals::Refusal;
-use schedule_picture::Verdict;
-use std::alloc::Global;
+use schedule_picture::{Standing, Verdict, verdict_on};
+use std::alloc::{AllocError, Global};
 use std::marker::Model;
 
-/// A batch and a schedule of it, as two texts say them, and what is known of the schedule.
+/// A batch and a schedule of it, as two texts say them.
 #[derive(Drop)]
 pub(crate) struct ScheduleTexts {
     texts: ReadTexts,
-    /// What is known of the schedule.
-    pub(crate) verdict: Verdict,
+    /// How the certificate stands.
+    standing: Standing,
 }
 
 impl Model for ScheduleTexts {
     ghost use Rattle.link_graph.specs.Schedules.{IsScheduleOf};
-    ghost use Rattle.plan_answers.specs.Validities.{Judged};
+    ghost use Rattle.schedule_picture.specs.Verdicts.{IsStanding};
+    ghost use Rattle.plan_answers.specs.declared.texts.ReadTexts.{ReadTexts};
 
-    ghost Value = { Judged };
+    ghost Value = { ReadTexts };
 
-    ghost view = { λ t. record {
-      batch = t.texts.batch;
-      settings = t.texts.schedule;
-      verdict = t.verdict;
-    } };
+    ghost view = { λ t. t.texts };
 
-    ghost invariant = { λ t. IsScheduleOf t.texts.batch t.texts.schedule };
+    ghost invariant = { λ t. IsScheduleOf t.texts.batch t.texts.schedule
+        × IsStanding t.texts.batch t.texts.schedule t.texts.certificate t.standing };
 }
 
 impl ScheduleTexts {
@@ -49,14 +49,15 @@ impl ScheduleTexts {
         batch: &[u8],
         schedule: &[u8],
     ) -> Result<ScheduleTexts, Refusal>
-        ensures valid { IfOk result (λ read.
-            IsValid shape batch.now schedule.now read.batch read.settings read.verdict) }
+        ensures texts { IfOk result (λ read.
+            AreTexts shape batch.now schedule.now read.batch read.schedule read.certificate) }
+        ensures valid { IfOk result (λ read. IsScheduleOf read.batch read.schedule) }
         ensures invalid { IfErr result (λ refusal. refusal ≢ NoMemory
             → IsInvalid shape batch.now schedule.now refusal) }
     {
         let texts = ReadTexts::read(alloc, shape, batch, schedule)?;
-        let verdict = verdict_of(alloc, &texts)?;
-        Ok(ScheduleTexts { texts, verdict })
+        let standing = standing_in(alloc, &texts)?;
+        Ok(ScheduleTexts { texts, standing })
     }
 
     /// The batch.
@@ -68,9 +69,24 @@ impl ScheduleTexts {
 
     /// The schedule.
     pub(crate) fn schedule(&self) -> &Schedule
-        ensures schedule { result.now ≡ self.now.settings }
-        ensures valid { IsScheduleOf self.now.batch self.now.settings }
+        ensures schedule { result.now ≡ self.now.schedule }
+        ensures valid { IsScheduleOf self.now.batch self.now.schedule }
     {
         &self.texts.schedule
+    }
+
+    /// What is known of the schedule. It looks for prices, which no other function here does.
+    pub(crate) fn verdict(&self, alloc: Global) -> Result<Verdict, AllocError>
+        ensures { IfOk result
+            (IsVerdict self.now.batch self.now.schedule self.now.certificate) }
+    {
+        let certificate = self.texts.certificate.as_ref();
+        verdict_on(
+            alloc,
+            self.batch(),
+            self.schedule(),
+            certificate,
+            self.standing,
+        )
     }
 }

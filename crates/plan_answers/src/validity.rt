@@ -5,7 +5,7 @@ ghost use Rattle.batch.specs.Extent.{widest};
 ghost use Rattle.link_graph.specs.declared.link.Link.{Link};
 ghost use Rattle.link_graph.specs.Schedules.{IsScheduleOf};
 ghost use Rattle.refusals.specs.declared.refusal.Refusal.TheVariants.{NoMemory};
-ghost use Rattle.schedule_picture.specs.Verdicts.{IsBusiestOf, uses_of, IsVerdict};
+ghost use Rattle.schedule_picture.specs.Verdicts.{IsBusiestOf, uses_of, IsStanding};
 ghost use Rattle.plan_answers.specs.Answers.{IsUnshown};
 ghost use Rattle.plan_answers.specs.Texts.{AreTexts};
 ghost use Rattle.plan_answers.specs.Validities.{IsUnscheduled, IsKnown};
@@ -13,20 +13,20 @@ ghost use Rattle.plan_answers.specs.Validities.{IsUnscheduled, IsKnown};
 use crate::texts::ReadTexts;
 use link_graph::LinkGraph;
 use refusals::{Refusal, Validity};
-use schedule_picture::{Verdict, verdict_on};
+use schedule_picture::{Standing, standing_of};
 use std::alloc::Global;
 
-/// What is known of how many settings the schedule has, where it is one of the batch; or what is
+/// How the certificate of the texts stands, where their schedule is one of the batch; or what is
 /// first wrong with its settings.
-pub(crate) fn verdict_of(alloc: Global, texts: &ReadTexts) -> Result<Verdict, Refusal>
+pub(crate) fn standing_in(alloc: Global, texts: &ReadTexts) -> Result<Standing, Refusal>
     ensures schedule { OnOk result (IsScheduleOf texts.now.batch texts.now.schedule) }
-    ensures verdict { IfOk result
-        (IsVerdict texts.now.batch texts.now.schedule texts.now.certificate) }
+    ensures standing { IfOk result
+        (IsStanding texts.now.batch texts.now.schedule texts.now.certificate) }
     ensures wrong { IfErr result (λ refusal. refusal ≢ NoMemory
         → IsUnscheduled texts.now.batch texts.now.schedule refusal) }
 {
     let certificate = texts.certificate.as_ref();
-    Ok(verdict_on(alloc, &texts.batch, &texts.schedule, certificate)?)
+    Ok(standing_of(alloc, &texts.batch, &texts.schedule, certificate)?)
 }
 
 /// How many transfers the busiest link has, so that no schedule has fewer settings.
@@ -37,6 +37,19 @@ pub(crate) fn most_uses(graph: &LinkGraph) -> usize
     match graph.busiest() {
         Some(link) => graph.uses(link),
         None => 0,
+    }
+}
+
+/// How many settings are enough for the batch of the texts, whose schedule is one of it.
+fn enough_for(texts: &ReadTexts) -> Validity
+    requires { IsScheduleOf texts.now.batch texts.now.schedule }
+    ensures { (batch schedule : List ℕ)
+        → AreTexts widest batch schedule texts.now.batch texts.now.schedule texts.now.certificate
+        → IsKnown batch schedule result }
+{
+    match LinkGraph::of(&texts.batch) {
+        Ok(graph) => Validity::Valid(most_uses(&graph)),
+        Err(_) => Validity::Unknown,
     }
 }
 
@@ -52,8 +65,8 @@ pub(crate) fn validity_of(alloc: Global, texts: &ReadTexts, refusal: Refusal) ->
         → IsKnown batch schedule result }
 {
     match refusal {
-        Refusal::NoCertificate => match verdict_of(alloc, texts) {
-            Ok(verdict) => Validity::Valid(verdict.fewest),
+        Refusal::NoCertificate => match standing_in(alloc, texts) {
+            Ok(_) => enough_for(texts),
             Err(wrong) => match wrong {
                 Refusal::NoMemory => Validity::Unknown,
                 _ => Validity::Invalid,
@@ -61,10 +74,7 @@ pub(crate) fn validity_of(alloc: Global, texts: &ReadTexts, refusal: Refusal) ->
         },
         Refusal::CheckWrongLink(_)
         | Refusal::CheckCertificateRepeats(_)
-        | Refusal::CheckNotTight { .. } => match LinkGraph::of(&texts.batch) {
-            Ok(graph) => Validity::Valid(most_uses(&graph)),
-            Err(_) => Validity::Unknown,
-        },
+        | Refusal::CheckNotTight { .. } => enough_for(texts),
         _ => Validity::Unknown,
     }
 }

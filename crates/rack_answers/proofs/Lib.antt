@@ -8,3 +8,4 @@ pub mod OneOrders
 pub mod Openings
 pub mod Ran
 pub mod ReadBatches
+pub mod HeldSettings

@@ -1,15 +1,21 @@
 -- What the answers of `switch` say. Proofs use it; no contract of a call cites it.
-use Rattle.std.specs.Prelude.{◌≡◌, ℕ, ◌+◌, ◌++◌, Bool, List, length, Some, None}
+use Rattle.std.specs.Prelude.{◌≡◌, ℕ, ◌+◌, ◌++◌, ◌<◌, Bool, List, [], ◌∷◌, length, true, Some, None}
 use Rattle.std.specs.List.{flat_map, range_with_len}
 use Rattle.batch.specs.declared.transfer.Transfer.{Transfer}
+use Rattle.batch.specs.Batches.{IsBatch}
 use Rattle.c004_commands.specs.declared.command.Command.{Command}
+use Rattle.c004_commands.specs.declared.command.Command.TheVariants.{Settle}
 use Rattle.crossbar.specs.declared.chip.Wiring.{Wiring}
 use Rattle.crossbar.specs.declared.traffic.Passing.{Passing}
+use Rattle.link_graph.specs.Schedules.{IsScheduleOf}
 use Rattle.setting_runner.specs.Traffic.{LeavesTraffic}
 use Rattle.setting_runner.specs.declared.outcome.Outcome.TheVariants.{Completed}
 use Rattle.switch_settings.specs.Pairs.{all_enquiries}
 use Rattle.switch_settings.specs.Racks.{IsAsWide, is_wide}
 use Rattle.switch_settings.specs.Schedules.{EachIsSent}
+use Rattle.switch_settings.specs.Sending.{pairs_at, standing_before, turning}
+use Rattle.steady_schedule.specs.Changes.{join_same}
+use Rattle.steady_schedule.specs.Needs.{setting_at}
 use Rattle.rack_answers.specs.Switching.{lines_for, settings_bytes_text}
 
 -- By this traffic of so many settings each switch was sent, setting by setting, the bytes that a
@@ -30,3 +36,13 @@ ToldIsSent =
     → LeavesTraffic modules batch settings (Completed done words) (Some old) (Some new)
     → (more : List Passing) × (new ≡ old ++ more)
     × TellsSent (is_wide batch) (length settings) (settings_bytes_text None batch settings) more
+
+-- for a setting that joins the same pairs of modules as the one before, each switch is sent the end
+-- of a sequence alone
+abbrev pub HeldIsSettled : Type 0
+HeldIsSettled =
+    (batch : List Transfer) (settings : List (List ℕ)) (k : ℕ) (wiring : Wiring)
+    → IsBatch batch → IsScheduleOf batch settings → k + 1 < length settings
+    → join_same batch (setting_at settings k) (setting_at settings (k + 1)) ≡ true
+    → turning wiring (standing_before batch settings (k + 1)) (pairs_at batch settings (k + 1))
+    ≡ Settle ∷ []

@@ -1,11 +1,14 @@
 //! What is told of a schedule that the checker refuses.
 
+ghost use Rattle.std.specs.Prelude.{IfSome};
+ghost use Rattle.link_graph.specs.Checks.{IsSettingsFault};
+
 use crate::clashes::clashing;
 use crate::lines::announced;
 use crate::pieces::{Held, TextLine};
 use crate::told::{Named, Note};
 use batch::{Batch, BatchFault, Place, Shape};
-use link_graph::{Link, Schedule};
+use link_graph::{Certificate, CheckFault, Link, Schedule, check_schedule};
 use refusals::{Refusal, Validity};
 use std::alloc::Global;
 use std::fmt::{self, Display, Formatter, Write};
@@ -50,14 +53,40 @@ pub(crate) fn write_known<W: Write>(
     validity: Validity,
 ) -> fmt::Result {
     match validity {
-        Validity::Unknown => Ok(()),
-        Validity::Invalid => f.write_str("; the schedule isn't valid either"),
+        Validity::Unknown | Validity::Invalid => Ok(()),
         Validity::Valid(enough) if enough >= announced(plan.text) => {
             f.write_str("; the schedule is valid, and none has fewer settings")
         }
         Validity::Valid(1) => f.write_str("; the schedule is valid, and 1 setting is enough"),
         Validity::Valid(n) => { write!(f, "; the schedule is valid, and {n} settings are enough") }
     }
+}
+
+/// The first fault of the settings of a schedule, where there is one and memory to find it.
+fn first_fault(alloc: Global, batch: &Batch, schedule: &Schedule) -> Option<CheckFault>
+    ensures { IfSome result (IsSettingsFault batch.now schedule.now) }
+{
+    match check_schedule(alloc, batch, schedule, &Certificate::none()) {
+        Ok(_)
+        | Err(
+            CheckFault::NoMemory
+            | CheckFault::WrongLink(_)
+            | CheckFault::CertificateRepeats(_)
+            | CheckFault::NotTight(_, _),
+        ) => None,
+        Err(fault) => Some(fault),
+    }
+}
+
+/// What is told of the first fault of the settings, in place of that of the certificate.
+pub(crate) fn note_of_settings(note: Note<'_>) -> Option<Note<'_>> {
+    let batch = Batch::read(note.alloc, note.texts.list.text, Shape::WIDEST).ok()?;
+    let (schedule, _) = Schedule::read(note.alloc, note.texts.other.text).ok()?;
+    let fault = first_fault(note.alloc, &batch, &schedule)?;
+    Some(Note {
+        refusal: Refusal::from(fault),
+        ..note
+    })
 }
 
 /// The block that a transfer of a batch writes: none where the text is no batch.

@@ -4,9 +4,10 @@ ghost use Rattle.std.specs.Prelude.{◌≡◌, ◌≢◌, List, ℕ, IfSome, str
 ghost use Rattle.refusal_notes.specs.Told.{line_told};
 
 use crate::recorded::note_of_call;
+use crate::schedules::note_of_settings;
 use crate::told::{Named, Note, Texts};
 use batch::Shape;
-use refusals::Refusal;
+use refusals::{Refusal, Validity};
 use std::alloc::Global;
 use std::fmt::Display;
 
@@ -27,9 +28,14 @@ pub fn second_line(alloc: Global, refusal: Refusal, texts: Texts<'_>) -> Option<
         above: 0,
         alloc,
     };
-    match refusal {
-        Refusal::NoMemory | Refusal::File | Refusal::Port(_) => None,
-        Refusal::RecordCall(_) => told(alloc, &note_of_call(note)?),
+    match (refusal, texts.validity) {
+        (Refusal::NoMemory | Refusal::File | Refusal::Port(_), _) => None,
+        (Refusal::RecordCall(_), _) => told(alloc, &note_of_call(note)?),
+        (Refusal::NoCertificate, Validity::Invalid) => {
+            let settings = note_of_settings(note)?;
+            let words = format!(in alloc; "{note}; {settings}").ok()?;
+            told(alloc, &words)
+        }
         _ => told(alloc, &note),
     }
 }

@@ -1,6 +1,7 @@
 -- Each cell stands beside the labels, within the width, and above the legend.
-use Rattle.std.proofs.Common.{◌≡◌, ℕ, ◌+◌, ◌*◌, ◌/◌, ◌<◌, ◌≤◌, List, Some, slice_get, subst, arith}
+use Rattle.std.proofs.Common.{◌≡◌, ℕ, ◌+◌, ◌*◌, ◌/◌, ◌<◌, ◌≤◌, inl, inr, List, Some, slice_get, subst, arith}
 use Rattle.std.proofs.Math.Nat.{le-max_right}
+use Rattle.std.proofs.lemmas.Bool.{cases_lt}
 use Rattle.std.proofs.lemmas.Option.{slice_get_within, get_or_from_slice_get}
 use Rattle.batch.specs.declared.transfer.Transfer.{Transfer}
 use Rattle.batch.specs.Batches.{IsBatch}
@@ -12,7 +13,7 @@ use Rattle.link_graph.specs.Counts.{module_at}
 use Rattle.schedule_picture.specs.declared.layout.TheConstants.{MARGIN, PANEL, LABELS, COLUMN, CELL_WIDTH, HALF, LEAST}
 use Rattle.schedule_picture.specs.Places.{takes_part, half_place, rack_modules, column_place, panels_of, panel_place, width_of, row_place, legend_place}
 use Rattle.schedule_picture.specs.Cells.{cell_left}
-use Rattle.schedule_picture.specs.Laws.{AllIsInView}
+use Rattle.schedule_picture.specs.Laws.{AllIsInView, RulesAreApart}
 use Rattle.schedule_picture.proofs.Overlaps.{rows_grow, has_row}
 
 behind : (k : ℕ) → panel_place (k / PANEL) + LABELS ≤ cell_left k
@@ -26,6 +27,17 @@ before k = omega arith
 within : (k settings : ℕ) → k < settings → cell_left k + CELL_WIDTH ≤ width_of settings
 unfolding column_place width_of
 within k settings lt = omega (arith, le-max_right LEAST (2 * MARGIN + panels_of settings * LABELS + settings * COLUMN))
+
+pub rules_apart : RulesAreApart
+unfolding panel_place column_place width_of
+rules_apart columns j lt = record {
+  behind_labels = omega arith;
+  within_width = omega (arith, lt, le-max_right LEAST (2 * MARGIN + panels_of columns * LABELS + columns * COLUMN));
+  on_no_cell = λ l. elim (cases_lt l j) [
+    | inl before ↦ inr (omega arith)
+    | inr after ↦ inl (omega arith)
+  ];
+}
 
 half_below : (e : End) → half_place e ≤ HALF
 half_below Zero = omega arith

@@ -5,3 +5,4 @@ pub mod Needed
 pub mod OneVerdict
 pub mod Overlaps
 pub mod InView
+pub mod OneByOne

@@ -1,7 +1,7 @@
 -- No cell of a picture hides another, and each stands where it can be seen. The number of settings
 -- that it tells as enough is that of each schedule with a certificate. No schedule has fewer
 -- changes of the switch than it tells as the fewest.
-use Rattle.std.specs.Prelude.{ℕ, ◌≡◌, ◌<◌, ◌≤◌, ◌+◌, ◌/◌, List, Option, Some, length, slice_get}
+use Rattle.std.specs.Prelude.{ℕ, ◌≡◌, ◌<◌, ◌≤◌, ◌+◌, ◌/◌, ◌⊎◌, List, Option, Some, length, slice_get}
 use Rattle.batch.specs.declared.transfer.Transfer.{Transfer}
 use Rattle.batch.specs.Batches.{IsBatch}
 use Rattle.link_graph.specs.declared.link.End.{End}
@@ -64,6 +64,18 @@ AllIsInView =
     (batch : List Transfer) (settings : List (List ℕ)) (shown : Shown) → IsBatch batch
     → (j i : ℕ) (x : Transfer) (e : End) → IsDrawnAt batch settings shown j i x
     → IsInView batch shown.count j x e
+
+-- the rule before column j of so many stands behind the labels of its panel, within the width of
+-- the picture, and on no cell
+pub record RuleIsApart (columns j : ℕ) : Type 0 where
+  pub behind_labels : panel_place (j / PANEL) + LABELS ≤ column_place j
+  pub within_width : column_place j < width_of columns
+  pub on_no_cell : (l : ℕ) → (column_place j < cell_left l)
+      ⊎ (cell_left l + CELL_WIDTH < column_place j)
+
+-- so each rule stands
+abbrev pub RulesAreApart : Type 0
+RulesAreApart = (columns j : ℕ) → j < columns → RuleIsApart columns j
 
 -- no schedule of the batch has fewer settings than this, and one that has a certificate has just so
 -- many

@@ -13,6 +13,7 @@ use Rattle.schedule_picture.specs.Places.{rack_modules, legend_place, height_of,
 use Rattle.schedule_picture.specs.Elements.{link_label}
 use Rattle.schedule_picture.specs.Cells.{column_text}
 use Rattle.schedule_picture.specs.RowsText.{row_text, headings_text}
+use Rattle.schedule_picture.specs.Rules.{changes_at, rule_text}
 use Rattle.steady_schedule.specs.Needs.{setting_at}
 
 -- `, the fewest`, or how many are enough
@@ -119,14 +120,19 @@ unfoldable pub rows_text : List Transfer → ℕ → Option Link → List ℕ
 rows_text batch columns busiest =
     flat_map (row_text batch columns busiest) (range_with_len 0 rack_modules)
 
--- the columns of the settings that are shown, in their order
+-- setting k in column j: the rule where the switch changes for it, and the column
+unfoldable pub setting_text : List Transfer → List (List ℕ) → ℕ → ℕ → List ℕ
+setting_text batch settings j k =
+    rule_text batch j (changes_at batch settings k)
+    ++ column_text batch j k (setting_at settings k)
+
+-- the settings that are shown, in their order
 unfoldable pub columns_text : List Transfer → List (List ℕ) → Shown → List ℕ
 columns_text batch settings shown =
-    flat_map
-    (λ j. column_text batch j (shown.first + j) (setting_at settings (shown.first + j)))
-    (range_with_len 0 shown.count)
+    flat_map (λ j. setting_text batch settings j (shown.first + j)) (range_with_len 0 shown.count)
 
--- the rows, the headings of the columns, the columns of cells over the rows, and the legend below
+-- the rows, the headings of the columns, rules and columns of cells over the rows, and the legend
+-- below
 abbrev pub picture_of : List Transfer → List (List ℕ) → Verdict → Shown → List ℕ
 picture_of batch settings verdict shown =
     opening_text batch (length settings) verdict shown

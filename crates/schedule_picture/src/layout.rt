@@ -38,6 +38,9 @@ pub const CELL_WIDTH: usize = 28;
 /// The height of a cell.
 pub const CELL_HEIGHT: usize = 16;
 
+/// How far a rule begins above the first row, and how far it ends above the legend.
+pub const RULE_ABOVE: usize = 8;
+
 /// The height of what stands below the rows.
 pub const LEGEND: usize = 112;
 

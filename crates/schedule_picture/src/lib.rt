@@ -7,10 +7,11 @@
 //!
 //! [`draw`] gives one text, `picture_of` of `specs/Picture.antt`. No cell lies over another
 //! (`laws::nothing_overlaps`), and each stands whole in its column and its half of a row
-//! (`laws::all_is_in_view`). [`verdict_on`] tells of a schedule of the batch how many transfers the
-//! busiest link has, how the certificate stands, how often the switch changes, and the most
-//! partners of a link (`IsVerdict` of `specs/Verdicts.antt`); of what is no schedule, the first
-//! fault of its settings. No schedule has fewer settings than there are such transfers
+//! (`laws::all_is_in_view`). No rule stands on a cell (`laws::rules_are_apart`). [`standing_of`]
+//! tells how the certificate of a schedule stands, or of what is no schedule of the batch the first
+//! fault of its settings. [`verdict_on`] tells how many transfers the busiest link has, how often
+//! the switch changes, the most partners of a link, and what prices show (`IsVerdict` of
+//! `specs/Verdicts.antt`). No schedule has fewer settings than there are such transfers
 //! (`laws::tells_fewest`), or fewer changes than such partners (`laws::tells_needed_changes`).
 #![tactic(auto)]
 
@@ -21,10 +22,11 @@ mod layout;
 mod picture;
 mod rows;
 mod rows_text;
+mod rules;
 mod shown;
 mod style;
 mod verdict;
 
 pub use picture::draw;
 pub use shown::Shown;
-pub use verdict::{Standing, Verdict, verdict_on};
+pub use verdict::{Standing, Verdict, standing_of, verdict_on};

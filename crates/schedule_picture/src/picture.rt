@@ -4,13 +4,14 @@ ghost use Rattle.std.specs.Prelude.{◌≡◌, ◌<◌, ◌≤◌, ◌+◌, All,
 ghost use Rattle.batch.specs.Text.{IsNumber};
 ghost use Rattle.link_graph.specs.Schedules.{IsScheduleOf};
 ghost use Rattle.schedule_picture.specs.Elements.{Adds};
-ghost use Rattle.schedule_picture.specs.Picture.{bound_words, changes_words, busiest_words, length_words, heading_text, standing_words, shown_words, note_text, size_text, ground_text, title_part, caption_part, opening_text, rows_text, columns_text, closing_text, picture_of};
+ghost use Rattle.schedule_picture.specs.Picture.{bound_words, changes_words, busiest_words, length_words, heading_text, standing_words, shown_words, note_text, size_text, ground_text, title_part, caption_part, opening_text, rows_text, setting_text, columns_text, closing_text, picture_of};
 
 use crate::cells::push_column;
 use crate::elements::push_link;
 use crate::layout::width;
 use crate::rows::Rows;
 use crate::rows_text::{push_headings, push_row};
+use crate::rules::{changes_at, push_rule};
 use crate::shown::Shown;
 use crate::style::{EXPLAINED, STYLE};
 use crate::verdict::{Standing, Verdict};
@@ -222,6 +223,29 @@ fn push_rows(
     Ok(())
 }
 
+/// Puts a setting at the end of the text: its column, with a rule before it where the switch
+/// changes.
+fn push_setting(
+    text: &mut String,
+    rows: &Rows<'_>,
+    schedule: &Schedule,
+    column: usize,
+    k: usize,
+) -> Result<(), AllocError>
+    requires column { IsNumber column }
+    requires setting { k < length schedule.now }
+    requires known { All (All (λ t. t < length rows.now)) schedule.now }
+    ensures { OnOk result
+        (Adds text.old text.new (setting_text rows.now schedule.now column k)) }
+{
+    let Some(numbers) = schedule.setting(k) else {
+        unreachable!();
+    };
+    let changes = changes_at(rows.transfers(), schedule, k);
+    push_rule(text, rows, column, changes)?;
+    push_column(text, rows, column, k, numbers)
+}
+
 /// Puts the columns of the settings that are shown at the end of the text.
 fn push_columns(
     text: &mut String,
@@ -235,11 +259,7 @@ fn push_columns(
     ensures { OnOk result (Adds text.old text.new (columns_text rows.now schedule.now shown)) }
 {
     for j in 0..shown.count {
-        let k = shown.first + j;
-        let Some(numbers) = schedule.setting(k) else {
-            unreachable!();
-        };
-        push_column(text, rows, j, k, numbers)?;
+        push_setting(text, rows, schedule, j, shown.first + j)?;
     }
     Ok(())
 }
@@ -260,9 +280,10 @@ fn push_closing(text: &mut String, rows: &Rows<'_>) -> Result<(), AllocError>
 /// shown in columns. A transfer of these has two cells in its setting's column: one in the upper
 /// half of its initiator's row, for link 0, and one in the lower half of its responder's, for link
 /// 3. Each has the number and the colour of the module at the other side, and a title that says the
-/// transfer. The half of the busiest link is marked. The title says what the verdict is, and which
-/// settings are shown where these aren't all. All numbers are whole. Takes time that grows with the
-/// length of the text.
+/// transfer. The half of the busiest link is marked. A dashed rule stands before each column whose
+/// setting changes the switch. The title says what the verdict is, and which settings are shown
+/// where these aren't all. All numbers are whole. Takes time that grows with the length of the
+/// text.
 pub fn draw(
     alloc: Global,
     batch: &Batch,

@@ -14,14 +14,15 @@ text{font:12px sans-serif;text-anchor:middle}\n\
 .lane text{fill:#595959}\n\
 .busiest rect{fill:#000}\n\
 .busiest text{font-weight:bold}\n\
-.m0{fill:#56b4e9}.m1{fill:#e69f00}.m2{fill:#808060}.m3{fill:#ffffc0}\n\
-.m4{fill:#a0c0a0}.m5{fill:#8060ff}.m6{fill:#ffff00}.m7{fill:#60a0a0}\n\
-.m8{fill:#808000}.m9{fill:#c0e0ff}.m10{fill:#6080a0}.m11{fill:#c0c080}\n\
-.m12{fill:#80c0c0}.m13{fill:#80a060}.m14{fill:#40a080}.m15{fill:#ffe080}\n\
-.m16{fill:#ffc040}.m17{fill:#60a0ff}.m18{fill:#ff20c0}.m19{fill:#e06040}\n\
-.m20{fill:#00a0c0}.m21{fill:#ffe0c0}.m22{fill:#ffa060}.m23{fill:#a0c0e0}\n\
-.m24{fill:#e06080}.m25{fill:#a0e0a0}.m26{fill:#00a040}.m27{fill:#ffffa0}\n\
-.m28{fill:#4080c0}.m29{fill:#ffe000}.m30{fill:#ff6080}.m31{fill:#8080e0}\n\
+.change{stroke:#000;stroke-dasharray:3 3}\n\
+.m0{fill:#56b4e9}.m1{fill:#e08020}.m2{fill:#20c0a0}.m3{fill:#ffffa0}\n\
+.m4{fill:#c000ff}.m5{fill:#6080a0}.m6{fill:#ffc000}.m7{fill:#ff6080}\n\
+.m8{fill:#60c0c0}.m9{fill:#40a0a0}.m10{fill:#c0e0ff}.m11{fill:#ffff20}\n\
+.m12{fill:#808040}.m13{fill:#608060}.m14{fill:#ffc080}.m15{fill:#ffe0c0}\n\
+.m16{fill:#00a080}.m17{fill:#e0c0a0}.m18{fill:#e0e060}.m19{fill:#e0a000}\n\
+.m20{fill:#c080a0}.m21{fill:#a060c0}.m22{fill:#808000}.m23{fill:#ff80e0}\n\
+.m24{fill:#ffe0a0}.m25{fill:#c060e0}.m26{fill:#ffa060}.m27{fill:#00a060}\n\
+.m28{fill:#e0a080}.m29{fill:#00a0c0}.m30{fill:#e06080}.m31{fill:#e060c0}\n\
 @media (prefers-color-scheme:dark){\n\
 svg{background:#111}\n\
 .paper{fill:#111}\n\
@@ -29,6 +30,7 @@ svg{background:#111}\n\
 .number,.lane text{fill:#aaa}\n\
 .lane rect{fill:#333}\n\
 .busiest rect{fill:#fff}\n\
+.change{stroke:#eee}\n\
 }\n\
 </style>\n\
 ";
@@ -46,6 +48,6 @@ width='28' height='16'/>\n\
 link. No two of its transfers share a setting, so it wants a setting for each.</text>\n\
 <text class='note' y='78'>Columns are settings of the switch. In a module's row, link 0 \
 above starts transfers, and link 3 below answers them.</text>\n\
-<text class='note' y='96'>Changes: settings that join other pairs of links than the one \
-before. A link needs one for each of its partners.</text>\n\
+<text class='note' y='96'>Dashed: here the switch changes, to join other pairs of links. \
+A link needs a change for each of its partners.</text>\n\
 ";

@@ -72,7 +72,11 @@ fn standing_by(
 
 /// How the certificate of a schedule of the batch stands, where it has one, or what is first wrong
 /// with its settings.
-fn standing_of(
+///
+/// A certificate that is wrong, or none, is no fault. The faults are those of [`check_schedule`],
+/// in their order. Takes time that grows with the numbers of transfers, of settings and of all that
+/// stands in the settings and in the certificate.
+pub fn standing_of(
     alloc: Global,
     batch: &Batch,
     schedule: &Schedule,
@@ -152,25 +156,22 @@ fn least(
     Ok(shown)
 }
 
-/// The verdict on a schedule of the batch, with the certificate that it has, or what is first wrong
-/// with its settings.
+/// The verdict on a schedule of the batch, whose certificate, where it has one, stands so.
 ///
-/// A certificate that is wrong, or none, is no fault. The faults are those of [`check_schedule`],
-/// in their order. Takes time that grows with the numbers of transfers, of settings and of all that
-/// stands in the settings and in the certificate.
+/// It looks for prices as [`most_shown`] does, but where the changes are as few as a link has
+/// partners, or the settings more than are enough. All else takes time that grows with the numbers
+/// of transfers and of settings.
 pub fn verdict_on(
     alloc: Global,
     batch: &Batch,
     schedule: &Schedule,
     certificate: Option<&Certificate>,
-) -> Result<Verdict, CheckFault>
-    ensures schedule { OnOk result (IsScheduleOf batch.now schedule.now) }
-    ensures verdict { IfOk result
-        (IsVerdict batch.now schedule.now (option_copied certificate.entry)) }
-    ensures fault { IfErr result (λ fault. fault ≢ NoMemory
-        → IsSettingsFault batch.now schedule.now fault) }
+    standing: Standing,
+) -> Result<Verdict, AllocError>
+    requires schedule { IsScheduleOf batch.now schedule.now }
+    requires standing { IsStanding batch.now schedule.now (option_copied certificate) standing }
+    ensures { IfOk result (IsVerdict batch.now schedule.now (option_copied certificate.entry)) }
 {
-    let standing = standing_of(alloc, batch, schedule, certificate)?;
     let graph = LinkGraph::of(batch)?;
     let busiest = graph.busiest();
     let fewest = uses(&graph, busiest);

@@ -12,6 +12,7 @@ pub mod Halls
 pub mod Covers
 pub mod Waiting
 pub mod Steps
+pub mod Leaving
 pub mod Reaches
 pub mod Longest
 pub mod Slots

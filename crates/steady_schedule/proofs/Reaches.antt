@@ -12,6 +12,7 @@ use Rattle.steady_schedule.specs.Matchings.{AreMatched}
 use Rattle.steady_schedule.specs.Reaches.{AreHeld, HaveHeld, HaveEach}
 use Rattle.steady_schedule.specs.Searches.{JoinsNear}
 use Rattle.steady_schedule.specs.Waiting.{count_at, count_between}
+use Rattle.steady_schedule.proofs.Matchings.{has_low, partner_low, turned}
 use Rattle.steady_schedule.proofs.Searching.{both_bits}
 
 -- a pair that is in the masks now was there, or is the new one
@@ -25,8 +26,8 @@ was_or_is masks now a b put P new old u v has = elim (cases_Bool (has_pair masks
 
 pub held_more : (counts : List ℕ) (k : ℕ) (zn tn zn_now tn_now : List ℕ) (a b : ℕ) → k ≤ count_at counts a b → ((u v : ℕ) → has_pair zn_now u v ≡ (has_pair zn u v || (a == u && b == v))) → ((u v : ℕ) → has_pair tn_now u v ≡ (has_pair tn u v || (b == u && a == v))) → AreHeld counts k zn tn → AreHeld counts k zn_now tn_now
 held_more counts k zn tn zn_now tn_now a b some zero three h = record {
-  zero = was_or_is zn zn_now a b zero (λ u v. k ≤ count_at counts u v) some h.zero;
-  three = λ u v has. was_or_is tn tn_now b a three (λ y x. k ≤ count_at counts x y) some (λ y x t. h.three x y t) v u has;
+  zero = λ u v u_in v_in has. was_or_is zn zn_now a b zero (λ x y. x < MAX_MODULES → y < MAX_MODULES → k ≤ count_at counts x y) (λ _ _. some) (λ x y t x_in y_in. h.zero x y x_in y_in t) u v has u_in v_in;
+  three = λ u v u_in v_in has. was_or_is tn tn_now b a three (λ y x. x < MAX_MODULES → y < MAX_MODULES → k ≤ count_at counts x y) (λ _ _. some) (λ y x t x_in y_in. h.three x y x_in y_in t) v u has u_in v_in;
 }
 
 -- ---- all pairs that can be held
@@ -94,11 +95,11 @@ within_more masks near n rest n_in old u v has = elim (cases_eq u n) [
 -- ---- pairs that are joined
 
 -- pairs that a search joined, from the one end or the other
-pub each_joined : (counts : List ℕ) (k : ℕ) (zn tn : List ℕ) (zero now : List (Option ℕ)) → AreHeld counts k zn tn → JoinsNear zn zero now → HaveEach counts k zero → HaveEach counts k now
-each_joined counts k zn tn zero now h joins old x y joined = elim (joins x y joined) [ inl same ↦ old x y same | inr near ↦ h.zero x y near ]
+pub each_joined : (counts : List ℕ) (k : ℕ) (zn tn : List ℕ) (zero now back : List (Option ℕ)) → AreHeld counts k zn tn → AreMatched now back → JoinsNear zn zero now → HaveEach counts k zero → HaveEach counts k now
+each_joined counts k zn tn zero now back h m joins old x y joined = elim (joins x y joined) [ inl same ↦ old x y same | inr near ↦ h.zero x y (has_low now x y m.sized joined) (partner_low now back x y m joined) near ]
 
 pub each_turned : (counts : List ℕ) (k : ℕ) (zn tn : List ℕ) (zero three zero_now three_now : List (Option ℕ)) → AreHeld counts k zn tn → AreMatched zero three → AreMatched three_now zero_now → JoinsNear tn three three_now → HaveEach counts k zero → HaveEach counts k zero_now
 each_turned counts k zn tn zero three zero_now three_now h m m_now joins old x y joined = elim (joins y x ((m_now.each_other y x).1 joined)) [
   | inl same ↦ old x y ((m.each_other x y).1 same)
-  | inr near ↦ h.three x y near
+  | inr near ↦ h.three x y (has_low zero_now x y m_now.back_sized joined) (partner_low zero_now three_now x y (turned three_now zero_now m_now) joined) near
 ]

@@ -11,14 +11,35 @@ use Rattle.steady_schedule.specs.Waiting.{count_at, count_between, waiting}
 -- each pair of links in the masks of the links 0, and in those of the links 3, has k transfers that
 -- wait, or more
 pub record AreHeld (counts : List ℕ) (k : ℕ) (zero_near three_near : List ℕ) : Type 0 where
-  pub zero : (u v : ℕ) → has_pair zero_near u v ≡ true → k ≤ count_at counts u v
-  pub three : (u v : ℕ) → has_pair three_near v u ≡ true → k ≤ count_at counts u v
+  pub zero : (u v : ℕ) → u < MAX_MODULES → v < MAX_MODULES → has_pair zero_near u v ≡ true
+      → k ≤ count_at counts u v
+  pub three : (u v : ℕ) → u < MAX_MODULES → v < MAX_MODULES → has_pair three_near v u ≡ true
+      → k ≤ count_at counts u v
 
 -- each pair of the first n links 0 that has k transfers that wait, or more, is in the masks
 abbrev pub HaveHeld : List ℕ → ℕ → ℕ → List ℕ → List ℕ → Type 0
 HaveHeld counts k n zero_near three_near =
     (u v : ℕ) → u < n → v < MAX_MODULES → k ≤ count_at counts u v
     → (has_pair zero_near u v ≡ true) × (has_pair three_near v u ≡ true)
+
+-- The pair of link 0 u is out, where it is joined and has fewer than k transfers once it was held for some settings; all others are as
+-- they were.
+pub record HasLeft (counts : List ℕ) (k held : ℕ) (zero : List (Option ℕ)) (u : ℕ) (zero_old three_old zero_new three_new : List ℕ) : Type 0 where
+  pub zero_was : (x y : ℕ) → has_pair zero_new x y ≡ true → has_pair zero_old x y ≡ true
+  pub three_was : (x y : ℕ) → has_pair three_new y x ≡ true → has_pair three_old y x ≡ true
+  pub zero_out : (y : ℕ) → partner zero u ≡ Some y → has_pair zero_new u y ≡ true → k + held ≤ count_at counts u y
+  pub three_out : (y : ℕ) → partner zero u ≡ Some y → has_pair three_new y u ≡ true → k + held ≤ count_at counts u y
+  pub zero_still : (x y : ℕ) → has_pair zero_old x y ≡ true → (x ≡ u → partner zero u ≡ Some y → k + held ≤ count_at counts u y) → has_pair zero_new x y ≡ true
+  pub three_still : (x y : ℕ) → has_pair three_old y x ≡ true → (x ≡ u → partner zero u ≡ Some y → k + held ≤ count_at counts u y) → has_pair three_new y x ≡ true
+
+-- so are the pairs of the first n links 0
+pub record HaveLeft (counts : List ℕ) (k held : ℕ) (zero : List (Option ℕ)) (n : ℕ) (zero_old three_old zero_new three_new : List ℕ) : Type 0 where
+  pub zero_was : (x y : ℕ) → has_pair zero_new x y ≡ true → has_pair zero_old x y ≡ true
+  pub three_was : (x y : ℕ) → has_pair three_new y x ≡ true → has_pair three_old y x ≡ true
+  pub zero_out : (x y : ℕ) → x < n → partner zero x ≡ Some y → has_pair zero_new x y ≡ true → k + held ≤ count_at counts x y
+  pub three_out : (x y : ℕ) → x < n → partner zero x ≡ Some y → has_pair three_new y x ≡ true → k + held ≤ count_at counts x y
+  pub zero_still : (x y : ℕ) → has_pair zero_old x y ≡ true → (partner zero x ≡ Some y → k + held ≤ count_at counts x y) → has_pair zero_new x y ≡ true
+  pub three_still : (x y : ℕ) → has_pair three_old y x ≡ true → (partner zero x ≡ Some y → k + held ≤ count_at counts x y) → has_pair three_new y x ≡ true
 
 -- just those of the first n links that have more transfers are in the mask
 abbrev pub IsOverMask : List ℕ → ℕ → ℕ → ℕ → Type 0

@@ -319,6 +319,7 @@ impl Choice {
     fn of(
         remaining: &Remaining,
         before: &Matching,
+        reach: Reach,
         most: usize,
         modules: usize,
         settings: usize,
@@ -330,8 +331,14 @@ impl Choice {
         requires most { HaveMost remaining.now.counts most }
         requires some { 0 < settings }
         requires left { settings ≤ most }
+        requires kept { reach.settings ≡ settings
+            → AreHeld remaining.now.counts settings reach.zero.near reach.three.near }
+        requires kept_all { reach.settings ≡ settings
+            → HaveHeld remaining.now.counts settings modules reach.zero.near reach.three.near }
         ensures each { HaveEach remaining.now.counts settings result.matching.zero }
         ensures held { AreHeld remaining.now.counts settings
+            result.reach.zero.near result.reach.three.near }
+        ensures all { HaveHeld remaining.now.counts settings modules
             result.reach.zero.near result.reach.three.near }
         ensures joined { ((result.shorter ≡ 0) × JoinsNeeded remaining.now.counts
             result.matching.zero result.matching.three most settings)
@@ -339,7 +346,7 @@ impl Choice {
         ensures settings { result.reach.settings ≡ settings }
         ensures shorter { result.shorter < settings }
     {
-        let reach = Reach::of(remaining, most, modules, settings, orders);
+        let reach = reach.renewed(remaining, most, modules, settings, orders);
         let mut matching = standing(before, &reach);
         let free_zero = free(&matching.zero, modules);
         let free_three = free(&matching.three, modules);
@@ -359,6 +366,7 @@ impl Choice {
 pub(crate) fn choose(
     remaining: &Remaining,
     before: &Matching,
+    reach: Reach,
     most: usize,
     modules: usize,
     longest: usize,
@@ -371,18 +379,29 @@ pub(crate) fn choose(
     requires most { HaveMost remaining.now.counts most }
     requires some_longest { 0 < longest }
     requires longest { NoneLonger remaining.now.counts most longest }
+    requires kept { AreHeld remaining.now.counts reach.settings reach.zero.near reach.three.near }
+    requires kept_all { 0 < reach.settings → HaveHeld remaining.now.counts reach.settings modules
+        reach.zero.near reach.three.near }
     ensures some { 0 < result.reach.settings }
     ensures few { result.reach.settings ≤ most }
     ensures each { HaveEach remaining.now.counts result.reach.settings result.matching.zero }
     ensures held { AreHeld remaining.now.counts result.reach.settings
         result.reach.zero.near result.reach.three.near }
+    ensures all { HaveHeld remaining.now.counts result.reach.settings modules
+        result.reach.zero.near result.reach.three.near }
     ensures joined { JoinsNeeded remaining.now.counts result.matching.zero result.matching.three
         most result.reach.settings }
     ensures longest { NoneLonger remaining.now.counts most result.reach.settings }
 {
-    let mut choice = Choice::of(remaining, before, most, modules, longest.min(most), orders);
+    let settings = longest.min(most);
+    let mut choice = Choice::of(remaining, before, reach, most, modules, settings, orders);
     'lengths: while choice.shorter > 0 {
-        choice = Choice::of(remaining, before, most, modules, choice.shorter, orders);
+        let Choice {
+            matching: _,
+            reach,
+            shorter,
+        } = choice;
+        choice = Choice::of(remaining, before, reach, most, modules, shorter, orders);
     }
     choice
 }

@@ -9,12 +9,13 @@ ghost use Rattle.link_graph.specs.Schedules.{lists_of};
 ghost use Rattle.steady_schedule.specs.Matchings.{partner, AreBelow};
 ghost use Rattle.steady_schedule.specs.Searches.{AreNear};
 ghost use Rattle.steady_schedule.specs.Slots.{slot, AreFirstSlots, AreSlotsOf, IsKeptFor, IsHeldAs, AreNumbered, AreNumberedFrom, KeepNumbers, AreSlotsFilled, AreReadInto, AreFilled, AreSlotsBelow, AreNumberedSettings};
-ghost use Rattle.steady_schedule.specs.Steps.{AreTaken};
+ghost use Rattle.steady_schedule.specs.Steps.{AreTaken, NoneLonger};
 ghost use Rattle.steady_schedule.specs.Waiting.{sum_below, pair_index, count_at, ArePairCounts, HaveMost};
 
 use crate::gathering::{empty_lists, push_into};
 use crate::masks::{ORDERS, Orders};
 use crate::matching::{Matching, part};
+use crate::reach::Reach;
 use crate::remaining::{PAIRS, Remaining};
 use crate::stepping::next_step;
 use batch::{MAX_MODULES, MAX_TRANSFERS};
@@ -144,30 +145,58 @@ fn hold(
 }
 
 /// Writes the numbers of their settings for all transfers that wait, by steps in which links are
-/// tried in these orders. Gives how many steps that makes; no contract says so.
+/// tried in these orders. Gives how many steps that makes; no contract says so. Where it can't make
+/// fewer than `enough` it ends early, and gives that: no step is longer than the one before it. No
+/// step can be longer than `longest`; gives how long the first one can be, too.
 fn fill(
     remaining: &Remaining,
     places: &Places<'_>,
     slots: &mut [usize],
     settings: usize,
+    enough: usize,
+    longest: usize,
     orders: Orders,
-) -> usize
+) -> (usize, usize)
     requires whole { remaining.now.counts ≡ places.now.totals.now }
     requires most { HaveMost remaining.now.counts settings }
     requires few { settings ≤ MAX_TRANSFERS }
     requires room { length slots.old
         ≡ sum_below (MAX_MODULES * MAX_MODULES) (slice_index places.now.totals.now) }
-    ensures { AreFilled places.now.totals.now slots.new settings }
+    requires some_longest { 0 < longest }
+    requires longest { NoneLonger remaining.now.counts settings longest }
+    ensures filled { result.0 < enough → AreFilled places.now.totals.now slots.new settings }
+    ensures fewer { settings < enough → result.0 < enough }
+    ensures some_longest { 0 < result.1 }
+    ensures longest { NoneLonger remaining.now.counts settings result.1 }
 {
     let mut left = *remaining;
     let modules = left.modules();
     let mut matching = Matching::none();
     let mut first = 0;
     let mut steps = 0usize;
-    let mut held = MAX_TRANSFERS;
+    let mut held = longest;
+    let mut top = longest;
+    let mut reach = Reach::none(orders);
     'steps: while first < settings {
         let most = settings - first;
-        held = next_step(&left, &mut matching, most, modules, held, orders);
+        if enough <= steps + (most - 1) / held + 1 {
+            return (enough, top);
+        }
+        let (settings_held, kept) = next_step(
+            &left,
+            &mut matching,
+            reach,
+            most,
+            modules,
+            held,
+            orders,
+        );
+        held = settings_held;
+        reach = kept;
+        reach.leave(&left, &matching, held);
+        if first == 0 {
+            top = held;
+        }
         hold(
             &mut left,
             &mut matching,
@@ -178,9 +207,9 @@ fn fill(
             modules,
         );
         first += held;
-        steps = steps.saturating_add(1);
+        steps += 1;
     }
-    steps
+    (steps, top)
 }
 
 /// Does so in the order that makes the fewest steps, or in the first one where that makes as few as
@@ -200,12 +229,29 @@ fn fill_best(
     requires spare { length spare.old ≡ length slots.old }
     ensures { AreFilled places.now.totals.now slots.new settings }
 {
-    let mut best = fill(remaining, places, slots, settings, ORDERS[0]);
+    let (mut best, mut longest) = fill(
+        remaining,
+        places,
+        slots,
+        settings,
+        settings + 1,
+        MAX_TRANSFERS,
+        ORDERS[0],
+    );
     for place in 1..ORDERS.len() {
         if best <= remaining.most_near() {
             return;
         }
-        let steps = fill(remaining, places, spare, settings, ORDERS[place]);
+        let (steps, top) = fill(
+            remaining,
+            places,
+            spare,
+            settings,
+            best,
+            longest,
+            ORDERS[place],
+        );
+        longest = top;
         if steps < best {
             best = steps;
             slots.copy_from_slice(spare);

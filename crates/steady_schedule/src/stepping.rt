@@ -6,6 +6,7 @@ ghost use Rattle.batch.specs.declared.limits.TheConstants.{MAX_MODULES, MAX_TRAN
 ghost use Rattle.steady_schedule.specs.Covers.{AreFree, AreCovered, KeepsPartners};
 ghost use Rattle.link_graph.specs.Masks.{has_bit, has_pair};
 ghost use Rattle.steady_schedule.specs.Matchings.{partner, AreBelow};
+ghost use Rattle.steady_schedule.specs.Reaches.{AreHeld, HaveHeld};
 ghost use Rattle.steady_schedule.specs.Searches.{AreNear, JoinsNear};
 ghost use Rattle.steady_schedule.specs.Steps.{CanHold, NoneLonger};
 ghost use Rattle.steady_schedule.specs.Waiting.{count_at, waiting, HaveMost, NoneWait};
@@ -13,6 +14,7 @@ ghost use Rattle.steady_schedule.specs.Waiting.{count_at, waiting, HaveMost, Non
 use crate::choosing::choose;
 use crate::masks::{Masks, Orders, lowest, without_module};
 use crate::matching::{Matching, free, join};
+use crate::reach::Reach;
 use crate::remaining::Remaining;
 use batch::MAX_MODULES;
 
@@ -147,11 +149,12 @@ fn how_long(remaining: &Remaining, matching: &Matching, most: usize, modules: us
 pub(crate) fn next_step(
     remaining: &Remaining,
     matching: &mut Matching,
+    reach: Reach,
     most: usize,
     modules: usize,
     longest: usize,
     orders: Orders,
-) -> usize
+) -> (usize, Reach)
     requires some { 0 < most }
     requires few { most ≤ MAX_TRANSFERS }
     requires most { HaveMost remaining.now.counts most }
@@ -159,13 +162,21 @@ pub(crate) fn next_step(
     requires none { NoneWait remaining.now.counts modules }
     requires some_longest { 0 < longest }
     requires longest { NoneLonger remaining.now.counts most longest }
-    ensures can { CanHold remaining.now.counts matching.new.zero matching.new.three most result }
-    ensures longest { NoneLonger remaining.now.counts most result }
-    ensures no_longer { result ≤ longest }
+    requires kept { AreHeld remaining.now.counts reach.settings reach.zero.near reach.three.near }
+    requires kept_all { 0 < reach.settings → HaveHeld remaining.now.counts reach.settings modules
+        reach.zero.near reach.three.near }
+    ensures can { CanHold remaining.now.counts matching.new.zero matching.new.three most result.0 }
+    ensures longest { NoneLonger remaining.now.counts most result.0 }
+    ensures no_longer { result.0 ≤ longest }
+    ensures kept { AreHeld remaining.now.counts result.1.settings
+        result.1.zero.near result.1.three.near }
+    ensures kept_all { HaveHeld remaining.now.counts result.1.settings modules
+        result.1.zero.near result.1.three.near }
     ensures low { AreBelow matching.new.zero modules }
 {
-    let choice = choose(remaining, matching, most, modules, longest, orders);
+    let choice = choose(remaining, matching, reach, most, modules, longest, orders);
     *matching = choice.matching;
     join_free(remaining, &choice.reach.zero.near, matching, modules);
-    how_long(remaining, matching, most, modules)
+    let held = how_long(remaining, matching, most, modules);
+    (held, choice.reach)
 }

@@ -4,7 +4,4 @@ pub mod Settings
 pub mod Telling
 pub mod Texts
 pub mod Asking
-pub mod Turning
-pub mod Sent
 pub mod ComingUp
-pub mod ComesUp

@@ -5,26 +5,17 @@
 //! its bytes went whole, each output replied as it calls for, and the end of the sequence was sent
 //! again; each reply is judged before the next output is asked. A setting of the pairs that stand
 //! already is told without any. The next one's bytes go only behind that (`IsDriven` of
-//! `specs/Driving.antt`; `Stands` of `specs/Steps.antt`). So each switch is sent these commands,
-//! and nothing between them (`laws::driven_is_sent`). A setting that couldn't be set is named with
-//! its cause, and isn't told (`HasDriveCause`). Where [`Lines`] wait, the next setting comes only
-//! behind one line that was read (`HasToldLine` of `specs/Lines.antt`).
+//! `specs/Driving.antt`; `Stands` of `specs/Steps.antt`). A setting that couldn't be set is named
+//! with its cause, and isn't told (`HasDriveCause`). Where [`Lines`] wait, the next setting comes
+//! only behind one line that was read (`HasToldLine` of `specs/Lines.antt`).
 //!
 //! What a [`StreamPort`] noted as sent was written to the stream of that switch, and what it noted
 //! as heard was read from it (`HasTried` of `specs/Ports.antt`). Before that each switch comes up,
 //! once (`CameUp` of `specs/ComingUp.antt`); until that went well, nothing else is sent to it.
-//! Whatever command it stands in, and whichever answers stand in its line, at most 31 with the one
-//! that the first byte may draw: just what is read then is all that comes (`laws::comes_up`).
-//!
-//! A switch that answers all enquiries by its data sheet, and as pairs call for, joins just what
-//! they call for, once the end of the sequence came, whatever it was sent before
-//! (`laws::replies_tell`). What is sent and asked up to a setting leads any switch to it, ready
-//! (`laws::driven_turns`).
 #![tactic(auto)]
 
 mod coming_up;
 mod driving;
-pub mod laws;
 mod lines;
 mod port;
 mod setting;

@@ -4,3 +4,4 @@ typedef struct process Process;
 Process *ProcAlloc(void (*function)(), int stack, int count, ...);
 void ProcPar(Process *first, ...);
 void ProcAllocClean(Process *process);
+int ProcAlt(Channel *first, ...);

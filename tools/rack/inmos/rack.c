@@ -1,23 +1,23 @@
-/* Has examples/board/module.c obey in a rack of processes: MODULE LINK0 LINK3 LINK1 [LINK2], as examples/rack/module.py. */
+/* Has examples/board/module.c obey in a rack of processes: MODULE LINK0 LINK3 LINK1 [LINK2], as examples/rack/module.py. With RELAY it is
+ * examples/board/relay.c that relays: RELAY CABLE CONFIG CHAIN, as examples/board/relay.py. */
 #include "channel.h"
 #include "process.h"
+#include <fcntl.h>
+#include <poll.h>
 #include <pthread.h>
 #include <stdarg.h>
 #include <stdio.h>
 #include <stdlib.h>
-#include <sys/socket.h>
+#include <unistd.h>
 
-extern unsigned char memory[BLOCKS][BLOCK_BYTES];
-void obey(int is_last);
-
-/* Links 0 and 3 acknowledge what comes; links 1 and 2 don't. */
-struct channel { int socket, acknowledges; };
-static Channel ends[4] = {{-1, 1}, {-1, 0}, {-1, 0}, {-1, 1}};
+/* Links 0 and 3 of a module acknowledge what comes; links 1 and 2 don't, nor do those of the relay. */
+struct channel { int in, out, acknowledges; };
+static Channel ends[4] = {{-1, -1, 0}, {-1, -1, 0}, {-1, -1, 0}, {-1, -1, 0}};
 Channel *const links[4] = {&ends[0], &ends[1], &ends[2], &ends[3]};
 
 struct process { void (*function)(); void *words[3]; pthread_t thread; };
 
-/* As LINK_ENDED of module.py. */
+/* As LINK_ENDED of examples/board/chain.py. */
 enum { LINK_ENDED = 3 };
 
 static void must(int well)
@@ -26,17 +26,52 @@ static void must(int well)
         exit(LINK_ENDED);
 }
 
+static void take(int from, char *at, int count)
+{
+    int taken;
+
+    for (; count > 0; count -= taken, at += taken)
+        must((taken = (int)read(from, at, count)) > 0);
+}
+
+static void give(int to, const char *at, int count)
+{
+    int given;
+
+    for (; count > 0; count -= given, at += given)
+        must((given = (int)write(to, at, count)) > 0);
+}
+
 void ChanIn(Channel *channel, void *at, int count)
 {
-    must(recv(channel->socket, at, count, MSG_WAITALL) == count);
-    must(!channel->acknowledges || send(channel->socket, "", 1, 0) == 1);
+    take(channel->in, at, count);
+    if (channel->acknowledges)
+        give(channel->out, "", 1);
 }
 
 void ChanOut(Channel *channel, void *at, int count)
 {
     char acknowledge;
-    must(send(channel->socket, at, count, 0) == count);
-    must(!channel->acknowledges || recv(channel->socket, &acknowledge, 1, 0) == 1);
+
+    give(channel->out, at, count);
+    if (channel->acknowledges)
+        take(channel->in, &acknowledge, 1);
+}
+
+/* Which of two channels something comes over, from 0. */
+int ProcAlt(Channel *first, ...)
+{
+    struct pollfd ready[2];
+    va_list others;
+
+    va_start(others, first);
+    ready[0].fd = first->in;
+    ready[1].fd = va_arg(others, Channel *)->in;
+    must(va_arg(others, Channel *) == NULL);
+    va_end(others);
+    ready[0].events = ready[1].events = POLLIN;
+    must(poll(ready, 2, -1) > 0);
+    return ready[0].revents == 0;
 }
 
 Process *ProcAlloc(void (*function)(), int stack, int count, ...)
@@ -80,15 +115,40 @@ void ProcAllocClean(Process *process)
     free(process);
 }
 
+#ifdef RELAY
+void relay(void);
+
+static int open_pipe(const char *name, const char *way, int how)
+{
+    char path[4096];
+
+    must(sprintf(path, "%.4000s.%s", name, way) > 0);
+    return open(path, how);
+}
+
+int main(int count, char **words)
+{
+    must(count == 4);
+    ends[1].in = open_pipe(words[1], "in", O_RDONLY);
+    ends[1].out = open_pipe(words[1], "out", O_WRONLY);
+    ends[0].out = open_pipe(words[2], "in", O_WRONLY);
+    ends[0].in = open_pipe(words[2], "out", O_RDONLY);
+    ends[2].in = ends[2].out = atoi(words[3]);
+    relay();
+    return EXIT_FAILURE;
+}
+#else
+void obey(int is_last);
+
 int main(int count, char **words)
 {
     static const int numbers[] = {0, 3, 1, 2};
     int i;
 
     for (i = 1; i < count; i++)
-        ends[numbers[i - 1]].socket = atoi(words[i]);
-    must(fread(memory, 1, sizeof memory, stdin) == sizeof memory);
+        ends[numbers[i - 1]].in = ends[numbers[i - 1]].out = atoi(words[i]);
+    ends[0].acknowledges = ends[3].acknowledges = 1;
     obey(count == 4);
-    must(fwrite(memory, 1, sizeof memory, stdout) == sizeof memory);
     return EXIT_SUCCESS;
 }
+#endif

@@ -8,7 +8,7 @@ ghost use Rattle.planning_tests.specs.Rows.{empty_orders, first_orders, swap, sw
 use super::texts::read;
 use link_graph::{End, Schedule};
 use module_orders::{Act, Order, RackOrders};
-use schedule_picture::verdict_on;
+use schedule_picture::standing_of;
 use std::alloc::Global;
 
 /// Two modules that swap their blocks 0.
@@ -31,7 +31,7 @@ fn the_definitions_spell_the_rows()
 fn orders_for(alloc: Global, batch: &str, schedule: &str) -> Option<RackOrders> {
     let batch = read(alloc, batch)?;
     let (schedule, certificate) = Schedule::read(alloc, schedule.as_bytes()).ok()?;
-    verdict_on(alloc, &batch, &schedule, certificate.as_ref()).ok()?;
+    standing_of(alloc, &batch, &schedule, certificate.as_ref()).ok()?;
     RackOrders::of(alloc, &batch, &schedule).ok()
 }
 

@@ -10,7 +10,7 @@ ghost use Rattle.planning_tests.specs.Rows.{of_three_transfers, of_empty_batch};
 
 use super::texts::{THREE_TRANSFERS, read};
 use link_graph::Schedule;
-use schedule_picture::verdict_on;
+use schedule_picture::{standing_of, verdict_on};
 use std::alloc::Global;
 
 /// Modules 0 to 2 of the row take part, and 3 does not. Where modules 3 and 31 alone take part,
@@ -54,7 +54,9 @@ const TWO_PARTNERS: &str = "batch 3\npush 0 0 1 0\npush 0 1 1 1\npush 0 2 2 0\n"
 fn changes_of(alloc: Global, batch: &str, schedule: &str) -> Option<(usize, usize)> {
     let batch = read(alloc, batch)?;
     let (schedule, certificate) = Schedule::read(alloc, schedule.as_bytes()).ok()?;
-    let verdict = verdict_on(alloc, &batch, &schedule, certificate.as_ref()).ok()?;
+    let certificate = certificate.as_ref();
+    let standing = standing_of(alloc, &batch, &schedule, certificate).ok()?;
+    let verdict = verdict_on(alloc, &batch, &schedule, certificate, standing).ok()?;
     Some((verdict.changes, verdict.partners))
 }
 

@@ -103,7 +103,7 @@ fn ask<R: Threads + Sync, N: StreamName + Send>(
         room,
         once,
     };
-    let mut book = stream_on::<Sheet<'_>, N>(alloc, book, sheet);
+    let mut book = stream_on::<Sheet<'_>, N>(alloc, book, sheet, false);
     let mut plant = with_wires(PlainWires);
     let times = AtomicUsize::new(0);
     let mut told: usize = 0;

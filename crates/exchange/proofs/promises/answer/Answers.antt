@@ -28,7 +28,7 @@ returns-clause-arguments g c =
     let given = given_by input was (clients_by comes had) in
     let left = leaving holds received receipts was ways (ends_of endings) in
     kept (λ w. IsCutFor named left (texts_of w.items) given before after)
-    (λ w. KeepsPromises (run_of holds input before after (texts_of w.items) code) (front_of holds input before after (texts_of w.items)) was ways (kept_by received receipts) (clients_of comes had endings)) c.args.arguments (λ w. texts_of w.items) named
+    (λ w. KeepsPromises named.leads (run_of holds input before after (texts_of w.items) code) (front_of holds input before after (texts_of w.items)) was ways (kept_by received receipts) (clients_of comes had endings)) c.args.arguments (λ w. texts_of w.items) named
     (IsLeft holds received receipts ways (ends_of endings)) (IsNoneLeft receipts was ways (ends_of endings)) given (streams_of before after (g.E.Write.contents c.args.err.now) (g.E.Write.contents c.respond.new.err)) code
     (λ w ends. keeps_promises _ ways received receipts comes had endings refl (λ job response is. is.1) (λ job response is. (is.0, is.2)) (λ none. none) ends)
     (λ w unwritten cut. keeps_in_part (texts_of w.items) named left given before after code received receipts comes had endings refl (λ job response is. (is.0.0, (is.0.1, is.2))) (λ none. (none.0, none.2)) (λ job response is. is.1) (λ none. none.1) unwritten cut

@@ -1,18 +1,18 @@
-use Rattle.std.proofs.Common.{◌≡◌, ℕ, length, ap, ◌∙◌}
+use Rattle.std.proofs.Common.{ℕ, length, ap, ◌∙◌}
 use Rattle.std.proofs.lemmas.Result.{IfOk-weaker}
 use Rattle.batch.specs.Extent.{widest}
 use Rattle.plan_answers.specs.Pricing.{table_text, IsPriced, priced, unpriced}
 use Rattle.plan_answers.specs.Refusals.{Refuses}
+use Rattle.plan_answers.specs.Validities.{IsScheduleRead}
 use Rattle.plan_answers.proofs.pricing.answer_prices.Goals as goal
 
-pub returns-in_ok-table-in-Ok : goal.returns-in_ok-table-in-Ok
-returns-in_ok-table-in-Ok c =
+pub returns-in_ok-text-in-Ok : goal.returns-in_ok-text-in-Ok
+returns-in_ok-text-in-Ok c =
     let texts = c.in-Ok.texts in
     let found = c.in_ok-priced-in-Ok.priced in
-    let settings : c.settings-settings.result ≡ length texts.settings = c.settings-settings.ensures ∙ ap length c.schedule.ensures.schedule in
-    let table = rw (c.batch.ensures, settings) at c.in_ok-priced-in-Ok.ensures in
-    let text = c.done.ensures.text ∙ ap (λ v. v.items) c.into_bytes.ensures.value ∙ c.in_ok-table-in-Ok.ensures ∙ ap (λ (n : ℕ). table_text n found) settings in
-    priced texts.batch texts.settings c.in-Ok.ensures.valid.read (record { priced = found; table = table; says = text }) c.done.ensures.status
+    let read : IsScheduleRead widest c.args.batch.now c.args.schedule.now texts.batch texts.schedule = record { certificate = texts.certificate; texts = c.in-Ok.ensures.texts; valid = c.in-Ok.ensures.valid } in
+    let text = c.done.ensures.text ∙ ap (λ v. v.items) c.into_bytes.ensures.value ∙ c.in_ok-text-in-Ok.ensures ∙ ap (λ (n : ℕ). table_text n found) (c.settings.ensures ∙ ap length c.schedule-schedule.ensures.schedule) in
+    priced texts.batch texts.schedule read (record { priced = found; table = rw (c.batch.ensures, c.schedule-schedule.ensures.schedule) at c.in_ok-priced-in-Ok.ensures; says = text }) c.done.ensures.status
 
 pub returns-in-Err : goal.returns-in-Err
 returns-in-Err c =

@@ -445,7 +445,7 @@ fn holds_of<R: AllocGlobal + Threads + Wait + Sync>(
         },
         hold: &hold,
     };
-    let book = stream_on::<Counted<'_>, Brand>(alloc, book, writer);
+    let book = stream_on::<Counted<'_>, Brand>(alloc, book, writer, true);
     holds::<Brand, R>(rt, blank, book, case, &hold, &writes)
 }
 

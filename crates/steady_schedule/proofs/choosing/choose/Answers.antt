@@ -6,14 +6,15 @@ pub lengths-init : goal.lengths-init
 lengths-init c =
     let counts = c.args.remaining.now.counts in
     let made = c.of-choice in
-    let k = c.min.result in
-    let least : k ≡ min c.args.longest c.args.most = c.min.ensures in
+    let k = c.min-settings.result in
+    let least : k ≡ min c.args.longest c.args.most = c.min-settings.ensures in
     let is = made.ensures.settings in
     record {
       some = omega (arith, is, least, c.requires.some, c.requires.some_longest);
       left = omega (arith, is, least);
       each = rw is made.ensures.each;
       held = rw is made.ensures.held;
+      all = rw is made.ensures.all;
       shorter = omega (arith, is, made.ensures.shorter);
       longest = λ zero three j m few each. omega (arith, is, least, few, c.requires.longest zero three j m few each);
       joined = rw is made.ensures.joined;
@@ -29,6 +30,7 @@ lengths-preserved c =
       left = omega (arith, is, was.left, was.shorter);
       each = rw is made.ensures.each;
       held = rw is made.ensures.held;
+      all = rw is made.ensures.all;
       shorter = omega (arith, is, made.ensures.shorter);
       longest = rw is (elim was.joined [
         | inl both ↦ absurd (omega (arith, both.0, c.lengths-test.true))

@@ -31,14 +31,21 @@ shorter-requires-in-Some-in_vain-clause-way c z way =
 pub returns-in-Some-clause-each : goal.returns-in-Some-clause-each
 returns-in-Some-clause-each c =
     let reach = c.args.reach.now in
-    each_joined c.args.remaining.now.counts reach.settings reach.zero.near reach.three.near c.args.matching.now.zero c.join_needed-in_vain.new.of c.requires.held c.join_needed-in_vain.ensures.near c.requires.each
+    each_joined c.args.remaining.now.counts reach.settings reach.zero.near reach.three.near c.args.matching.now.zero c.join_needed-in_vain.new.of c.join_needed-in_vain.new.back c.requires.held c.join_needed-in_vain.ensures.matched c.join_needed-in_vain.ensures.near c.requires.each
 
 pub returns-in-Some-in_vain-clause-each : goal.returns-in-Some-in_vain-clause-each
 returns-in-Some-in_vain-clause-each c =
     let reach = c.args.reach.now in
     let first = c.join_needed-in_vain in
     let second = c.join_needed-in_vain-2 in
-    each_turned c.args.remaining.now.counts reach.settings reach.zero.near reach.three.near first.new.of first.new.back second.new.back second.new.of c.requires.held first.ensures.matched second.ensures.matched second.ensures.near (each_joined c.args.remaining.now.counts reach.settings reach.zero.near reach.three.near c.args.matching.now.zero first.new.of c.requires.held first.ensures.near c.requires.each)
+    each_turned c.args.remaining.now.counts reach.settings reach.zero.near reach.three.near first.new.of first.new.back second.new.back second.new.of c.requires.held first.ensures.matched second.ensures.matched second.ensures.near (each_joined c.args.remaining.now.counts reach.settings reach.zero.near reach.three.near c.args.matching.now.zero first.new.of first.new.back c.requires.held first.ensures.matched first.ensures.near c.requires.each)
+
+pub returns-in-None-clause-each : goal.returns-in-None-clause-each
+returns-in-None-clause-each c =
+    let reach = c.args.reach.now in
+    let first = c.join_needed-in_vain in
+    let second = c.join_needed-in_vain-2 in
+    each_turned c.args.remaining.now.counts reach.settings reach.zero.near reach.three.near first.new.of first.new.back second.new.back second.new.of c.requires.held first.ensures.matched second.ensures.matched second.ensures.near (each_joined c.args.remaining.now.counts reach.settings reach.zero.near reach.three.near c.args.matching.now.zero first.new.of first.new.back c.requires.held first.ensures.matched first.ensures.near c.requires.each)
 
 pub returns-in-Some-clause-joined : goal.returns-in-Some-clause-joined
 returns-in-Some-clause-joined c =

@@ -1,4 +1,5 @@
-use Rattle.std.proofs.Common.{◌-◌, ◌<◌, ◌≤◌}
+use Rattle.std.proofs.Common.{◌≡◌, ◌-◌, ◌<◌, ◌≤◌}
+use Rattle.steady_schedule.specs.Reaches.{AreHeld, HaveHeld}
 use Rattle.steady_schedule.specs.Searches.{AreNear}
 use Rattle.steady_schedule.specs.Slots.{AreNumbered, AreAtNeed, AreLongSteps}
 use Rattle.steady_schedule.specs.Steps.{NoneLonger}
@@ -8,6 +9,12 @@ use Rattle.steady_schedule.proofs.numbering.fill.Given as goal
 abbrev pub invariant-steps : goal.invariant-steps
 invariant-steps l = record {
   some : 0 < l.held;
+  steps : l.steps ≤ l.first;
+  some_top : 0 < l.top;
+  top : NoneLonger l.remaining.counts l.settings l.top;
+  kept : AreHeld l.left.counts l.reach.settings l.reach.zero.near l.reach.three.near;
+  kept_all : 0 < l.reach.settings → HaveHeld l.left.counts l.reach.settings l.modules l.reach.zero.near l.reach.three.near;
+  whole : l.first ≡ 0 → l.left.counts ≡ l.remaining.counts;
   few : l.first ≤ l.settings;
   most : HaveMost l.left.counts (l.settings - l.first);
   numbered : AreNumbered l.places.totals.now l.left.counts l.slots l.first;

@@ -1,5 +1,6 @@
 use Rattle.std.proofs.Common.{◌≤◌, inl, inr, arith}
 use Rattle.steady_schedule.proofs.Longest.{tight_longest, joined_held}
+use Rattle.steady_schedule.proofs.Matchings.{has_low, partner_low}
 use Rattle.steady_schedule.proofs.Steps.{near_from_counts, joined_below}
 use Rattle.steady_schedule.proofs.stepping.next_step.Goals as goal
 
@@ -9,12 +10,12 @@ join_free-requires-clause-near c x y joined =
     let m = c.choose-choice.result.matching in
     near_from_counts l.counts l.zero.near l.zero.uses l.three.near l.three.uses l.told m.zero m.three m.matched x y joined (omega (arith, c.choose-choice.ensures.some, c.choose-choice.ensures.each x y joined))
 
-pub how_long-requires-clause-zero : goal.how_long-requires-clause-zero
-how_long-requires-clause-zero c x x_in full =
+pub how_long-held-requires-clause-zero : goal.how_long-held-requires-clause-zero
+how_long-held-requires-clause-zero c x x_in full =
     c.join_free.ensures.zero x (c.choose-choice.ensures.joined.zero_joined x x_in (omega (arith, full, c.args.remaining.now.told.uses_zero x x_in, c.choose-choice.ensures.some)))
 
-pub how_long-requires-clause-three : goal.how_long-requires-clause-three
-how_long-requires-clause-three c x x_in full =
+pub how_long-held-requires-clause-three : goal.how_long-held-requires-clause-three
+how_long-held-requires-clause-three c x x_in full =
     c.join_free.ensures.three x (c.choose-choice.ensures.joined.three_joined x x_in (omega (arith, full, c.args.remaining.now.told.uses_three x x_in, c.choose-choice.ensures.some)))
 
 pub returns-clause-low : goal.returns-clause-low
@@ -30,14 +31,14 @@ returns-clause-longest c zero three j n few each =
     let old = chosen.result.matching in
     let k = chosen.result.reach.settings in
     let m = c.join_free.new.matching in
-    let so_long : k ≤ c.how_long.result = tight_longest l.counts m.zero m.three c.args.most c.how_long.result k m.matched c.how_long.ensures chosen.ensures.few (λ x x_in.
+    let so_long : k ≤ c.how_long-held.result = tight_longest l.counts m.zero m.three c.args.most c.how_long-held.result k m.matched c.how_long-held.ensures chosen.ensures.few (λ x x_in.
     joined_held l.counts old.zero old.three m.zero m.three c.args.most k x chosen.ensures.few x_in chosen.ensures.joined c.join_free.ensures.zero c.join_free.ensures.three (λ u v joined. elim (c.join_free.ensures.joins u v joined) [
       | inl same ↦ chosen.ensures.each u v same
-      | inr near ↦ chosen.ensures.held.zero u v near
+      | inr near ↦ chosen.ensures.held.zero u v (has_low m.zero u v m.matched.sized joined) (partner_low m.zero m.three u v m.matched joined) near
     ])) in
     omega (arith, so_long, chosen.ensures.longest zero three j n few each)
 
 pub returns-clause-no_longer : goal.returns-clause-no_longer
 returns-clause-no_longer c =
     let m = c.join_free.new.matching in
-    c.requires.longest m.zero m.three c.how_long.result m.matched c.how_long.ensures.few c.how_long.ensures.each
+    c.requires.longest m.zero m.three c.how_long-held.result m.matched c.how_long-held.ensures.few c.how_long-held.ensures.each

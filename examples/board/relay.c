@@ -1,0 +1,81 @@
+/* The relay of a board that sets its switch itself, by tables of the switch's bytes. Nobody has compiled it by INMOS's compiler, or tried it on
+ * a transputer. tools/rack/run.py compiles it by another one, over channels of its own. docs/BOARD.md says more, and what is lost this way.
+ *
+ * Before each byte of the cable goes the number of its way. On way 1, of the modules, the bytes go on. On way 0 come numbers of two bytes: for
+ * -3 the sum of the tables goes back; for K, setting K and those after it are set and moved, and the number of each goes back once all modules
+ * are done. In the end -1 goes back. */
+#include <channel.h>
+#include <process.h>
+#include <stddef.h>
+
+/* Your own are CABLEIN, CABLEOUT, CONFIGOUT, CHAININ and CHAINOUT: on which links these are, as #define CABLEIN LINK0IN. */
+#include "switch.h" /* SETTINGS, bytes, ends, SUM: by switch_to_c.py */
+
+enum { SWITCH, MODULES };
+enum { END = -1, TABLES = -3 };
+
+static void give_back(short number)
+{
+    unsigned char pairs[4] = {SWITCH, 0, SWITCH, 0};
+
+    pairs[1] = number & 0xff;
+    pairs[3] = (number >> 8) & 0xff;
+    ChanOut(CABLEOUT, pairs, 4);
+}
+
+/* Sets setting k: its bytes come after those of the setting before it. */
+static void set(int k)
+{
+    unsigned long at = k > 0 ? ends[k - 1] : 0;
+
+    ChanOut(CONFIGOUT, (void *)(bytes + at), (int)(ends[k] - at));
+}
+
+/* Sets the switch, and moves from a setting on. Before setting 0 two bytes end a command that was begun. */
+static void move_from(short first)
+{
+    static unsigned char enough[2] = {3, 3};
+    short k, back;
+
+    ChanOut(CONFIGOUT, enough, 2);
+    for (k = 0; k < SETTINGS; k++) {
+        set(k);
+        if (k < first)
+            continue;
+        ChanOut(CHAINOUT, &k, 2);
+        ChanIn(CHAININ, &back, 2);
+        if (back != k)
+            return;
+        give_back(k);
+    }
+    give_back(END);
+}
+
+/* Relays until a byte names another way. */
+void relay(void)
+{
+    unsigned char pair[2], up[2] = {MODULES, 0}, low = 0;
+    int is_high = 0;
+    short number;
+
+    for (;;)
+        if (ProcAlt(CABLEIN, CHAININ, NULL) == 1) {
+            ChanIn(CHAININ, &up[1], 1);
+            ChanOut(CABLEOUT, up, 2);
+        } else {
+            ChanIn(CABLEIN, pair, 2);
+            if (pair[0] == MODULES)
+                ChanOut(CHAINOUT, &pair[1], 1);
+            else if (pair[0] != SWITCH)
+                return;
+            else if (is_high) {
+                number = (short)(low | pair[1] << 8);
+                if (number == TABLES)
+                    give_back(SUM);
+                else if (number >= 0)
+                    move_from(number);
+            } else
+                low = pair[1];
+            is_high ^= pair[0] == SWITCH;
+        }
+}
