@@ -249,11 +249,11 @@ def try_counts():
 
 def try_turns():
     """Sixteen clients who hear each reply before they say the next line: while one syncs, the entries of the others come together.
-    On a busy machine they come late: so it is tried up to five times."""
+    On a busy machine they come late: then it is tried again, with slower syncs."""
     draw = random.Random("turns")
     texts = [[pokes(draw, 1) for _ in range(50)] for _ in range(16)]
-    for _ in range(5):
-        day = in_room(lambda room: Day(room, texts, "--sync", CALLS_SLOW="20000"))
+    for slow in 20, 40, 80, 160:
+        day = in_room(lambda room: Day(room, texts, "--sync", CALLS_SLOW=f"{slow}000"))
         looked, entries, syncs = day.judge(), len(day.record.entries), day.on_record("sync")
         print(f"bursts: 16 clients by turns, {entries} entries, {syncs / entries:.4f} syncs an entry", flush=True)
         if entries != 800:

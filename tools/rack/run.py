@@ -37,6 +37,7 @@ import subprocess
 import sys
 import tempfile
 import threading
+import time
 import traceback
 import tty
 from concurrent.futures import ThreadPoolExecutor
@@ -296,11 +297,21 @@ class Between:
         room.pipes("cable", "inner")
         self.rack = room.rack("--cable", "inner")
         # Once -2 comes back all of them are there.
-        self.ends = [os.open(room.at("inner.in"), os.O_WRONLY), os.open(room.at("inner.out"), os.O_RDONLY)]
+        self.ends = [self.said_to_the_rack(), os.open(room.at("inner.out"), os.O_RDONLY)]
         os.write(self.ends[0], b"\1\xfe\1\xff")
         room.expect(take(self.ends[1], 4) == b"\1\xfe\1\xff", "the rack isn't there")
         for number in 0, 1:
             threading.Thread(target=self.carry, args=(number,), daemon=True).start()
+
+    def said_to_the_rack(self):
+        """The end by which the rack hears, once it is there. A rack that has ended never comes."""
+        while self.rack.poll() is None:
+            with contextlib.suppress(OSError):
+                end = os.open(self.room.at("inner.in"), os.O_WRONLY | os.O_NONBLOCK)
+                os.set_blocking(end, True)
+                return end
+            time.sleep(0.01)
+        raise ChildProcessError(self.room.end(self.rack))
 
     def carry(self, way):
         """Carries what one host after the other sends, or what comes back."""
