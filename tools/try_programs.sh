@@ -6,22 +6,37 @@
 # bodies that can't be made any more, and for libraries that open files past every handle.
 #
 # After a tool that fails the others are tried all the same. One fails too if it tries less than
-# least.txt says. The status is 1 where any did, and the last line names those.
+# least.txt says. The status is 1 where any did, and the last lines say once more what was wrong.
 set -eu
 unset CDPATH
 export LC_ALL=C
 cd "$(dirname "$(readlink -f "${BASH_SOURCE[0]}")")/.."
 said=$(mktemp)
-trap 'rm -f "$said"' EXIT
+faults=$(mktemp)
+trap 'rm -f "$said" "$faults"' EXIT
 wrong=()
 
-# Tries one of them, for an hour at most, and prints how many seconds it took.
-try() {
-    local began=$SECONDS status=0
+# Tries one of them, for an hour at most: whether it ends well, and tried enough.
+ends_well() {
+    local status=0
     timeout -k 60 3600 "$@" >"$said" 2>&1 || status=$?
+    [ "$status" = 0 ] || echo "$*: WRONG: status $status" >>"$said"
+    tools/least.py "$1" "$said" >>"$said" || status=1
     cat "$said"
-    [ "$status" = 0 ] || echo "$*: WRONG: status $status"
-    [ "$status" = 0 ] && tools/least.py "$1" "$said" || wrong+=("$1")
+    [ "$status" = 0 ]
+}
+
+# Tries one of them, and prints how many seconds it took. With `live` before it others work beside it, which come late on a busy machine: then
+# it is tried once more where it fails.
+try() {
+    local began=$SECONDS times=1
+    [ "$1" != live ] || { times=2 && shift; }
+    while ! ends_well "$@"; do
+        { echo "== $*" && grep -A 9 WRONG "$said" | tail -n 60; } >>"$faults"
+        times=$((times - 1))
+        [ "$times" != 0 ] || { wrong+=("$1") && break; }
+        echo "$*: once more"
+    done
     echo "$*: $((SECONDS - began)) s"
 }
 
@@ -39,9 +54,9 @@ try tools/release.sh --check
 try tools/texts/names.py
 try tools/texts/promises.py
 try tools/texts/run.py
-try tools/hosts/run.sh
+try live tools/hosts/run.sh
 try tools/ends/run.sh
-try tools/rack/run.py
+try live tools/rack/run.py
 try examples/patterns/make.sh --check
 try bench/planning/run.sh --check
 try bench/run/growth.sh --check
@@ -49,6 +64,8 @@ try bench/run/apply.sh --check
 try bench/run/overlap.sh --check
 try bench/session/lines.sh --check
 try tools/hostile/run.sh
+# What was wrong stands at the end once more.
+cat "$faults"
 if [ ${#wrong[@]} != 0 ]; then
     echo "WRONG: ${wrong[*]}"
     exit 1
