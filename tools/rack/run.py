@@ -57,7 +57,7 @@ import spoil  # noqa: E402
 import tables  # noqa: E402
 
 # Seconds that a run has, those in which one that hangs says nothing more, and those that a host waits for a byte where one is missing.
-LIMIT, SILENCE, PATIENCE = 120, 2, 3
+LIMIT, SILENCE, PATIENCE = 300, 2, 3
 
 RING = "batch 4\npush 0 0 1 0\npush 1 0 2 0\npush 2 0 3 0\npush 3 0 0 0\n"
 WITHIN = "batch 1\npush 1 0 1 3\n"
@@ -318,7 +318,8 @@ class Between:
         # The host, or the rack, may end at any time, and the folder.
         with contextlib.suppress(OSError):
             while True:
-                far = os.open(self.room.at(("cable.in", "cable.out")[way]), (os.O_RDONLY, os.O_WRONLY)[way])
+                # What comes back once a host has gone waits for the next one.
+                far = os.open(self.room.at(("cable.in", "cable.out")[way]), (os.O_RDONLY, os.O_RDWR)[way])
                 source, target = ((far, self.ends[0]), (self.ends[1], far))[way]
                 while came := os.read(source, 1):
                     is_here = way == self.way and self.counts[way] == self.place
