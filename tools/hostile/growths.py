@@ -226,8 +226,8 @@ def judge_of_command(words, wanted):
 
 def is_less_told(ended, wanted):
     """Whether refusals are as ever, but for what is told beside them: nothing, or nothing of the schedule."""
-    less, left = wanted.err.split(b"; the schedule is valid")[0] + b"\n", iter(wanted.err.splitlines())
-    is_less = ended.err == less or all(line in left for line in ended.err.splitlines())
+    less, left = wanted.err.split(b"; the schedule is valid")[0] + b"\n", iter(wanted.err.splitlines(True))
+    is_less = ended.err == less or all(line in left for line in ended.err.splitlines(True))
     return wanted.err.startswith(b"exchange: ") and (ended.out, ended.status) == (wanted.out, wanted.status) and is_less
 
 
