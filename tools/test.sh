@@ -5,7 +5,10 @@ set -euo pipefail
 unset CDPATH
 export LC_ALL=C
 cd "$(dirname "$(readlink -f "${BASH_SOURCE[0]}")")/.."
+said=$(mktemp)
+trap 'rm -f "$said"' EXIT
 failed=
-rt ci || failed+=" rt-ci"
+rt ci | tee "$said" || failed+=" rt-ci"
+tools/said.py "$said" || failed+=" tools/said.py"
 tools/try_programs.sh || failed+=" tools/try_programs.sh"
 [ ! "$failed" ] || { echo "test.sh: WRONG:$failed" && exit 1; }

@@ -1,7 +1,7 @@
 #!/usr/bin/env python3
 """Spoilt texts through the calls for programs in C, byte for byte against the built program.
 
-    calls.py TRY [COUNT]        COUNT texts in all, 10000 where it isn't said, through the built program tools/c/try.c
+    calls.py TRY [COUNT]        COUNT texts in all, 4000 where it isn't said, through the built program tools/c/try.c
     calls.py TRY --examples     the examples, each growth of memory refused in turn
 """
 
@@ -180,7 +180,7 @@ def main():
     path = os.path.abspath(sys.argv[1])
     if sys.argv[2:] == ["--examples"]:
         sys.exit(0 if try_examples(path) else "calls: WRONG: examples")
-    count = int(sys.argv[2]) if len(sys.argv) > 2 else 10000
+    count = int(sys.argv[2]) if len(sys.argv) > 2 else 4000
     workers = os.cpu_count() or 1
     size = -(-count // workers)
     parts = [(path, first, min(size, count - first)) for first in range(0, count, size)]

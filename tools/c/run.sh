@@ -4,8 +4,8 @@
 #   emulator   the program of examples/emulator, built with warnings and sanitizers, prints what it is to print, also at the other end of `drive`,
 #              and of one that is refused, or ends before its line feed comes; a signal ends it, and leaves no folder
 #   try        each call with no room, too little, just enough and more, of accepted and refused texts, and without memory
-#   texts      COUNT spoilt texts, 10000 where it isn't said, byte for byte against the built program, with what is told of refusals
-#   states     twice as many streams and states of a switch, and of an end that waits to boot, by the built program and by plain Python
+#   texts      COUNT spoilt texts, 4000 where it isn't said, byte for byte against the built program, with what is told of refusals
+#   states     five times as many streams and states of a switch, and of an end that waits to boot, by the built program and by plain Python
 #   defines    the numbers of exchange.h are those of the sources, of the module for Python and of these tools; its calls and states are the sources'
 #   C++        a program in C++ that includes exchange.h twice is built, and makes a call
 #   names      what `nm` shows of the library and of the kit's file, given and needed, is what names.txt says
@@ -60,9 +60,9 @@ stops TERM 143
 stops INT 130
 cc "${checks[@]}" -Wl,--wrap=malloc,--wrap=realloc -o "$work/try" "$here/try.c" "$library" "$kit"
 python3 "$here/calls.py" "$work/try" --examples || failed+=" try"
-python3 "$here/calls.py" "$work/try" "${1:-10000}" || failed+=" texts"
+python3 "$here/calls.py" "$work/try" "${1:-4000}" || failed+=" texts"
 cc "${checks[@]}" -Wl,--wrap=malloc,--wrap=realloc -o "$work/states" "$here/states.c" "$library" "$kit"
-python3 "$here/states.py" "$work/states" $((2 * ${1:-10000})) || failed+=" states"
+python3 "$here/states.py" "$work/states" $((5 * ${1:-4000})) || failed+=" states"
 python3 "$here/defines.py" || failed+=" defines"
 {
     printf '#include "exchange.h"\n%.0s' once again

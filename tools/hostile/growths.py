@@ -98,11 +98,13 @@ FILES = {
     "record": RECORD, "worded": WORDED, "spoilt": RECORD.replace("000000ff\n1", "000000fe\n1"),
     "caller.in": "batch 1\npush 0 0 1 0\nplan 1\nrun 1\n", "keeper.in": KEPT,
 }  # fmt: skip
+# What `talk` refuses whatever was done before.
+FILES["unknown"] = "plan 7\nrun 8\nshow 9\npeek 2 80000800\npeek 0 80000801\nhello\ndrop 3\n"
 FILES["pairs"] = "batch 64\n" + "".join(f"push 0 {block} 1 {block}\n" for block in range(64))
 FILES["turned"] = "batch 32\n" + "".join(f"push {module} 0 {31 - module} 1\n" for module in range(32))
 FILES["both"] = FILES["pairs"] + "plan 1\nrun 1\n" + FILES["turned"] + "plan 2\nrun 2\n"
-# The one that is standard input.
-INPUT = "three"
+# The one that is standard input, and that of `talk`.
+INPUT, TALKED = "three", "unknown"
 
 # How often 64 workers fork where each start of a thread is refused. 64 transfers of one link are halved down to one each, and the settings
 # of one aren't; 32 transfers that share no link aren't, and their setting is. `apply` runs nothing, and forks nothing.
@@ -154,6 +156,8 @@ COMMANDS = [
     ["direct", "moves"], ["direct", "wrong"], ["direct", "-"],
     ["apply", "3x2x2", "two", "image"], ["apply", "3x2x2", "swap", "image"],
     ["apply", "3x2x1", "two", "image"], ["apply", "3x2x2", "-", "image"],
+    # `Beside`.
+    ["talk", "2x1x1"],
     ["--help"], ["help", "run"], ["plan", "--help"], ["chart", "three"], [], ["plan", "three", "--workers", "65"],
 ]  # fmt: skip
 
@@ -163,6 +167,10 @@ COMMANDS = [
 Swept = namedtuple("Swept", "name found growths unstarted")
 
 
+def input_of(words):
+    return TALKED if words[:1] == ["talk"] else INPUT
+
+
 def run(which, program, words, between, called=None):
     """Runs a program while growths are refused: how it ended, and how many growths were met, growths refused, and starts of threads
     refused. The log is kept in the folder that it is run in."""
@@ -170,7 +178,7 @@ def run(which, program, words, between, called=None):
     env = {"LD_PRELOAD": LIBRARY, "REFUSE": which, "REFUSE_LOG": log}
     if between:
         env["REFUSE_BETWEEN"] = "1"
-    ended = ask(*words, program=program, env=env, given=INPUT, called=called)
+    ended = ask(*words, program=program, env=env, given=input_of(words), called=called)
     with open(log) as file:
         return ended, *(int(n) for n in file.read().split())
 
@@ -217,9 +225,10 @@ def judge_of_command(words, wanted):
 
 
 def is_less_told(ended, wanted):
-    """Whether a refusal is as ever, but for what is told beside it: nothing, or nothing of the schedule."""
-    less = (b"", wanted.err.split(b"; the schedule is valid")[0] + b"\n")
-    return wanted.err.startswith(b"exchange: ") and (ended.out, ended.status) == (wanted.out, wanted.status) and ended.err in less
+    """Whether refusals are as ever, but for what is told beside them: nothing, or nothing of the schedule."""
+    less, left = wanted.err.split(b"; the schedule is valid")[0] + b"\n", iter(wanted.err.splitlines(True))
+    is_less = ended.err == less or all(line in left for line in ended.err.splitlines(True))
+    return wanted.err.startswith(b"exchange: ") and (ended.out, ended.status) == (wanted.out, wanted.status) and is_less
 
 
 def served(words):
@@ -345,14 +354,15 @@ def sweep_closing(words):
 
 
 def sweep_command(words):
-    wanted = ask(*words, given=INPUT)
+    wanted = ask(*words, given=input_of(words))
     judge = judge_of_command(words, wanted)
     if kept_files(words):
         judge = judge_of_files(words, judge)
     swept = sweep(" ".join(["exchange", *words]), EXCHANGE, words, False, judge)
     if words[:1] == ["serve"] and (wanted.out, wanted.status) != sessions.answer_serve(*served(words)):
         swept.found["WRONG: told otherwise with memory"] += 1
-    if not swept.found["no memory"] or words[-2:] == ["--workers", "2"] and not swept.unstarted:
+    is_untold = words[:1] == ["talk"] and not swept.found["less told"]
+    if not swept.found["no memory"] or words[-2:] == ["--workers", "2"] and not swept.unstarted or is_untold:
         swept.found["WRONG: nothing was refused"] += 1
     return swept
 
@@ -363,6 +373,12 @@ def count_forks(words, forks):
     ended, _, _, unstarted = run("T", EXCHANGE, words, False)
     well = ended == ask(*words, given=INPUT) and unstarted == forks
     return Swept(" ".join(["exchange", *words]), Counter(["as ever" if well else f"WRONG {ended}"]), 0, unstarted)
+
+
+def compare_starts():
+    """A command that fits builds its own words alone; one that doesn't, those of all."""
+    fits, fails = (run("0", EXCHANGE, words, False)[1] for words in (["plan", "three"], ["plan"]))
+    return Swept("the words of one command, and of all", Counter(["fewer" if 0 < fits < fails else f"WRONG {fits} of {fails}"]), fits, 0)
 
 
 def sweep_help_by_name():
@@ -424,7 +440,7 @@ def main():
             told.append(tell(sweep_closing(["clients", "2x2x2", "script"])))
             told += [tell(it) for it in pool.imap(sweep_command, COMMANDS)]
         told += [tell(count_forks(*it)) for it in FORKS]
-        told += [tell(it) for it in [sweep_help_by_name(), sweep_host("caller")]]
+        told += [tell(it) for it in [compare_starts(), sweep_help_by_name(), sweep_host("caller")]]
         told.append(tell(sweep_host("keeper", "--record", "host-record", "--image-out", "host-left")))
         os.chdir("/")
     wrong = sum(it[1] for it in told)

@@ -8,7 +8,7 @@
     C           a program that pkg-config gives the words for, and one that is linked with the shared library
     Python      the examples of the module's own texts, the emulator, want of memory, long answers, how often a call is made, names of files,
                 copies, memory of other kinds, and a link to the module
-    texts       COUNT spoilt texts, 2000 where it isn't said, by the calls from Python and by the built program, byte for byte
+    texts       COUNT spoilt texts, 1000 where it isn't said, by the calls from Python and by the built program, byte for byte
     states      streams to a C004 and to the end of a link, against plain Python that shares no code with the product; only bytes are sent,
                 and the memory of an end keeps its length
     threads     sixteen that call at once are answered as one alone
@@ -134,9 +134,11 @@ def try_install(room):
     expect("that is told", "is no folder that can be written to" in told and tree(mine) == before, told)
     os.chmod(mine, 0o755)
     install("install beside other files", 0, mine)
+    Path(mine, "lib/theirs").write_text("theirs")
     shutil.rmtree(f"{mine}/lib/pkgconfig")
     install("uninstall beside other files, what is there in part", 0, mine, script="uninstall")
-    expect("what was there before is left", tree(mine) == before, tree(mine).keys() ^ before.keys())
+    left = {**before, f"{mine}/lib": None, f"{mine}/lib/theirs": b"theirs"}
+    expect("what was there before is left, and what others put there since", tree(mine) == left, tree(mine).keys() ^ left.keys())
     install("uninstall what isn't there", 1, mine, script="uninstall")
     install("no folder for the folder", 1, f"{room}/none/rack")
     install("other words", 2, "--help")
@@ -204,7 +206,7 @@ def try_interrupted(room):
 def try_modes(room):
     """Anybody may read what is installed and run what is a program, whatever the umask of who installs."""
     rack, programs = f"{room}/modes", ("bin/exchange", "lib/libexchange.so", "lib/libexchange.so.1")
-    install("install with a umask", 0, rack, umask=0o077)
+    install("install with a umask, into a folder that is named from here", 0, "modes", umask=0o077, cwd=room)
     for name in (line for line in Path(rack, "share/exchange/installed").read_text().splitlines() if not line.endswith("/")):
         page = name.removeprefix("share/doc/exchange/")
         runs = name in programs or page != name and os.access(f"{TOP}/{page}", os.X_OK)
@@ -729,7 +731,7 @@ def try_threads(count=16):
 
 
 def main():
-    count = int(sys.argv[1]) if len(sys.argv) > 1 else 2000
+    count = int(sys.argv[1]) if len(sys.argv) > 1 else 1000
     with tempfile.TemporaryDirectory(prefix="python-") as room:
         rack = try_install(room)
         try_interrupted(room)
@@ -742,7 +744,7 @@ def main():
         try_c(rack, room)
         try_python(module)
         try_all_texts(count)
-        try_states(count)
+        try_states(2 * count)
         try_held()
         try_ranges()
         try_threads()
