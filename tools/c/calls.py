@@ -3,8 +3,10 @@
 
     calls.py TRY [COUNT]        COUNT texts in all, 4000 where it isn't said, through the built program tools/c/try.c
     calls.py TRY --examples     the examples, each growth of memory refused in turn
+    calls.py TRY --stack        the largest texts, each call on a thread with as much stack as docs/EMULATORS.md says
 """
 
+import itertools
 import multiprocessing
 import os
 import random
@@ -156,8 +158,8 @@ def read(name):
         return file.read()
 
 
-def try_examples(path):
-    """The examples, each growth of memory refused in turn."""
+def examples():
+    """A call of each kind, and its texts, of examples."""
     batch, schedule = read("three-transfers.txt"), read("three-transfers.plan.txt")
     board = b"wiring 3\nmodule 0 link 0 at 3 link 3 at 4\nmodule 1 link 0 at 5 link 3 at 6\nmodule 2 link 0 at 7 link 3 at 8\n"
     asked = [(name, [batch, schedule, board][: len(files)]) for name, files in CALLS.items() if name != "direct"]
@@ -167,19 +169,64 @@ def try_examples(path):
     # Beside these refusals of a certificate it is told what is known of the settings.
     settings = schedule.partition(b"busiest")[0]
     named = [settings + b"busiest link 0 module 0\nnamed %s\n" % it for it in (b"0 2", b"0 0", b"0")]
-    asked += [("check", [batch, it]) for it in (settings, *named, settings.replace(b" 2\n", b" 0\n"))]
+    return asked + [("check", [batch, it]) for it in (settings, *named, settings.replace(b" 2\n", b" 0\n"))]
+
+
+def planned(batch, *options):
+    """The plan that the program makes of a batch."""
+    with tempfile.NamedTemporaryFile() as file:
+        file.write(batch)
+        file.flush()
+        return ask("plan", file.name, *options).out
+
+
+def largest():
+    """Calls of as many transfers as there may be, by plans and by a schedule that was planned for none, and of the largest rack."""
+    draw, shape = random.Random("largest"), (plain.MODULES, plain.BLOCKS, plain.WORDS)
+    places = [(module, block) for module in range(shape[0]) for block in range(shape[1])]
+    pairs = zip(draw.sample(places * 2, plain.TRANSFERS), places * 2)
+    lines = [f"push {m} {b} {r} {c}\n" for (m, b), (r, c) in pairs]
+    batch = "".join([f"batch {len(lines)}\n", *lines]).encode()
+    half = "".join([f"batch {len(places)}\n", *lines[: len(places)]]).encode()
+    moves = half.replace(b"batch", b"moves").replace(b"push", b"move")
+    for text in batch, half:
+        yield from ((name, [text]) for name in ("plan", "plan_steady"))
+        for options in [], ["--steady"]:
+            schedule = planned(text, *options)
+            yield from ((name, [text, schedule]) for name in ("switch", "orders", "check", "draw", "changes"))
+        yield from ((name, [text, b""]) for name in ("switch", "orders"))
+    yield "direct", [moves]
+    yield "apply", [b"%dx%dx%d" % shape, half, draw.randbytes(4 * shape[0] * shape[1] * shape[2])]
+
+
+def are_same(asked, path, *words):
+    """Whether these calls give what the program does, by the program in C with these words."""
     with tempfile.TemporaryDirectory() as room:
         os.chdir(room)
-        calls = Calls(path, "no-memory")
-        well = all([is_same(calls, name, given) for name, given in asked])
+        calls = Calls(path, *words)
+        wrong = [(name, [text[:80] for text in given]) for name, given in asked if not is_same(calls, name, given)]
         os.chdir("/")
-    return calls.end() and well
+    for it in wrong:
+        print(f"calls: WRONG: {it}", file=sys.stderr)
+    return calls.end() and not wrong
+
+
+def on_small_stacks(path):
+    """The examples and the largest texts, on threads with as much stack as the page says, which may name calls that need another number."""
+    with open(f"{TOP}/docs/EMULATORS.md", encoding="utf-8") as file:
+        most, named, more = re.search(r"and (\d+) kilobytes of stack(?:, (.*?) (\d+))?\.", " ".join(file.read().split())).groups()
+    asked = {most: [], more: []}
+    for name, given in [*examples(), *largest()]:
+        asked[more if f"`exchange_{name}`" in (named or "") else most].append((name, given))
+    return all([are_same(calls, path, "stack", size) for size, calls in asked.items() if calls])
 
 
 def main():
     path = os.path.abspath(sys.argv[1])
     if sys.argv[2:] == ["--examples"]:
-        sys.exit(0 if try_examples(path) else "calls: WRONG: examples")
+        sys.exit(not are_same(examples(), path, "no-memory"))
+    if sys.argv[2:] == ["--stack"]:
+        sys.exit(not on_small_stacks(path))
     count = int(sys.argv[2]) if len(sys.argv) > 2 else 4000
     workers = os.cpu_count() or 1
     size = -(-count // workers)

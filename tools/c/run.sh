@@ -4,6 +4,7 @@
 #   emulator   the program of examples/emulator, built with warnings and sanitizers, prints what it is to print, also at the other end of `drive`,
 #              and of one that is refused, or ends before its line feed comes; a signal ends it, and leaves no folder
 #   try        each call with no room, too little, just enough and more, of accepted and refused texts, and without memory
+#   stack      each call of the largest texts on a thread with as much stack as docs/EMULATORS.md says
 #   texts      COUNT spoilt texts, 4000 where it isn't said, byte for byte against the built program, with what is told of refusals
 #   states     five times as many streams and states of a switch, and of an end that waits to boot, by the built program and by plain Python
 #   defines    the numbers of exchange.h are those of the sources, of the module for Python and of these tools; its calls and states are the sources'
@@ -60,6 +61,8 @@ stops TERM 143
 stops INT 130
 cc "${checks[@]}" -Wl,--wrap=malloc,--wrap=realloc -o "$work/try" "$here/try.c" "$library" "$kit"
 python3 "$here/calls.py" "$work/try" --examples || failed+=" try"
+cc -std=c11 -O2 -Wall -Wextra -Werror -I"$top/include" -Wl,--wrap=malloc,--wrap=realloc -pthread -o "$work/small" "$here/try.c" "$library" "$kit"
+python3 "$here/calls.py" "$work/small" --stack || failed+=" stack"
 python3 "$here/calls.py" "$work/try" "${1:-4000}" || failed+=" texts"
 cc "${checks[@]}" -Wl,--wrap=malloc,--wrap=realloc -o "$work/states" "$here/states.c" "$library" "$kit"
 python3 "$here/states.py" "$work/states" $((5 * ${1:-4000})) || failed+=" states"

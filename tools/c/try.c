@@ -2,17 +2,21 @@
  *
  *   try              requests of standard input
  *   try no-memory    the same, and each growth of memory is refused in turn
+ *   try stack KB     the same, and each call is made on a thread with so many kilobytes of stack
  *
  * A request is a line `NAME BYTES..`, with the number of bytes of each text, and behind it the texts. `whyN` asks why call N refuses its three
  * texts, and behind them stand their names. The reply is a line
  * `STATUS COUNT`, and behind it the bytes of the answer. What is wrong is told on standard error, and ends the program. */
+#define _GNU_SOURCE
 #include "exchange.h"
+#include <pthread.h>
 #include <stdio.h>
 #include <stdlib.h>
 #include <string.h>
+#include <sys/mman.h>
 
 /* The last is the most bytes that exchange.h gives a refusal. */
-enum { TEXTS = 4, FILL = 0xa5, BEHIND = 32, REFUSAL_ROOM = 100 };
+enum { TEXTS = 4, FILL = 0xa5, BEHIND = 32, REFUSAL_ROOM = 100, PAGE = 4096 };
 
 struct text {
     uint8_t *bytes;
@@ -52,7 +56,7 @@ static void end(const char *name, const char *why)
     exit(EXIT_FAILURE);
 }
 
-static uint8_t call(const char *name, const struct text *t, uint8_t *out, size_t room, size_t *count)
+static uint8_t call_here(const char *name, const struct text *t, uint8_t *out, size_t room, size_t *count)
 {
     if (strcmp(name, "plan") == 0)
         return exchange_plan(t[0].bytes, t[0].count, out, room, count);
@@ -79,6 +83,41 @@ static uint8_t call(const char *name, const struct text *t, uint8_t *out, size_t
                             t[3].count, out, room, count);
     end(name, "no such call");
     return 0;
+}
+
+/* A call, and what it gave. */
+struct made {
+    const char *name;
+    const struct text *texts;
+    uint8_t *out;
+    size_t room, *count;
+    uint8_t status;
+};
+
+static void *make(void *given)
+{
+    struct made *it = given;
+    it->status = call_here(it->name, it->texts, it->out, it->room, it->count);
+    return NULL;
+}
+
+/* How many bytes of stack the thread of a call has, or 0 where this one makes them. Below it is a page that nobody may touch. */
+static size_t stack;
+
+static uint8_t call(const char *name, const struct text *texts, uint8_t *out, size_t room, size_t *count)
+{
+    struct made it = {name, texts, out, room, count, 0};
+    if (stack == 0) {
+        make(&it);
+        return it.status;
+    }
+    pthread_attr_t how;
+    pthread_t thread;
+    uint8_t *low = mmap(NULL, PAGE + stack, PROT_READ | PROT_WRITE, MAP_PRIVATE | MAP_ANONYMOUS, -1, 0);
+    if (low == MAP_FAILED || mprotect(low, PAGE, PROT_NONE) || pthread_attr_init(&how) || pthread_attr_setstack(&how, low + PAGE, stack) ||
+        pthread_create(&thread, &how, make, &it) || pthread_join(thread, NULL) || munmap(low, PAGE + stack))
+        end(name, "there is no thread for it");
+    return it.status;
 }
 
 static void are_filled(const char *name, const uint8_t *bytes, size_t count)
@@ -143,6 +182,7 @@ int main(int words, char **word)
 {
     char line[200], name[16];
     int refuses = words > 1 && strcmp(word[1], "no-memory") == 0;
+    stack = words > 2 && strcmp(word[1], "stack") == 0 ? 1024 * (size_t)atol(word[2]) : 0;
     while (fgets(line, sizeof line, stdin) != NULL) {
         struct text texts[TEXTS] = {{NULL, 0}};
         int taken, next, given = 0;
