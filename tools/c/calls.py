@@ -218,6 +218,7 @@ def on_small_stacks(path):
     asked = {most: [], more: []}
     for name, given in [*examples(), *largest()]:
         asked[more if f"`exchange_{name}`" in (named or "") else most].append((name, given))
+    print(f"calls: {sum(map(len, asked.values()))} calls on small stacks")
     return all([are_same(calls, path, "stack", size) for size, calls in asked.items() if calls])
 
 
