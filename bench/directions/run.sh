@@ -37,8 +37,8 @@ measure() {
         moves $count "$2" "$3" >"$work/moves"
         counts[$count]=$(instructions "$program" direct "$work/moves")
     done
-    directed=$("$program" direct "$work/moves" | "$program" plan - | sed -n '1s/settings //p')
-    pushed=$(sed 's/^moves/batch/; s/^move/push/' "$work/moves" | "$program" plan - | sed -n '1s/settings //p')
+    directed=$("$program" direct "$work/moves" | "$program" plan --quiet - | sed -n '1s/settings //p')
+    pushed=$(sed 's/^moves/batch/; s/^move/push/' "$work/moves" | "$program" plan --quiet - | sed -n '1s/settings //p')
     awk -v name="$1" -v a="${counts[1024]}" -v b="${counts[4096]}" -v d="$directed" -v p="$pushed" 'BEGIN {
         printf "%-10s %.2f million instructions for 1024 moves, %.2f for 4096, growth %.2f; settings %d, of pushes alone %d\n", name, a / 1e6, b / 1e6, b / a, d, p
     }'

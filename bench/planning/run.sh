@@ -2,7 +2,8 @@
 # Counts the instructions that planning costs: of the whole program on one worker, beside plain Rust that does the
 # same and was written for speed (plain_planner.rs), for batches of several shapes, and how both grow from 1024
 # transfers to 4096. Plain Rust halves along partners, as the program did before it halved by pairs of links: so both
-# have to find as many settings, and `check` has to say of the program's that none are fewer.
+# have to find as many settings, and `check` has to say of the program's that none are fewer. All is planned with --quiet. Without
+# it the batch is read again, to name two transfers that write one block: what that costs is counted of two batches.
 #
 #   scrambled   modules of both ends by a linear congruential generator
 #   one_link    all from module 0 to module 1
@@ -78,6 +79,8 @@ declare -A greatest_steady=(
     [permutations]=0.82 [once_each]=1.55 [random_512]=3.00 [ten_modules]=1.10
 )
 greatest_steady_growth=4
+# A batch is read once more, and once more where two transfers write one block
+greatest_told=1.5
 
 # As many as were seen last
 declare -A most_changes=(
@@ -126,9 +129,9 @@ counted() {
 # NAME: counts for the batch in the file of that name
 measure() {
     local proved plain
-    "$program" plan "$work/$1" --workers 1 >"$work/answer"
+    "$program" plan --quiet "$work/$1" --workers 1 >"$work/answer"
     "$program" check "$work/$1" "$work/answer" | grep -q '^shortest'
-    proved=$(counted "$program" plan "$work/$1" --workers 1)
+    proved=$(counted "$program" plan --quiet "$work/$1" --workers 1)
     if [ ! "$counts_all" ]; then
         measure_steady "$1" ""
         return
@@ -161,8 +164,8 @@ count_changes() {
 # NAME PLANNED: counts `plan --steady` for the batch in the file of that name, which `plan` takes so many instructions for
 measure_steady() {
     local steady changes pairs bytes
-    "$program" plan "$work/$1" >"$work/planned"
-    "$program" plan "$work/$1" --steady >"$work/steady"
+    "$program" plan --quiet "$work/$1" >"$work/planned"
+    "$program" plan --quiet "$work/$1" --steady >"$work/steady"
     [ "$(head -1 "$work/steady")" = "$(head -1 "$work/planned")" ]
     "$program" check "$work/$1" "$work/steady" | grep -q '^shortest'
     "$program" switch --quiet "$work/$1" --schedule "$work/steady" >"$work/bytes"
@@ -171,7 +174,7 @@ measure_steady() {
     [ -z "${most_bytes[$1]-}" ] || judge "a steady plan of $1, in bytes," "$bytes" "${most_bytes[$1]}"
     measured=$((measured + 1))
     [ "$counts_all" ] || return 0
-    steady=$(instructions "$program" plan "$work/$1" --steady)
+    steady=$(instructions "$program" plan --quiet "$work/$1" --steady)
     : "${steady:?not counted}" "${2:?not counted}"
     steady_counts[$1]=$steady
     awk -v name="$1" -v steady="$steady" -v planned="$2" -v changes="$changes" -v pairs="$pairs" -v bytes="$bytes" 'BEGIN {
@@ -204,6 +207,16 @@ switch_growth() {
     judge "switch's growth of $1" "$times" "$greatest_growth"
 }
 
+# NAME: how many times as much a plan costs that isn't quiet
+told_growth() {
+    local quiet told times
+    quiet=$(instructions "$program" plan --quiet "$work/$1")
+    told=$(instructions "$program" plan "$work/$1")
+    times=$(awk "BEGIN { printf \"%.2f\", ${told:?not counted} / ${quiet:?not counted} }")
+    printf '%-14s not quiet: times %s\n' "$1" "$times"
+    judge "a plan of $1 that isn't quiet" "$times" "$greatest_told"
+}
+
 [ ! "$counts_all" ] || rustc --edition 2021 -O -o "$work/plain" "$here/plain_planner.rs"
 scrambled 4096 16 >"$work/scrambled"
 scrambled 1024 16 >"$work/scrambled-1024"
@@ -227,7 +240,7 @@ for name in scrambled one_link odd star two_by_two three_by_three four_by_two si
 done
 for name in all_to_all in_rounds halo random_16 random_32 random_256 sixty_pairs gather butterfly permutations once_each \
     random_512 ten_modules; do
-    measure_steady "$name" "$(counted "$program" plan "$work/$name" --workers 1)"
+    measure_steady "$name" "$(counted "$program" plan --quiet "$work/$name" --workers 1)"
 done
 echo "planning: $measured batches planned"
 if [ "$counts_all" ]; then
@@ -236,6 +249,8 @@ if [ "$counts_all" ]; then
     steady_growth scrambled
     steady_growth one_link
     switch_growth one_link
+    told_growth scrambled
+    told_growth once_each
 fi
 if [ "$has_rustc" ]; then
     rustc --edition 2021 -O -o "$work/search" "$here/fewest_changes.rs"

@@ -29,7 +29,7 @@ for count in 0 512 1024 2048; do
         done
     } >"$work/batch"
     ran[$count]=$(instructions "$program" run 32x64x1 "$work/batch" --workers 1)
-    planned=$(instructions "$program" plan "$work/batch" --workers 1)
+    planned=$(instructions "$program" plan --quiet "$work/batch" --workers 1)
     awk -v n=$count -v run=${ran[$count]} -v plan=$planned \
         'BEGIN { printf "%4d transfers: %.2f million instructions of the run, %.2f of the plan\n", n, run / 1e6, plan / 1e6 }'
 done

@@ -118,8 +118,8 @@ class Calls:
 
 
 def beside(name, given, program):
-    """What the program tells beside an answer, and no call does: that two transfers of a batch for the switch write one block."""
-    is_told = name.startswith("switch") and program.status == 0
+    """What the program tells beside an answer, and no call does: that two transfers of a batch to plan, or for the switch, write one block."""
+    is_told = name.startswith(("plan", "switch")) and program.status == 0
     return notes.overlapping(notes.Asked("batch", ("batch", given[0]))) if is_told else b""
 
 

@@ -71,7 +71,7 @@ def drive(*words, given=b""):
 @functools.lru_cache(maxsize=None)
 def planned(path, *options):
     """What `plan` prints."""
-    return ask("plan", path, *options)[0]
+    return ask("plan", path, "--quiet", *options)[0]
 
 
 def lines_for(batch, *options):

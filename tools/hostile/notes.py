@@ -308,6 +308,6 @@ def told(asked, refusal):
 
 
 def overlapping(asked):
-    """The line on standard error beside the bytes of a batch, where two transfers write one block, and nothing where no two do."""
+    """The line on standard error beside the plan or the bytes of a batch, where two transfers write one block, and nothing where no two do."""
     pair = plain.first_overlap(plain.read_batch(asked.list[1], plain.WIDEST))
     return f"exchange: {of_text(asked, 'overlap', *pair)}\n".encode() if pair else b""

@@ -271,18 +271,20 @@ def many_settings():
     return f"batch {len(numbers)}\n{batch}".encode(), schedule.encode()
 
 
-# What `switch` tells beside the bytes of that batch.
+# What `plan` and `switch` tell beside their answers to that batch, and `draw` beside the picture.
 WRITTEN_TWICE = b"exchange: settings:33: transfers 0 and 31 both write block 0 of module 1 (lines 2 and 33)\n"
+TOO_WIDE = b"exchange: settings.plan: the picture is 147488 pixels wide, and common tools draw at most 32767; --settings draws some settings alone\n"
 
 
 def long_answers():
     """A picture of 3 MB is written whole, and so are the bytes of as many settings."""
     ended = ask("draw", "settings", "settings.plan")
-    expect("a long picture", ended == Ended(picture.answer_draw(*many_settings(), told=ended.out), b"", 0), True)
+    expect("a long picture", ended == Ended(picture.answer_draw(*many_settings(), told=ended.out), TOO_WIDE, 0), True)
     batch, schedule = many_settings()
     for options, judge in [([], plain.is_plan), (["--steady"], steady.is_steady)]:
         ended, plan = (ask(command, "settings", *options) for command in ("switch", "plan"))
-        well = (ended.err, ended.status) == (WRITTEN_TWICE, 0) and judge(batch, plan.out) and switching.is_switched(batch, plan.out, ended.out)
+        told = ended.err == plan.err == WRITTEN_TWICE and ended.status == plan.status == 0
+        well = told and judge(batch, plan.out) and switching.is_switched(batch, plan.out, ended.out)
         expect(f"a long list of bytes {options}", well, True)
     ended = ask("switch", "settings", "--schedule", "settings.plan")
     expect("a long list of bytes of a schedule", ended, Ended(switching.answer_switch(batch, schedule), WRITTEN_TWICE, 0))
@@ -295,9 +297,9 @@ COMMANDS = {
     "an image": ("apply", "2x1x1", "swap", "image"),
     "a long image": ("apply", "16x64x256", "many", "zeros"),
     "a batch": ("direct", "moves"),
-    "a long picture": ("draw", "settings", "settings.plan"),
+    "a long picture": ("draw", "settings", "settings.plan", "--quiet"),
     "a steady plan": ("plan", "three", "--steady"),
-    "a long steady plan": ("plan", "settings", "--steady"),
+    "a long steady plan": ("plan", "settings", "--steady", "--quiet"),
     "a switch's bytes": ("switch", "three"),
     "a steady plan's bytes": ("switch", "three", "--steady"),
     "a schedule's bytes": ("switch", "three", "--schedule", "plan"),

@@ -131,7 +131,7 @@ def is_batch_told(answer, text, refusal):
 
 
 def is_overlap_told(answer, text):
-    """Whether two transfers that write one block are told beside the bytes of a batch, and nothing else is."""
+    """Whether two transfers that write one block are told beside the plan or the bytes of a batch, and nothing else is."""
     return answer.err == (b"" if answer.is_quiet else notes.overlapping(notes.Asked("batch", named(answer, "batch", text))))
 
 
@@ -142,7 +142,7 @@ def try_plan(draw):
     refusal = plain.answer_plan(text)
     if refusal:
         return is_refusal(answer, refusal) and is_batch_told(answer, text, refusal), refusal, [text], answer
-    well = answer.status == 0 and answer.err == b"" and is_planned(options, text, answer.out)
+    well = answer.status == 0 and is_overlap_told(answer, text) and is_planned(options, text, answer.out)
     return well, b"a steady plan" if options else b"a plan", [text], answer
 
 
@@ -151,7 +151,7 @@ def try_steady(draw):
     plan's text, and in another tenth its picture, which tells how often it changes the switch."""
     name, text = spoil.patterned(draw)
     plan, chance = ask_of(draw, ["plan", "--steady"], [keep("batch", text)]), draw.random()
-    well = (plan.err, plan.status) == (b"", 0) and steady.is_steady(text, plan.out)
+    well = plan.status == 0 and is_overlap_told(plan, text) and steady.is_steady(text, plan.out)
     if chance < 0.2:
         keep("schedule", plan.out)
     if well and chance < 0.1:
@@ -159,7 +159,7 @@ def try_steady(draw):
         told = notes.overlapping(notes.Asked("batch", ("batch", text)))
         well = all(it == (answers[0].out, told, 0) for it in answers) and switching.is_switched(text, plan.out, answers[0].out)
     elif well and chance < 0.2:
-        drawn = ask("draw", "batch", "schedule")
+        drawn = ask("draw", "batch", "schedule", "--quiet")
         well = drawn == (picture.answer_draw(text, plan.out, told=drawn.out), b"", 0)
     return well, f"a steady plan of {name}".encode(), [text, plan.out], plan
 

@@ -44,6 +44,12 @@ def equal_transfers(count):
     return f"batch {count}\n" + "push 0 0 1 0\n" * count
 
 
+def largest_plan():
+    """The plan of 4096 equal transfers."""
+    settings = "".join(f"setting {t}\n" for t in range(4096))
+    return f"settings 4096\n{settings}busiest link 0 module 0\nnamed {' '.join(map(str, range(4096)))}\n"
+
+
 def pushes(transfers):
     """The batch of these pushes."""
     lines = [f"push {i} {b} {r} {c}\n" for i, b, r, c in transfers]
@@ -98,6 +104,7 @@ def moved_image():
 MADE = {
     "thousand": lambda: pushes((t % 16, 0, (7 * t + t // 16) % 16, 0) for t in range(1000)),
     "largest": lambda: equal_transfers(4096),
+    "largest-plan": largest_plan,
     "last-block-often": lambda: pushes((0, 0, min(t, 2047) // 64, min(t, 2047) % 64) for t in range(4096)),
     "thirty-three": lambda: equal_transfers(33),
     "sixty-four": lambda: equal_transfers(64),

@@ -8,8 +8,8 @@ lines after it, up to the next one, are what it prints on both streams, whatever
 The commands of a document run one after another, by the shell bash, in a folder with the repository's examples and `./exchange`.
 A block that begins with ```file NAME isn't run: it is a file of that name for the commands after it.
 
-Each command's help begins with the line `Example:`, and the next line is one. It is run too, and has to end well. So is each command in the last column of a table
-whose last column is headed `For example`.
+Each command's help begins with a line that begins with `Example:`, and an example in the indented lines after it. It is run too, and has
+to end well. So is each command in the last column of a table whose last column is headed `For example`.
 
 Each link of a document has to lead to a file or folder of the repository, and where it names a heading there, to one. What a link to source
 code shows, as [`split`](../crates/euler_split/src/halving.rt#L40), has to stand there: a function or a type in that line, where it names
@@ -34,8 +34,8 @@ PROGRAM = os.path.abspath(os.environ.get("EXCHANGE") or f"{TOP}/exchange")
 # Seconds that a command has.
 LIMIT = 300
 
-# The commands whose help begins with an example of one line; that of `host` is a walk of several.
-HELPED = ("", "plan", "check", "draw", "switch", "orders", "direct", "apply", "run", "serve", "talk")
+# The commands whose help begins with an example for one shell; that of `host` is a walk in several.
+HELPED = ("", "plan", "check", "draw", "switch", "orders", "drive", "c004", "direct", "apply", "run", "serve", "talk", "replay")
 
 # Any lines, within what a command prints.
 ANY = "..."
@@ -227,8 +227,9 @@ def try_help(command):
     """Runs the example with which a command's help begins: whether it ends well."""
     with tempfile.TemporaryDirectory(prefix="texts-") as folder:
         make_folder(folder)
-        heading, example = run_in(folder, f"./exchange {command} --help")[1].split("\n")[:2]
-        is_well = heading == "Example:" and f"./exchange {command}" in example and run_in(folder, example)[0] == 0
+        heading, *lines = run_in(folder, f"./exchange {command} --help")[1].split("\n\n")[0].split("\n")
+        example = "\n".join(line for line in lines if line.startswith("  "))
+        is_well = heading.startswith("Example:") and f"./exchange {command}" in example and run_in(folder, example)[0] == 0
         if not is_well:
             print(f"exchange {command} --help begins with an example that doesn't work: {example}")
         return is_well

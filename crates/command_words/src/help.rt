@@ -32,6 +32,8 @@ has fewer settings, as the last two lines show:
   busiest link E module M   the link that most transfers use
   named t t ..              all transfers that use it, one in each setting
 or the line `busiest none` where there is no transfer.
+Two transfers that write one block, which a run refuses, are named on standard
+error.
 
 Use --steady where changing the switch takes time. The schedule has as few
 settings, and few changes: at most one for each pair of links that share
@@ -95,7 +97,8 @@ pub(crate) const DRAW: CommandHelp = CommandHelp {
     about: "Draws a schedule of a batch: a picture in SVG, for a browser",
     example: "\
 Example:
-  ./exchange draw examples/three-transfers.txt examples/three-transfers.plan.txt > schedule.svg",
+  mkdir -p out
+  ./exchange draw examples/three-transfers.txt examples/three-transfers.plan.txt > out/three.svg",
     notes: "\
 BATCH is a batch text and SCHEDULE a schedule text, with the certificate part or
 without it, in the form that `exchange plan --help` shows.
@@ -117,6 +120,8 @@ is shown of these, or else `at least L`; then `certified`, `not certified` or `n
 certificate`. With --settings it has the columns of settings A to B alone, counted
 from 0, both of them:
   ./exchange draw BATCH SCHEDULE --settings 0..31 > first.svg
+Common tools draw at most 32767 pixels in width. Where the picture is wider, a
+line on standard error says so.
 
 With --prices the answer is no picture, but prices that show how often the switch
 has to change:
@@ -227,9 +232,9 @@ pub(crate) const DRIVE: CommandHelp = CommandHelp {
     about: "Sets a real switch: sends its bytes setting by setting, and asks what it has joined",
     example: "\
 Example: a driver and a switch of this program, with two pipes between them:
-  rm -f board.in board.out; mkfifo board.in board.out
-  ./exchange c004 < board.in > board.out &
-  ./exchange drive examples/three-transfers.txt board --go-on",
+  mkdir -p out; rm -f out/board.*; mkfifo out/board.in out/board.out
+  ./exchange c004 < out/board.in > out/board.out &
+  ./exchange drive examples/three-transfers.txt out/board --go-on",
     notes: "\
 BATCH is a batch text, in the form that `exchange plan --help` shows.
 `exchange switch --help` says which schedule of it is driven, when there are two
@@ -336,7 +341,7 @@ pub(crate) const APPLY: CommandHelp = CommandHelp {
     about: "Places the blocks of a batch in your own words: an image in, an image out",
     example: "\
 Example:
-  ./exchange apply 3x2x2 examples/two-pushes.txt examples/before.img > after.img",
+  ./exchange apply 3x2x2 examples/two-pushes.txt examples/before.img | od -An -tx1",
     notes: "\
 SHAPE is MxKxW and BATCH a batch text, in the forms that `exchange run --help`
 shows. IMAGE has all words of the modules: module by module and block by block,
@@ -465,10 +470,11 @@ pub(crate) const HOST: CommandHelp = CommandHelp {
     about: "Serves live clients side by side on one exchange, each through two pipes of its own",
     example: "\
 Example: two clients on one rack. Make the pipes, and start the host:
-  rm -f amy.in amy.out bob.in bob.out; mkfifo amy.in amy.out bob.in bob.out
-  ./exchange host 2x1x2 amy bob
+  mkdir -p out; rm -f out/amy.* out/bob.*
+  mkfifo out/amy.in out/amy.out out/bob.in out/bob.out
+  ./exchange host 2x1x2 out/amy out/bob
 In a second shell be amy:
-  exec 3> amy.in 4< amy.out
+  exec 3> out/amy.in 4< out/amy.out
   echo 'poke 0 80000800 000000ff' >&3; read reply <&4; echo $reply
   exec 3>&- 4<&-
 which prints `poked`. The last line closes amy's pipes, and her session ends.
@@ -557,7 +563,7 @@ record or the image couldn't be written.",
 /// What help says of `replay`.
 pub(crate) const REPLAY: CommandHelp = CommandHelp {
     about: "Replays a record: makes its calls again, compares each reply, and prints the image left",
-    example: "Example:\n  ./exchange replay examples/two-clients.record.txt > after.img",
+    example: "Example:\n  ./exchange replay examples/two-clients.record.txt | od -An -tx1",
     notes: "\
 RECORD is what --record of `exchange serve` wrote, or of `host` or `talk`: a
 head, entries, and the line `end`. The head is

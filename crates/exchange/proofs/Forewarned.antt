@@ -4,7 +4,7 @@ use Rattle.std.specs.Prelude.{string_bytes}
 use Rattle.command_words.specs.declared.jobs.Request.{Request}
 use Rattle.drive_answers.proofs.ToldBeside.{TellsBeside}
 use Rattle.named_files.specs.Notes.{IsWholeLine}
-use Rattle.exchange.specs.Notes.{IsBeside, IsWarning, SetsSwitches}
+use Rattle.exchange.specs.Notes.{IsBeside, IsWarning}
 use Rattle.exchange.specs.Warnings.{HasToldWarned, IsWarnedOnce, MayHaveWarned}
 use Rattle.exchange.specs.declared.warned.Warned.{Warned}
 
@@ -37,13 +37,13 @@ may_have {I} {O} {E} contents told tells warning before after is was now once =
     ]
 
 -- such a line may stand beside an answer
-pub beside_by : (overlap : Type 0) (request : Request) (warning : Option (String Global)) (before after : Option (List ℕ)) → SetsSwitches request.job → IfSome warning (IsWarning overlap request) → MayHaveWarned warning before after → IsBeside overlap request before after
-beside_by overlap request warning before after sets is (inl same) = inl same
-beside_by overlap request None before after sets is (inr warned) = let bad = warned.1 in absurd cc
-beside_by overlap request (Some line) before after sets is (inr warned) =
+pub beside_by : (cause : Type 0) (request : Request) (warning : Option (String Global)) (before after : Option (List ℕ)) → IfSome warning (IsWarning cause request) → MayHaveWarned warning before after → IsBeside cause request before after
+beside_by cause request warning before after is (inl same) = inl same
+beside_by cause request None before after is (inr warned) = let bad = warned.1 in absurd cc
+beside_by cause request (Some line) before after is (inr warned) =
     let one : warned.0 ≡ line = let so = warned.1 in cc in
-    inr (inr (inr (inl (is.0, sets, is.1, (string_bytes line, is.2, rw one at warned.2)))))
+    inr (inr (inr (inl (is.0, is.1, (string_bytes line, is.2, rw one at warned.2)))))
 
-pub warning_by : (overlap : Type 0) (request : Request) (line : Option (String Global)) → request.is_quiet ≡ false → IfSome line (λ l. IsWholeLine (string_bytes l)) → IfSome line (λ l. overlap) → IfSome line (IsWarning overlap request)
-warning_by overlap request None heard whole is = tt
-warning_by overlap request (Some line) heard whole is = (heard, is, whole)
+pub warning_by : (cause : Type 0) (request : Request) (line : Option (String Global)) → request.is_quiet ≡ false → IfSome line (λ l. IsWholeLine (string_bytes l)) → IfSome line (λ l. cause) → IfSome line (IsWarning cause request)
+warning_by cause request None heard whole is = tt
+warning_by cause request (Some line) heard whole is = (heard, is, whole)

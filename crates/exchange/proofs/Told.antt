@@ -24,7 +24,7 @@ use Rattle.session_answers.specs.declared.ended_session.Ending.{Ending}
 use Rattle.named_files.specs.Clients.{ends_of}
 use Rattle.exchange.specs.Responses.{Given, IsJobAnswer, IsTalk, Named, Response}
 use Rattle.named_files.specs.Notes.{unanswered, AreToldLines, HasToldLines, IsToldInPart, IsNoteOn, IsToldUnless, IsWholeLine, IsRefused}
-use Rattle.exchange.specs.Notes.{HasJobOverlap, IsBeside, IsNoted, MayTell, TellsLines, told_there}
+use Rattle.exchange.specs.Notes.{IsJobWarnedOf, IsBeside, IsNoted, MayTell, TellsLines, told_there}
 use Rattle.exchange.specs.Outcomes.{HasTold, IsAnswered}
 use Rattle.command_words.specs.declared.jobs.ArgumentsFault.TheVariants as arguments_fault
 use Rattle.command_words.specs.Jobs.{AskFor, file_uses}
@@ -42,12 +42,12 @@ told_nothing (Err (missed.Unwritten what)) before is behind cut none refused so 
 pub none_served : (endings : List (Ending (List ℕ))) → endings ≡ [] → ends_of endings ≡ []
 none_served endings none = rw none refl
 
--- what is told beside, where an overlap is known of more
+-- what is told beside, where its cause is known of more
 pub beside_of : (P Q : Type 0) (request : Request) (before after : Option (List ℕ)) → (P → Q) → IsBeside P request before after → IsBeside Q request before after
 beside_of P Q request before after f (inl same) = inl same
 beside_of P Q request before after f (inr (inl talk)) = inr (inl talk)
 beside_of P Q request before after f (inr (inr (inl dropped))) = inr (inr (inl dropped))
-beside_of P Q request before after f (inr (inr (inr (inl t)))) = inr (inr (inr (inl (t.0, t.1, f t.2, t.3))))
+beside_of P Q request before after f (inr (inr (inr (inl t)))) = inr (inr (inr (inl (t.0, f t.1, t.2))))
 beside_of P Q request before after f (inr (inr (inr (inr lines)))) = inr (inr (inr (inr lines)))
 
 -- one line more
@@ -90,7 +90,7 @@ noted overlap request end (Some line) eb em ea on beside (inr t) =
 -- an answer that is printed behind it
 pub answered : {E : Type 0} (r : Result ℕ E) (named : Named) (keeps : Job → Response → Type 0) (given : Given) (request : Request) (told : List ℕ) (left : Option Account) (ports : Ways) (ends : List SessionEnd) (done : Answered) (out_before out_after has eb em ea : Option (List ℕ))
     → Appends out_before out_after told → AreSeenApart named.leads (file_uses request.job) → IsJobAnswer named.holds given request.job (record { told = told; end = done.answer; left = left; ports = ports; ends = ends }) → (done.lost ≡ lost_none → keeps request.job (record { told = told; end = done.answer; left = left; ports = ports; ends = ends })) → IsAnswered done
-    → IsBeside (HasJobOverlap named.holds given request.job) request eb em → IfOk r (λ status. IsPrinted out_after has done.answer status × (done.lost ≡ lost_none)) → IsToldUnless request.is_quiet (bytes_of_line done.note) em ea
+    → IsBeside (IsJobWarnedOf named.holds given request.job) request eb em → IfOk r (λ status. IsPrinted out_after has done.answer status × (done.lost ≡ lost_none)) → IsToldUnless request.is_quiet (bytes_of_line done.note) em ea
     → IfOk r (IsDone named keeps given request (streams_of out_before has eb ea))
 answered (Ok status) named keeps given request told left ports ends done out_before out_after has eb em ea first apart is kept note beside then said = (
   record { told = told; end = done.answer; left = left; ports = ports; ends = ends },
@@ -104,7 +104,7 @@ answered (Err e) named keeps given request told left ports ends done out_before 
 -- and why there is none
 pub not_answered : {E : Type 0} (r : Result ℕ E) (named : Named) (keeps : Job → Response → Type 0) (given : Given) (request : Request) (told : List ℕ) (why : Unanswered) (line : Option (String Global)) (out_before out_after has eb em ea : Option (List ℕ))
     → Appends out_before out_after told → (told ≡ []) → keeps request.job (record { told = told; end = unanswered why; left = None; ports = given.ports; ends = [] }) → IsNoteOn (unanswered why) (bytes_of_line line)
-    → IsBeside (HasJobOverlap named.holds given request.job) request eb em → IfOk r (IsPrinted out_after has (unanswered why)) → IsToldUnless request.is_quiet (bytes_of_line line) em ea
+    → IsBeside (IsJobWarnedOf named.holds given request.job) request eb em → IfOk r (IsPrinted out_after has (unanswered why)) → IsToldUnless request.is_quiet (bytes_of_line line) em ea
     → IfOk r (IsDone named keeps given request (streams_of out_before has eb ea))
 not_answered (Ok status) named keeps given request told why line out_before out_after has eb em ea first none kept note beside then said = (
   record { told = told; end = unanswered why; left = None; ports = given.ports; ends = [] },

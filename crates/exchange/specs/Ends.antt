@@ -15,7 +15,7 @@ use Rattle.named_files.specs.declared.unanswered.Unanswered.TheVariants.{NoMemor
 use Rattle.session_answers.specs.HostAnswers.{SessionEnd}
 use Rattle.exchange.specs.Responses.{Given, IsJobAnswer, IsJobCut, IsResponseTo, Named, Response}
 use Rattle.named_files.specs.Notes.{unanswered, IsToldInPart}
-use Rattle.exchange.specs.Notes.{HasJobOverlap, IsBeside, IsNoted}
+use Rattle.exchange.specs.Notes.{IsJobWarnedOf, IsBeside, IsNoted}
 use Rattle.exchange.specs.Outcomes.{HasNote, HasTold, IsUnanswered}
 use Rattle.named_files.specs.Apart.{AreSeenApart}
 use Rattle.named_files.specs.declared.notes.NoAnswer.{NoAnswer}
@@ -104,7 +104,7 @@ pub record HasEnded {C : Type 0} (named : Named) (received : C → Closed) (give
       (IsUnanswered given.ports left.ports left.ends)
       (IsJobCut named.holds given request.job left.ports left.ends) end
   pub note : HasNote end
-  pub beside : IsBeside (HasJobOverlap named.holds given request.job) request streams.err_before
+  pub beside : IsBeside (IsJobWarnedOf named.holds given request.job) request streams.err_before
       streams.err_after
   pub apart : OnOk end (AreSeenApart named.leads (file_uses request.job))
   pub unkept : OnErr end (AreKept named.holds received request.job None left.receipts)
@@ -121,7 +121,7 @@ IsDone named keeps given request streams code =
     (response : Response) × IsResponseTo named given request.job response
     × keeps request.job response
     × IsPrinted streams.out_before streams.out_after (printed_of response) code
-    × IsNoted (HasJobOverlap named.holds given request.job) request response.end streams.err_before
+    × IsNoted (IsJobWarnedOf named.holds given request.job) request response.end streams.err_before
     streams.err_after
 
 -- nothing was told on standard error

@@ -1,10 +1,11 @@
 -- What is told on standard error beside what is printed.
-use Rattle.std.specs.Prelude.{◌≡◌, ◌≢◌, ◌⊎◌, ◌++◌, ⊤, ℕ, false, List, [], Option, None, String, string_bytes}
+use Rattle.std.specs.Prelude.{◌≡◌, ◌≢◌, ◌⊎◌, ◌++◌, ◌<◌, ⊤, ℕ, false, List, [], Option, None, String, codes, string_bytes}
+use Rattle.std.specs.Fmt.{decimal}
 use Rattle.std.specs.Io.KnownBytes.{Appends}
 use Rattle.client_session.specs.Listening.{Told, TellsOfRefusals}
 use Rattle.plan_answers.specs.Refusals.{Printed}
 use Rattle.command_words.specs.declared.jobs.Job.{Job}
-use Rattle.command_words.specs.declared.jobs.Job.TheVariants.{Switch, Drive, C004, Host, Replay}
+use Rattle.command_words.specs.declared.jobs.Job.TheVariants.{Plan, Draw, Switch, Drive, C004, Host, Replay}
 use Rattle.command_words.specs.declared.jobs.Request.{Request}
 use Rattle.refusals.specs.declared.refusal.Refusal.{Refusal}
 use Rattle.refusals.specs.declared.refusal.Refusal.TheVariants.{NoMemory}
@@ -14,6 +15,8 @@ use Rattle.batch.specs.Text.{Denotes}
 use Rattle.batch.specs.declared.transfer.Transfer.{Transfer}
 use Rattle.command_words.specs.Jobs.{Files, files_of}
 use Rattle.named_files.specs.Contents.{AreContents, Holding}
+use Rattle.plan_answers.specs.Drawings.{IsDrawn}
+use Rattle.exchange.specs.declared.warnings.TheConstants.{MAX_DRAWN}
 use Rattle.exchange.specs.Responses.{Given, IsTalk, text_in}
 use Rattle.named_files.specs.Notes.{AreToldLines, HasSecondLine, HasToldLines, IsToldInPart, IsWholeLine}
 
@@ -36,27 +39,44 @@ abbrev pub IsC004 : Job → Type 0
 IsC004 C004 = ⊤
 IsC004 job = ⊥
 
--- the job is `switch` or `drive`
-abbrev pub SetsSwitches : Job → Type 0
-SetsSwitches (Switch batch source wiring workers) = ⊤
-SetsSwitches (Drive batch port port_b source wiring first goes_on workers) = ⊤
-SetsSwitches job = ⊥
-
 -- two transfers of the batch of this text write one block
 abbrev pub HasOverlap : List ℕ → Type 0
 HasOverlap text =
     (batch : List Transfer) × (i j : ℕ) × Denotes widest text batch × Overlap batch i j
 
--- so it is of the batch that a job's files hold
-abbrev pub HasJobOverlap : Holding → Given → Job → Type 0
-HasJobOverlap holds given job =
-    (files : Files (List ℕ)) × (rest : Option (List ℕ))
-    × AreContents holds given.input (files_of job) files rest × HasOverlap (text_in files.list)
+-- this is the text of a picture that is so wide
+abbrev pub HasWidth : List ℕ → ℕ → Type 0
+HasWidth text width =
+    (rest : List ℕ)
+    × (text ≡ codes "<svg xmlns='http://www.w3.org/2000/svg' width='" ++ (decimal width
+    ++ (codes "'" ++ rest)))
 
--- a line that tells so is wanted, and it is whole
+-- it is a picture that is wider than common tools draw
+abbrev pub IsTooWide : List ℕ → Type 0
+IsTooWide text = (width : ℕ) × HasWidth text width × (MAX_DRAWN < width)
+
+-- what a line warns of beside the answer to a job whose files contain this: `draw` of such a
+-- picture, `plan`, `switch` and `drive` of two such transfers
+abbrev pub IsWarnedOf : Job → Files (List ℕ) → Type 0
+IsWarnedOf (Draw batch schedule settings) files =
+    (drawn : Printed) × IsDrawn widest (text_in files.list) (text_in files.other) settings drawn
+    × IsTooWide drawn.text
+IsWarnedOf (Plan batch planning workers) files = HasOverlap (text_in files.list)
+IsWarnedOf (Switch batch source wiring workers) files = HasOverlap (text_in files.list)
+IsWarnedOf (Drive batch port port_b source wiring first goes_on workers) files =
+    HasOverlap (text_in files.list)
+IsWarnedOf job files = ⊥
+
+-- so it is with what a job's files hold
+abbrev pub IsJobWarnedOf : Holding → Given → Job → Type 0
+IsJobWarnedOf holds given job =
+    (files : Files (List ℕ)) × (rest : Option (List ℕ))
+    × AreContents holds given.input (files_of job) files rest × IsWarnedOf job files
+
+-- a line that warns of this is wanted, and it is whole
 abbrev pub IsWarning : {Z : Type 0} → Type 0 → Request → String Z → Type 0
-IsWarning {Z} overlap request line =
-    (request.is_quiet ≡ false) × overlap × IsWholeLine (string_bytes line)
+IsWarning {Z} cause request line =
+    (request.is_quiet ≡ false) × cause × IsWholeLine (string_bytes line)
 
 -- the job is `host` or `replay`
 abbrev pub TellsLines : Job → Type 0
@@ -66,17 +86,17 @@ TellsLines job = ⊥
 
 -- What was told beside what is replied, where the arguments don't ask for silence, and else
 -- nothing: by `talk` what may be told of some refusals, one after another, behind what stood there,
--- and then some whole lines; by `c004` what it drops; by `switch` and `drive` at most a whole line,
--- and that only where transfers overlap; and by `host` and `replay` some whole lines.
+-- and then some whole lines; by `c004` what it drops; by what may warn at most a whole line, and
+-- that only where there is a cause; and by `host` and `replay` some whole lines.
 abbrev pub IsBeside : Type 0 → Request → Option (List ℕ) → Option (List ℕ) → Type 0
-IsBeside overlap request before after =
+IsBeside cause request before after =
     (after ≡ before)
     ⊎ ((request.is_quiet ≡ false) × IsTalk request.job
     × ((mid : Option (List ℕ)) × TellsOfRefusals MayTell (told_there before) (told_there mid)
     × HasToldLines false mid after))
     ⊎ ((request.is_quiet ≡ false) × IsC004 request.job
     × ((told : List ℕ) × Appends before after told))
-    ⊎ ((request.is_quiet ≡ false) × SetsSwitches request.job × overlap
+    ⊎ ((request.is_quiet ≡ false) × cause
     × ((line : List ℕ) × IsWholeLine line × IsToldInPart before after line))
     ⊎ ((request.is_quiet ≡ false) × TellsLines request.job
     × ((lines : List (List ℕ)) × AreToldLines before after lines))
@@ -84,8 +104,8 @@ IsBeside overlap request before after =
 -- what was told on standard error of an answer, behind what was told beside it: nothing, or one
 -- text of a refusal or of what stopped a drive, and nothing where the arguments ask for that
 abbrev pub IsNoted : Type 0 → Request → Printed → Option (List ℕ) → Option (List ℕ) → Type 0
-IsNoted overlap request end before after =
-    (mid : Option (List ℕ)) × IsBeside overlap request before mid
+IsNoted cause request end before after =
+    (mid : Option (List ℕ)) × IsBeside cause request before mid
     × (Appends mid after []
     ⊎ ((request.is_quiet ≡ false) × (line : List ℕ) × HasSecondLine end line
     × IsToldInPart mid after line))

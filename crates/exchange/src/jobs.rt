@@ -8,8 +8,8 @@ ghost use Rattle.command_words.specs.Jobs.{IsWithinLimits, files_of};
 ghost use Rattle.named_files.specs.Contents.{AreContents, contents_in};
 ghost use Rattle.named_files.specs.Clients.{clients_by, ends_of};
 ghost use Rattle.exchange.specs.Ends.{HasEnded, behind, streams_of};
-ghost use Rattle.exchange.specs.Responses.{IsAnswerTo, IsC004By, IsC004Cut, HasNoSessions, HasSessions, IsOfTexts, IsPlainAnswer, IsTextAnswer, IsToldCut, KeepsPorts, LeavesRest, given_by, named_by, text_in as the_text};
-ghost use Rattle.exchange.specs.Notes.{HasOverlap, IsBeside};
+ghost use Rattle.exchange.specs.Responses.{IsAnswerTo, IsC004By, IsC004Cut, HasNoSessions, HasSessions, IsOfTexts, IsPlainAnswer, IsTextAnswer, IsToldCut, KeepsPorts, LeavesRest, given_by, named_by};
+ghost use Rattle.exchange.specs.Notes.{IsBeside, IsWarnedOf};
 ghost use Rattle.exchange.specs.Keeping.{AreKept, AreKeptBut};
 ghost use Rattle.named_files.specs.Outputs.{AreNamed, AreOpened, begins_with, is_live, output_of, record_of};
 ghost use Rattle.exchange.specs.Outcomes.{HasTold, IsNothing, IsUnanswered, response_of};
@@ -19,11 +19,11 @@ use crate::answered::{Answered, finished};
 use crate::beside::Beside;
 use crate::cut::tell_cut;
 use crate::driving::drive;
-use crate::overlaps::{tell_overlap_beside, warning_of};
 use crate::peers::Peers;
 use crate::torn::tell_torn;
 use crate::unopened::{no_lacks, tell_lacks};
 use crate::unserved::{close_outputs, without_sessions};
+use crate::warnings::{overlap_warning_of, tell_beside, warning_of};
 use client_session::NoListener;
 use command_words::{Job, Request, Text};
 use drive_answers::{PortNames, Ports};
@@ -51,11 +51,12 @@ pub(crate) struct Ended<C> {
 /// The answer to a job, or why it has none, with what is told beside it. A session of `talk` is
 /// told its replies on `out` before, and a line on `err` beside each that is a refusal, but for
 /// lack of memory. `drive` tells its settings on `out` before, and `c004` writes its answers to
-/// enquiries there, and tells on `err` what it drops. `switch` and `drive` tell on `err` where two
-/// transfers write one block, `host` which files of clients couldn't be opened, and `replay` how
-/// far a record goes that hasn't ended. It is looked first where names lead. Then the files for the
-/// record of sessions and for the image that they leave are opened, before any other is read, and
-/// all that are read are read before anything is answered.
+/// enquiries there, and tells on `err` what it drops. `plan`, `switch` and `drive` tell on `err`
+/// where two transfers write one block, `draw` where its picture is wider than common tools draw,
+/// `host` which files of clients couldn't be opened, and `replay` how far a record goes that hasn't
+/// ended. It is looked first where names lead. Then the files for the record of sessions and for the
+/// image that they leave are opened, before any other is read, and all that are read are read before
+/// anything is answered.
 ///
 /// Only sessions may wait, for a lock or for a client: `answer_alone` isn't handed what that takes.
 pub(crate) fn answer_to<R: Runtime, S: System, P: Ports, I: Read, O: Write, E: Write>(
@@ -228,7 +229,7 @@ fn hold_sessions<R: Runtime, S: System, P: Ports, I: Read, O: Write, E: Write>(
         (IsToldCut request.now.job (contents_in contents.now) (I.remaining input.old)
         (P.ways peers.old.ports) (P.ways peers.new.ports)) result.end }
     ensures note { IfErr result.end (λ missed. IsNoAnswer missed) }
-    ensures beside { IsBeside (HasOverlap (the_text (contents_in contents.now).list)) request.now
+    ensures beside { IsBeside (IsWarnedOf request.now.job (contents_in contents.now)) request.now
         (E.contents err.old) (E.contents err.new) }
     ensures rest { LeavesRest request.now.job (P.ways peers.old.ports) (P.ways peers.new.ports)
         (ends_of peers.new.endings.items) }
@@ -310,7 +311,7 @@ fn answer_other<R: AllocGlobal + Threads + Sync, P: Ports, I: Read, O: Write, E:
         (IsToldCut request.now.job (contents_in contents.now) (I.remaining input.old)
         (P.ways ports.old) (P.ways ports.new)) result }
     ensures note { IfErr result (λ missed. IsNoAnswer missed) }
-    ensures beside { IsBeside (HasOverlap (the_text (contents_in contents.now).list)) request.now
+    ensures beside { IsBeside (IsWarnedOf request.now.job (contents_in contents.now)) request.now
         (E.contents err.old) (E.contents err.new) }
     ensures ports { KeepsPorts request.now.job (P.ways ports.old) (P.ways ports.new) }
 {
@@ -329,7 +330,7 @@ fn answer_other<R: AllocGlobal + Threads + Sync, P: Ports, I: Read, O: Write, E:
                 port: port.as_str(),
                 port_b: text_in(port_b),
             };
-            let warning = warning_of(alloc, request, contents);
+            let warning = overlap_warning_of(alloc, request, contents);
             drive(
                 rt, *workers, source, contents, *first, names, *goes_on, ports, input, out,
                 warning, err,
@@ -337,17 +338,17 @@ fn answer_other<R: AllocGlobal + Threads + Sync, P: Ports, I: Read, O: Write, E:
         }
         Job::C004 if request.is_quiet => c004(alloc, input, out, &mut io::sink()),
         Job::C004 => c004(alloc, input, out, err),
-        Job::Switch { .. } => {
-            let found = answer_texts(rt, &request.job, contents)?;
-            tell_overlap_beside(alloc, request, contents, &found.answer, err);
-            Ok(found)
-        }
         Job::Replay { recorded, .. } => {
             let found = answer_texts(rt, &request.job, contents)?;
             tell_torn(alloc, recorded, found.torn, request.is_quiet, err);
             Ok(found)
         }
-        job => Ok(answer_texts(rt, job, contents)?),
+        job => {
+            let found = answer_texts(rt, job, contents)?;
+            let warning = warning_of(alloc, request, contents, &found.answer);
+            tell_beside(warning, &found.answer, err);
+            Ok(found)
+        }
     }
 }
 

@@ -17,8 +17,8 @@
 //! Which bytes a file holds, and where names lead, the [`System`](named_files::System) tells: of
 //! the real one contracts know none but the bytes of standard input. Beside what it prints for a
 //! job, standard error gets at most a front of one text of a refusal, and what is told beside
-//! `talk`, `c004`, `host` and `replay`, and beside `switch` and `drive` where transfers overlap
-//! (`IsNoted` of `specs/Notes.antt`).
+//! `talk`, `c004`, `host` and `replay`, and beside `plan`, `switch` and `drive` where transfers
+//! overlap, and `draw` where a picture is wide (`IsNoted` of `specs/Notes.antt`).
 #![tactic(auto)]
 
 mod answered;
@@ -27,7 +27,6 @@ mod cut;
 mod driving;
 mod jobs;
 mod limits;
-mod overlaps;
 mod peers;
 mod promises;
 mod responding;
@@ -36,6 +35,7 @@ mod torn;
 mod unopened;
 mod unserved;
 mod warned;
+mod warnings;
 
 use crate::limits::UNWRITTEN;
 use crate::peers::Peers;
