@@ -1,10 +1,13 @@
 -- A line on standard error before those of settings is told once.
-use Rattle.std.proofs.Common.{◌≡◌, ◌∙◌, ℕ, List, Option, None, Some, String, Global, IfSome, false, inl, inr, refl, sym}
+use Rattle.std.proofs.Common.{◌≡◌, ◌∙◌, ◌++◌, ◌∷◌, [], ℕ, List, Option, None, Some, String, Global, IfSome, false, ap, append_assoc, inl, inr, refl, sym}
 use Rattle.std.specs.Prelude.{string_bytes}
+use Rattle.std.specs.Fmt.{decimal}
+use Rattle.batch.specs.Text.{number}
 use Rattle.command_words.specs.declared.jobs.Request.{Request}
 use Rattle.drive_answers.proofs.ToldBeside.{TellsBeside}
+use Rattle.plan_answers.specs.Refusals.{Printed}
 use Rattle.named_files.specs.Notes.{IsWholeLine}
-use Rattle.exchange.specs.Notes.{IsBeside, IsWarning}
+use Rattle.exchange.specs.Notes.{IsBeside, IsTooWide, IsWarning}
 use Rattle.exchange.specs.Warnings.{HasToldWarned, IsWarnedOnce, MayHaveWarned}
 use Rattle.exchange.specs.declared.warned.Warned.{Warned}
 
@@ -47,3 +50,10 @@ beside_by cause request (Some line) before after is (inr warned) =
 pub warning_by : (cause : Type 0) (request : Request) (line : Option (String Global)) → request.is_quiet ≡ false → IfSome line (λ l. IsWholeLine (string_bytes l)) → IfSome line (λ l. cause) → IfSome line (IsWarning cause request)
 warning_by cause request None heard whole is = tt
 warning_by cause request (Some line) heard whole is = (heard, is, whole)
+
+pub wide_by : (drawing : Printed → Type 0) (drawn : Printed) (line : Option (String Global)) → drawing drawn → IfSome line (λ l. IsTooWide drawn.text) → IfSome line (λ l. (shown : Printed) × drawing shown × IsTooWide shown.text)
+wide_by drawing drawn None is wide = tt
+wide_by drawing drawn (Some line) is wide = (drawn, is, wide)
+
+pub width_by : (front text size after : List ℕ) (width : ℕ) → text ≡ front ++ size → size ≡ number width 39 ++ after → (rest : List ℕ) × (text ≡ front ++ (decimal width ++ 39 ∷ rest))
+width_by front text size after width parts read = (after, parts ∙ ap (λ (l : List ℕ). front ++ l) (read ∙ append_assoc (decimal width) (39 ∷ []) after))
