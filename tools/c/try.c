@@ -16,7 +16,7 @@
 #include <sys/mman.h>
 
 /* The last is the most bytes that exchange.h gives a refusal. */
-enum { TEXTS = 4, FILL = 0xa5, BEHIND = 32, REFUSAL_ROOM = 100, PAGE = 4096 };
+enum { TEXTS = 4, FILL = 0xa5, BEHIND = 32, PAGE = 4096, REFUSAL_ROOM = 100 };
 
 struct text {
     uint8_t *bytes;
