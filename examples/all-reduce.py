@@ -9,8 +9,10 @@ host first, at the top of a clone, and then the clients:
     examples/all-reduce.py
 """
 
+import sys
 import time
 from concurrent.futures import ThreadPoolExecutor
+from pathlib import Path
 
 
 def address(block, word):
@@ -39,6 +41,8 @@ def add_up(module):
     return total
 
 
+if not all(Path(f"{module}.{way}").is_fifo() for module in range(16) for way in ("in", "out")):
+    sys.exit("all-reduce.py: the pipes 0.in to 15.out aren't here: its first lines say how to make them and start the host")
 with ThreadPoolExecutor(16) as clients:
     for module, total in enumerate(clients.map(add_up, range(16))):
         print(f"module {module} has {total}")
