@@ -31,15 +31,21 @@
 #   once_each   each of 32 modules to each other, a block each
 #   random_512  512 transfers between 32 modules
 #   ten_modules each of ten modules to each other, seven blocks each
+#   random_800  800 transfers between 32 modules
+#   seven_steps, seven_others
+#               what seven matchings of ten modules join, each for some settings
 #
 # With --check each ratio to plain Rust may be as large as `greatest` says, and what `switch` prints of one link may cost so
 # many times as much as of a quarter of the transfers as `greatest_growth` says. A steady plan may cost so many times as much
 # as a plan of the same batch as `greatest_steady` says, and four times the transfers no more than
 # four times as much. Its changes and bytes may be as many as `most_changes` and `most_bytes` say, where
-# these name the batch. Of 1000 small batches no more than 109 may have pictures that leave open whether a steady plan has the
-# fewest changes, and no more than 2 in 100 of those for which all shortest schedules were tried, and none has fewer
-# (told.py, fewest_changes.rs). No picture may say more than is so. Else the status is 1. Where valgrind or rustc is missing, --check
-# says so, and compares what needs neither: how many settings plans have, and the changes and the bytes of steady ones.
+# these name the batch. Of 1000 small batches no more than 70 may have steady plans with more changes than the fewest, as all shortest
+# schedules show that were tried, and all together may have 2 in 100 more than the fewest. Pictures may leave open of no more than 85
+# whether a plan has the fewest, and of no more than 2 in 100 of those that have (told.py, fewest_changes.rs). No picture may say more than
+# is so. Else the status is 1. Where valgrind or rustc is missing, --check says so, and compares what needs neither: how many settings plans
+# have, and the changes and the bytes of steady ones.
+#
+# It also counts the steps of plans, beside the most that are proved (steps.py).
 #
 # Needs valgrind, rustc and python3. Build the program first: ./exchange prove
 set -eu
@@ -70,13 +76,13 @@ declare -A greatest=(
     [three_by_three]=1.08 [four_by_two]=1.08 [sixteen_by_three]=1.07 [thirty_two_by_two]=1.09
 )
 greatest_growth=5
-# About an eighth more than was counted last. A steady plan is the best of up to four, so it may cost more than a plan: of transfers at
-# random, and of modules that send each other one block
+# About an eighth more than was counted last, and no more than 3. A steady plan is the best of up to five, so it may cost more than a plan:
+# of transfers at random, and of modules that send each other one block
 declare -A greatest_steady=(
-    [scrambled]=1.04 [scrambled-1024]=1.75 [one_link]=1.00 [one_link-1024]=1.06 [odd]=0.62 [star]=1.00 [two_by_two]=0.57 [part]=1.00
-    [wide]=1.70 [three_by_three]=0.37 [four_by_two]=0.45 [sixteen_by_three]=0.75 [thirty_two_by_two]=0.54 [all_to_all]=0.62
-    [in_rounds]=0.62 [halo]=0.92 [random_16]=0.98 [random_32]=1.67 [random_256]=2.00 [sixty_pairs]=0.91 [gather]=1.08 [butterfly]=0.68
-    [permutations]=0.82 [once_each]=1.55 [random_512]=3.00 [ten_modules]=1.10
+    [scrambled]=1.50 [scrambled-1024]=3.00 [one_link]=1.00 [one_link-1024]=1.06 [odd]=0.62 [star]=1.00 [two_by_two]=0.57 [part]=1.00
+    [wide]=2.00 [three_by_three]=0.37 [four_by_two]=0.45 [sixteen_by_three]=0.75 [thirty_two_by_two]=0.54 [all_to_all]=0.62
+    [in_rounds]=0.62 [halo]=0.92 [random_16]=1.50 [random_32]=2.00 [random_256]=2.35 [sixty_pairs]=1.35 [gather]=1.08 [butterfly]=0.68
+    [permutations]=0.82 [once_each]=1.55 [random_512]=2.15 [ten_modules]=1.10 [random_800]=2.30 [seven_steps]=1.20 [seven_others]=1.20
 )
 greatest_steady_growth=4
 # A batch is read once more, and once more where two transfers write one block
@@ -85,11 +91,13 @@ greatest_told=1.5
 # As many as were seen last
 declare -A most_changes=(
     [all_to_all]=15 [in_rounds]=15 [halo]=4 [random_16]=35 [random_32]=47 [random_256]=18 [sixty_pairs]=17 [gather]=15 [butterfly]=4
-    [permutations]=8 [once_each]=31 [random_512]=21 [ten_modules]=9
+    [permutations]=8 [once_each]=31 [random_512]=21 [ten_modules]=9 [random_800]=30
+    [seven_steps]=7 [seven_others]=7
 )
 declare -A most_bytes=(
     [all_to_all]=1648 [in_rounds]=1648 [halo]=341 [random_16]=2925 [random_32]=11462 [random_256]=1012 [sixty_pairs]=932 [gather]=1048
     [butterfly]=593 [permutations]=2570 [once_each]=9856 [random_512]=4072 [ten_modules]=574
+    [random_800]=5778 [seven_steps]=619 [seven_others]=614
 )
 
 # NAME FOUND GREATEST: tells what costs too much
@@ -239,7 +247,7 @@ for name in scrambled one_link odd star two_by_two three_by_three four_by_two si
     measure $name
 done
 for name in all_to_all in_rounds halo random_16 random_32 random_256 sixty_pairs gather butterfly permutations once_each \
-    random_512 ten_modules; do
+    random_512 ten_modules random_800 seven_steps seven_others; do
     measure_steady "$name" "$(counted "$program" plan --quiet "$work/$name" --workers 1)"
 done
 echo "planning: $measured batches planned"
@@ -256,9 +264,14 @@ if [ "$has_rustc" ]; then
     rustc --edition 2021 -O -o "$work/search" "$here/fewest_changes.rs"
     told=$("$here/told.py" "$program" "$work/search" 1000)
     echo "$told"
+    best=$(sed -n 's/^the fewest changes have \([0-9]*\) .*/\1/p' <<<"$told")
+    judge "1000 small batches have steady plans with more changes than the fewest: this" "$((1000 - ${best:?not told}))" 70
     unshown=${told##*, }
-    judge "1000 small batches have steady plans not shown to have the fewest changes: this" "${unshown%% *}" 109
+    judge "1000 small batches have steady plans not shown to have the fewest changes: this" "${unshown%% *}" 85
+    more=$(sed -n 's/^together they have \([0-9.]*\) .*/\1/p' <<<"$told")
+    judge "of 1000 small batches, in 100 of the fewest changes, so many more:" "$more" 2
     share=$(sed -n 's/.*told so: \([0-9.]*\) .*/\1/p' <<<"$told")
     judge "of those that have the fewest, in 100 that aren't told so, this" "$(awk "BEGIN { print 100 - ${share:?not told} }")" 2
 fi
+python3 "$here/steps.py" ${check:+--check} || failed=yes
 [ -z "${failed-}" ]

@@ -31,6 +31,22 @@ def permuted_pairs(draw, count, modules, most):
         yield from [pair for pair in enumerate(to) for _ in range(times)]
 
 
+# Two batches that seven steps make, each of one matching of ten modules: for how many settings, and to which module each one sends.
+# Steps that are as long as any make 20 and 19 of them
+SEVEN_STEPS = [
+    (50, "6951430782"), (25, "9265740831"), (18, "6130298475"), (42, "4026798351"),
+    (53, "1860795432"), (59, "4327085619"), (35, "5361072489"),
+]
+SEVEN_OTHERS = [
+    (26, "4718526390"), (18, "1836249075"), (55, "8423605971"), (36, "7938402651"),
+    (59, "3591842607"), (49, "3098167524"), (40, "9503127864"),
+]
+
+
+def step_pairs(steps):
+    return [(m, int(to)) for settings, targets in steps for m, to in enumerate(targets) for _ in range(settings)]
+
+
 def each_to_each(modules):
     return [(m, n) for m in range(modules) for n in range(modules) if m != n]
 
@@ -51,6 +67,9 @@ def batches():
     yield "once_each", each_to_each(32)
     yield "random_512", random_pairs(draw, 512, 32)
     yield "ten_modules", [pair for pair in each_to_each(10) for _ in range(7)]
+    yield "random_800", random_pairs(draw, 800, 32)
+    yield "seven_steps", step_pairs(SEVEN_STEPS)
+    yield "seven_others", step_pairs(SEVEN_OTHERS)
 
 
 def lines(pairs):

@@ -37,12 +37,17 @@ def told(program, search, text):
     changes, words, least = re.search(r"changes (\d+), (the fewest with so few settings|the fewest|at least)(?: (\d+))?,", picture).groups()
     if not int(least or changes) <= fewest <= int(changes):
         sys.exit(f"of changes {changes}, where {fewest} are the fewest, it is told: {words} {least or ''}\n{text}")
-    return words, int(changes) == fewest
+    return words, int(changes), fewest
 
 
 draw = random.Random(1)
 count = int(sys.argv[3]) if len(sys.argv) > 3 else 1000
-counts = Counter(told(sys.argv[1], sys.argv[2], batch_text(draw)) for _ in range(count))
-unsaid, said = counts["at least", True], sum(counts[words, True] for words in WORDS[:2])
-print(f"{said + unsaid} of {count} batches have the fewest changes, and {said} of these are told so: {100 * said / (said + unsaid):.2f} in 100")
-print(f"of {count} batches: " + ", ".join(f"{counts[words, True] + counts[words, False]} {words}" for words in WORDS))
+all_told = [told(sys.argv[1], sys.argv[2], batch_text(draw)) for _ in range(count)]
+counts = Counter(words for words, _, _ in all_told)
+best = [words for words, changes, fewest in all_told if changes == fewest]
+said = sum(words != "at least" for words in best)
+print(f"the fewest changes have {len(best)} of {count} batches, and {said} of these are told so: {100 * said / len(best):.2f} in 100")
+both = [sum(numbers) for numbers in zip(*(it[1:] for it in all_told))]
+worst = max((it[1:] for it in all_told), key=lambda it: it[0] / max(it[1], 1))
+print(f"together they have {100 * both[0] / both[1] - 100:.2f} in 100 more than the fewest, and at worst {worst[0]} where {worst[1]} are enough")
+print(f"of {count} batches: " + ", ".join(f"{counts[words]} {words}" for words in WORDS))

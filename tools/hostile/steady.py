@@ -4,11 +4,15 @@ This is plain Python, as plain.py, that shares no code with the product. A chang
 before, and so is the first setting. Partners of a link are those that it shares transfers with.
 """
 
+import random
 import re
 from collections import Counter, defaultdict
 from itertools import combinations_with_replacement
 
 import plain
+
+# How many schedules of long steps are made beside a steady plan, at most
+TRIED = 20
 
 
 def pairs_of(transfers):
@@ -97,50 +101,80 @@ def are_needed(transfers, settings):
     return True
 
 
-def find_partners(wanted, near):
-    """Whether all of these links find partners, each its own, among those that are near them."""
-    partners = {}
+def find_partners(wanted, near, partners):
+    """Whether each of these links has a partner, its own, or is given one of those near it. Links that aren't wanted may lose theirs."""
 
     def find(link, seen):
         for other in near[link] - seen:
             seen.add(other)
-            if other not in partners or find(partners[other], seen):
+            if partners.get(other) not in wanted or find(partners[other], seen):
                 partners[other] = link
                 return True
         return False
 
-    return all(find(link, set()) for link in wanted)
+    return all(link in partners.values() or find(link, set()) for link in wanted)
 
 
-def could_hold(pairs, count):
-    """Whether pairs of links could stay joined for so many settings from the first of these on: each pair is wanted so often, and each link has
-    a partner that is wanted in more settings than are left behind them. Where the links 0 and the links 3 find partners apart from each other,
-    some pairs serve both (Mendelsohn and Dulmage 1958)."""
-    often, near = Counter(pair for now in pairs for pair in now), defaultdict(set)
-    wanted = Counter(link for now in pairs for link in links_of(now))
-    for (m, n), times in often.items():
+def held(left, settings, count):
+    """Pairs that can stay joined for so many of the settings that are left, where some can: each is wanted so often, and each link that they
+    leave free is wanted in no more settings than are left after them."""
+    near, wanted, ends = defaultdict(set), Counter(), ([], [])
+    for (m, n), times in left.items():
+        for link in links_of([(m, n)]):
+            wanted[link] += times
         if times >= count:
             near[0, m].add((3, n))
             near[3, n].add((0, m))
-    needed = [link for link, times in wanted.items() if times > len(pairs) - count]
-    return count <= len(pairs) and all(find_partners([link for link in needed if link[0] == end], near) for end in (0, 3))
+    for link, times in wanted.items():
+        if times > settings - count:
+            ends[link[0] > 0].append(link)
+    back = {}
+    if count > settings or not find_partners(ends[0], near, back):
+        return None
+    partners = {zero: three for three, zero in back.items()}
+    return {(zero[1], three[1]) for zero, three in partners.items()} if find_partners(ends[1], near, partners) else None
 
 
-def are_longest(transfers, settings):
-    """Whether steps don't get longer, and none could be longer where it begins."""
-    pairs, begin, longest = joined(transfers, settings), 0, len(settings)
+def longest_steps(draw, transfers, settings):
+    """How many steps some schedule has in which none could be longer where it begins, and steps don't get longer. Pairs are added to a step by
+    chance, where they have free links and can be held as long."""
+    left, steps = Counter((transfer[1], transfer[3]) for transfer in transfers), 0
+    count = max(left.values(), default=0)
+    while settings:
+        while (pairs := held(left, settings, count)) is None:
+            count -= 1
+        more = [pair for pair in left if left[pair] >= count]
+        for pair in draw.sample(more, len(more)):
+            if not links_of([pair]) & links_of(pairs):
+                pairs.add(pair)
+        left -= Counter({pair: count for pair in pairs})
+        settings, steps = settings - count, steps + 1
+    return steps
+
+
+def are_longest(pairs):
+    """Whether steps of settings with these pairs don't get longer, and none could be longer where it begins."""
+    begin, longest = 0, len(pairs)
     while begin < len(pairs):
         length = next((k for k, now in enumerate(pairs[begin:]) if now != pairs[begin]), len(pairs) - begin)
-        if length > longest or could_hold(pairs[begin:], length + 1):
+        left = Counter(pair for now in pairs[begin:] for pair in now)
+        if length > longest or held(left, len(pairs) - begin, length + 1) is not None:
             return False
         begin, longest = begin + length, length
     return True
 
 
+def are_no_worse(transfers, settings):
+    """Whether some schedule whose steps are as long as any, and don't get longer, has as many changes or more: this one, or one that is made."""
+    draw, found = random.Random(1), changes(transfers, settings)
+    made = (longest_steps(draw, transfers, len(settings)) for _ in range(TRIED))
+    return are_longest(joined(transfers, settings)) or any(found <= steps for steps in made)
+
+
 def is_steady(batch, answer):
     """Whether the answer is a steady plan of the batch text: a schedule with as many settings as the busiest link has transfers, and the
     certificate that names that link and all of these. No setting is empty, and numbers ascend in each. It changes the switch only at need, no
-    more often than a steady plan may, and no less often than it has to. Its steps are as long as any could be, and don't get longer."""
+    more often than a steady plan may, and than a schedule whose steps are as long as any, and no less often than it has to."""
     transfers = plain.read_batch(batch, plain.WIDEST)
     try:
         settings, certificate = plain.read_schedule(answer)
@@ -151,4 +185,4 @@ def is_steady(batch, answer):
     is_shortest = certificate == (link, named) and len(settings) == len(named)
     ascending = all(setting and setting == sorted(setting) for setting in settings)
     few = most_partners(transfers) <= changes(transfers, settings) <= most_changes(transfers)
-    return is_shortest and ascending and few and are_needed(transfers, settings) and are_longest(transfers, settings)
+    return is_shortest and ascending and few and are_needed(transfers, settings) and are_no_worse(transfers, settings)

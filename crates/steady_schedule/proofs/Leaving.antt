@@ -1,11 +1,10 @@
 -- What can be held as long once a matching was held.
-use Rattle.std.proofs.Common.{◌≡◌, ◌≢◌, ◌⊎◌, ℕ, ◌+◌, ◌-◌, ◌*◌, ◌^◌, ◌<◌, ◌≤◌, List, length, get_or, true, false, Option, Some, None, refl, sym, ap, ◌∙◌, subst, inl, inr, arith}
-use Rattle.std.proofs.lemmas.Bool.{cases_eq, cases_lt}
+use Rattle.std.proofs.Common.{◌≡◌, ℕ, ◌+◌, ◌<◌, ◌≤◌, List, Option, Some, None, sym, ap, subst, inl, inr, arith}
+use Rattle.std.proofs.lemmas.Bool.{cases_eq}
 use Rattle.std.proofs.lemmas.Option.{none-some, same_Some}
 use Rattle.batch.specs.declared.limits.TheConstants.{MAX_MODULES}
-use Rattle.link_graph.specs.Masks.{has_bit, has_pair}
 use Rattle.steady_schedule.specs.Matchings.{partner, AreMatched}
-use Rattle.steady_schedule.specs.Reaches.{AreHeld, HaveHeld, HasLeft, HaveLeft}
+use Rattle.steady_schedule.specs.Reaches.{HasLeft, HaveLeft}
 use Rattle.steady_schedule.specs.Steps.{AreTaken}
 use Rattle.steady_schedule.specs.Waiting.{count_at}
 use Rattle.steady_schedule.proofs.Steps.{at_pair, at_others, fewer}

@@ -20,6 +20,7 @@ pub mod Members
 pub mod Needs
 pub mod FewNeeds
 pub mod LongSteps
+pub mod Read
 pub mod Totals
 pub mod Runs
 pub mod Prices

@@ -138,7 +138,11 @@ pub record AreFilled (totals slots : List ℕ) (settings : ℕ) : Type 0 where
   pub done : (u v : ℕ) → u < MAX_MODULES → v < MAX_MODULES → count_at counts u v ≡ 0
   pub numbered : AreNumbered totals counts slots settings
   pub needs : AreAtNeed totals counts slots settings settings
-  pub long : AreLongSteps totals counts slots settings settings 0
+
+-- the same, and steps are as long as any
+pub record AreFilledLong (totals slots : List ℕ) (settings : ℕ) : Type 0 where
+  pub filled : AreFilled totals slots settings
+  pub long : AreLongSteps totals filled.counts slots settings settings 0
 
 -- the numbers from `first` on are written into k slots, the first of them last
 pub record AreSlotsFilled (at first k : ℕ) (old new : List ℕ) : Type 0 where
@@ -237,12 +241,16 @@ pub record HaveLongSteps (batch : List Transfer) (settings : ℕ) (numbers : Lis
   pub each : AreLongEach joined (λ u v. count_below settings (λ d. joined d u v)) settings
       settings 0
 
--- Settings that are made of proper numbers of all transfers. Pairs change at need, and steps are as
--- long as any.
+-- settings that are made of proper numbers of all transfers, where pairs change at need
 pub record AreNumberedSettings (batch : List Transfer) (settings : ℕ) (lists : List (List ℕ))
     : Type 0 where
   pub numbers : List ℕ
   pub proper : AreProper batch settings numbers
   pub needs : HaveNeeds batch settings numbers
-  pub long : HaveLongSteps batch settings numbers
   pub gathered : AreGathered numbers settings lists
+
+-- the same, and steps are as long as any
+pub record AreLongSettings (batch : List Transfer) (settings : ℕ) (lists : List (List ℕ))
+    : Type 0 where
+  pub numbered : AreNumberedSettings batch settings lists
+  pub long : HaveLongSteps batch settings numbered.numbers

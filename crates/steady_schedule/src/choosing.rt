@@ -25,12 +25,11 @@ struct InVain {
     unseen: u32,
 }
 
-/// A matching, and what can be held for how many settings.
+/// A matching that is held for some settings.
 #[derive(Drop)]
-pub(crate) struct Choice {
-    pub(crate) matching: Matching,
-    pub(crate) reach: Reach,
-    /// Where the matching can't be held so long, for how many settings one could be at most.
+struct Choice {
+    matching: Matching,
+    /// Where it can't be held so long, for how many settings one could be at most.
     shorter: usize,
 }
 
@@ -52,7 +51,7 @@ fn part_short(reach: &Reach, matching: &mut Matching, zero: usize)
 }
 
 /// What stands, as far as it can be held so long.
-fn standing(before: &Matching, reach: &Reach) -> Matching
+pub(crate) fn standing(before: &Matching, reach: &Reach) -> Matching
     ensures { AreNear reach.now.zero.near result.zero }
 {
     let mut matching = Matching {
@@ -319,7 +318,7 @@ impl Choice {
     fn of(
         remaining: &Remaining,
         before: &Matching,
-        reach: Reach,
+        reach: &mut Reach,
         most: usize,
         modules: usize,
         settings: usize,
@@ -331,47 +330,45 @@ impl Choice {
         requires most { HaveMost remaining.now.counts most }
         requires some { 0 < settings }
         requires left { settings ≤ most }
-        requires kept { reach.settings ≡ settings
-            → AreHeld remaining.now.counts settings reach.zero.near reach.three.near }
-        requires kept_all { reach.settings ≡ settings
-            → HaveHeld remaining.now.counts settings modules reach.zero.near reach.three.near }
+        requires kept { reach.old.settings ≡ settings
+            → AreHeld remaining.now.counts settings reach.old.zero.near reach.old.three.near }
+        requires kept_all { reach.old.settings ≡ settings
+            → HaveHeld remaining.now.counts settings modules
+            reach.old.zero.near reach.old.three.near }
         ensures each { HaveEach remaining.now.counts settings result.matching.zero }
         ensures held { AreHeld remaining.now.counts settings
-            result.reach.zero.near result.reach.three.near }
+            reach.new.zero.near reach.new.three.near }
         ensures all { HaveHeld remaining.now.counts settings modules
-            result.reach.zero.near result.reach.three.near }
+            reach.new.zero.near reach.new.three.near }
         ensures joined { ((result.shorter ≡ 0) × JoinsNeeded remaining.now.counts
             result.matching.zero result.matching.three most settings)
             ⊎ ((0 < result.shorter) × NoneLonger remaining.now.counts most result.shorter) }
-        ensures settings { result.reach.settings ≡ settings }
+        ensures settings { reach.new.settings ≡ settings }
         ensures shorter { result.shorter < settings }
     {
-        let reach = reach.renewed(remaining, most, modules, settings, orders);
-        let mut matching = standing(before, &reach);
+        reach.renew(remaining, most, modules, settings, orders);
+        let mut matching = standing(before, reach);
         let free_zero = free(&matching.zero, modules);
         let free_three = free(&matching.three, modules);
         let stand = (u32::MAX ^ free_zero, u32::MAX ^ free_three);
-        join_just(&reach, &mut matching, free_three, modules);
-        let shorter = join_all_needed(remaining, &reach, stand, &mut matching, most, modules);
-        Choice {
-            matching,
-            reach,
-            shorter,
-        }
+        join_just(reach, &mut matching, free_three, modules);
+        let shorter = join_all_needed(remaining, reach, stand, &mut matching, most, modules);
+        Choice { matching, shorter }
     }
 }
 
-/// A matching that can be held as long as any, where none can be held longer than so many settings,
-/// and for how long that is. It has as much of what stood before as is found; no contract says so.
+/// A matching that can be held as long as any, where none can be held longer than so many settings.
+/// Makes `reach` what can be held so long. It has as much of what stood before as is found; no
+/// contract says so.
 pub(crate) fn choose(
     remaining: &Remaining,
     before: &Matching,
-    reach: Reach,
+    reach: &mut Reach,
     most: usize,
     modules: usize,
     longest: usize,
     orders: Orders,
-) -> Choice
+) -> Matching
     requires within { modules ≤ MAX_MODULES }
     requires none { NoneWait remaining.now.counts modules }
     requires some { 0 < most }
@@ -379,29 +376,27 @@ pub(crate) fn choose(
     requires most { HaveMost remaining.now.counts most }
     requires some_longest { 0 < longest }
     requires longest { NoneLonger remaining.now.counts most longest }
-    requires kept { AreHeld remaining.now.counts reach.settings reach.zero.near reach.three.near }
-    requires kept_all { 0 < reach.settings → HaveHeld remaining.now.counts reach.settings modules
-        reach.zero.near reach.three.near }
-    ensures some { 0 < result.reach.settings }
-    ensures few { result.reach.settings ≤ most }
-    ensures each { HaveEach remaining.now.counts result.reach.settings result.matching.zero }
-    ensures held { AreHeld remaining.now.counts result.reach.settings
-        result.reach.zero.near result.reach.three.near }
-    ensures all { HaveHeld remaining.now.counts result.reach.settings modules
-        result.reach.zero.near result.reach.three.near }
-    ensures joined { JoinsNeeded remaining.now.counts result.matching.zero result.matching.three
-        most result.reach.settings }
-    ensures longest { NoneLonger remaining.now.counts most result.reach.settings }
+    requires kept { AreHeld remaining.now.counts reach.old.settings
+        reach.old.zero.near reach.old.three.near }
+    requires kept_all { 0 < reach.old.settings
+        → HaveHeld remaining.now.counts reach.old.settings modules
+        reach.old.zero.near reach.old.three.near }
+    ensures some { 0 < reach.new.settings }
+    ensures few { reach.new.settings ≤ most }
+    ensures each { HaveEach remaining.now.counts reach.new.settings result.zero }
+    ensures held { AreHeld remaining.now.counts reach.new.settings
+        reach.new.zero.near reach.new.three.near }
+    ensures all { HaveHeld remaining.now.counts reach.new.settings modules
+        reach.new.zero.near reach.new.three.near }
+    ensures joined { JoinsNeeded remaining.now.counts result.zero result.three
+        most reach.new.settings }
+    ensures longest { NoneLonger remaining.now.counts most reach.new.settings }
 {
     let settings = longest.min(most);
     let mut choice = Choice::of(remaining, before, reach, most, modules, settings, orders);
     'lengths: while choice.shorter > 0 {
-        let Choice {
-            matching: _,
-            reach,
-            shorter,
-        } = choice;
+        let shorter = choice.shorter;
         choice = Choice::of(remaining, before, reach, most, modules, shorter, orders);
     }
-    choice
+    choice.matching
 }

@@ -7,13 +7,18 @@
 //! Wong 1985, for satellites that switch beams). So each step uses a pair up, or makes a link full,
 //! and that stays full.
 //!
-//! The schedule of [`steady`] is shortest, as its certificate shows. Behind a setting the switch
+//! The schedule of [`steady`] is shortest, as its certificate shows. After a setting the switch
 //! changes only where that joined a pair of links for the last time, or left a link free that each
-//! later setting uses; and at most as often as there are pairs of links and links in use.
-//! Where a step begins, no matching could be held longer than the step (Gopal and Wong's rule), and
-//! steps don't get longer (`IsSteady` of `specs/Plans.antt`). Mostly the switch changes far less
-//! often than its bound. Links are tried in up to four orders, and the schedule with the fewest
-//! steps is taken; no contract says so.
+//! later setting uses; and at most as often as there are pairs of links and links in use. It
+//! changes no more often than in some schedule where no matching could be held longer than a step,
+//! from where the step begins (Gopal and Wong's rule), and where steps don't get longer (`IsSteady`
+//! of `specs/Plans.antt`). Mostly the switch changes far less often than its bound.
+//!
+//! Links are tried in up to four orders for such schedules. Where fewer steps may be enough, a fifth
+//! is made of other steps: each has the length by which the most pairs are used up, and the matching
+//! that uses up the most of them. The schedule with the fewest changes is taken; no contract says
+//! so. Of small batches drawn at random at least 93 in 100 have the fewest changes, and all of them
+//! together at most 2 in 100 more than the fewest (`bench/planning/told.py`).
 //!
 //! Some counts serve any schedule of a batch: how often it changes the switch ([`count_changes`]);
 //! how many partners a link has at most ([`most_partners`]), since no schedule changes the switch
@@ -26,6 +31,7 @@ mod bounding;
 mod changing;
 mod choosing;
 mod gathering;
+mod heaviest;
 pub mod laws;
 mod masks;
 mod matching;
@@ -38,6 +44,7 @@ mod pricing;
 mod reach;
 mod remaining;
 mod stepping;
+mod weighing;
 
 pub use bounding::most_shown;
 pub use changing::count_changes;

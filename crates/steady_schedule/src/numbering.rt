@@ -1,6 +1,6 @@
 //! The number of its setting for each transfer, and the settings that these make.
 
-ghost use Rattle.std.specs.Prelude.{◌≡◌, ◌≢◌, ℕ, ◌+◌, ◌-◌, ◌*◌, ◌<◌, ◌≤◌, All, Some, None, length, set, IfOk, slice_index};
+ghost use Rattle.std.specs.Prelude.{◌≡◌, ◌≢◌, ℕ, ◌+◌, ◌-◌, ◌*◌, ◌<◌, ◌≤◌, All, Some, None, length, set, IfOk, IfSome, slice_index};
 ghost use Rattle.batch.specs.Batches.{IsBatch};
 ghost use Rattle.batch.specs.declared.limits.TheConstants.{MAX_MODULES, MAX_TRANSFERS};
 ghost use Rattle.link_graph.specs.declared.link.Link.{Link};
@@ -8,7 +8,7 @@ ghost use Rattle.link_graph.specs.Counts.{uses};
 ghost use Rattle.link_graph.specs.Schedules.{lists_of};
 ghost use Rattle.steady_schedule.specs.Matchings.{partner, AreBelow};
 ghost use Rattle.steady_schedule.specs.Searches.{AreNear};
-ghost use Rattle.steady_schedule.specs.Slots.{slot, AreFirstSlots, AreSlotsOf, IsKeptFor, IsHeldAs, AreNumbered, AreNumberedFrom, KeepNumbers, AreSlotsFilled, AreReadInto, AreFilled, AreSlotsBelow, AreNumberedSettings};
+ghost use Rattle.steady_schedule.specs.Slots.{slot, AreFirstSlots, AreSlotsOf, IsKeptFor, IsHeldAs, AreNumbered, AreNumberedFrom, KeepNumbers, AreSlotsFilled, AreReadInto, AreFilled, AreFilledLong, AreSlotsBelow, AreNumberedSettings, AreLongSettings};
 ghost use Rattle.steady_schedule.specs.Steps.{AreTaken, NoneLonger};
 ghost use Rattle.steady_schedule.specs.Waiting.{sum_below, pair_index, count_at, ArePairCounts, HaveMost};
 
@@ -18,9 +18,23 @@ use crate::matching::{Matching, part};
 use crate::reach::Reach;
 use crate::remaining::{PAIRS, Remaining};
 use crate::stepping::next_step;
+use crate::weighing::weighed_step;
 use batch::{MAX_MODULES, MAX_TRANSFERS};
 use link_graph::LinkGraph;
 use std::alloc::{AllocError, Global};
+
+/// How many links are looked at for each transfer, at most, while steps are sought that use up as
+/// many pairs as they can. So that takes no more time than some plans.
+const LOOKS: usize = 24;
+
+/// The settings of a batch, of which each has the numbers of its transfers.
+#[derive(Drop)]
+pub(crate) struct Settings {
+    /// By steps that are as long as any.
+    pub(crate) long: Vec<Vec<usize>>,
+    /// By steps that use up more pairs, where these are fewer.
+    pub(crate) weighed: Option<Vec<Vec<usize>>>,
+}
 
 /// Where the slots of each pair of links begin. There is one for each of its transfers.
 #[derive(Drop)]
@@ -164,7 +178,7 @@ fn fill(
         ≡ sum_below (MAX_MODULES * MAX_MODULES) (slice_index places.now.totals.now) }
     requires some_longest { 0 < longest }
     requires longest { NoneLonger remaining.now.counts settings longest }
-    ensures filled { result.0 < enough → AreFilled places.now.totals.now slots.new settings }
+    ensures filled { result.0 < enough → AreFilledLong places.now.totals.now slots.new settings }
     ensures fewer { settings < enough → result.0 < enough }
     ensures some_longest { 0 < result.1 }
     ensures longest { NoneLonger remaining.now.counts settings result.1 }
@@ -182,17 +196,15 @@ fn fill(
         if enough <= steps + (most - 1) / held + 1 {
             return (enough, top);
         }
-        let (settings_held, kept) = next_step(
+        held = next_step(
             &left,
             &mut matching,
-            reach,
+            &mut reach,
             most,
             modules,
             held,
             orders,
         );
-        held = settings_held;
-        reach = kept;
         reach.leave(&left, &matching, held);
         if first == 0 {
             top = held;
@@ -212,22 +224,71 @@ fn fill(
     (steps, top)
 }
 
+/// Writes them by steps that use up as many pairs as is found. Gives how many steps that makes; no
+/// contract says so. Where it can't make fewer than `enough`, or finds no step in time, it ends
+/// early, and gives that. No step can be longer than `longest`.
+fn fill_weighed(
+    remaining: &Remaining,
+    places: &Places<'_>,
+    slots: &mut [usize],
+    settings: usize,
+    enough: usize,
+    longest: usize,
+) -> usize
+    requires whole { remaining.now.counts ≡ places.now.totals.now }
+    requires most { HaveMost remaining.now.counts settings }
+    requires few { settings ≤ MAX_TRANSFERS }
+    requires room { length slots.old
+        ≡ sum_below (MAX_MODULES * MAX_MODULES) (slice_index places.now.totals.now) }
+    ensures { result < enough → AreFilled places.now.totals.now slots.new settings }
+{
+    let mut left = *remaining;
+    let modules = left.modules();
+    let mut matching = Matching::none();
+    let mut looks = LOOKS * (slots.len() / modules.max(1));
+    let mut first = 0;
+    let mut steps = 0usize;
+    'steps: while first < settings {
+        let most = settings - first;
+        if enough <= steps.saturating_add(left.least_steps(most)) {
+            return enough;
+        }
+        let Some(held) = weighed_step(&left, &mut matching, most, modules, longest, &mut looks)
+        else {
+            return enough;
+        };
+        hold(
+            &mut left,
+            &mut matching,
+            places,
+            slots,
+            first,
+            held,
+            modules,
+        );
+        first += held;
+        steps += 1;
+    }
+    steps
+}
+
 /// Does so in the order that makes the fewest steps, or in the first one where that makes as few as
-/// a link has partners. No contract says so. The slots of others are written into `spare`.
+/// can be by what one link has. No contract says so. The slots of others are written into `spare`.
+/// Gives how many steps that makes, and how long the first one can be.
 fn fill_best(
     remaining: &Remaining,
     places: &Places<'_>,
     slots: &mut [usize],
     spare: &mut [usize],
     settings: usize,
-)
+) -> (usize, usize)
     requires whole { remaining.now.counts ≡ places.now.totals.now }
     requires most { HaveMost remaining.now.counts settings }
     requires few { settings ≤ MAX_TRANSFERS }
     requires room { length slots.old
         ≡ sum_below (MAX_MODULES * MAX_MODULES) (slice_index places.now.totals.now) }
     requires spare { length spare.old ≡ length slots.old }
-    ensures { AreFilled places.now.totals.now slots.new settings }
+    ensures { AreFilledLong places.now.totals.now slots.new settings }
 {
     let (mut best, mut longest) = fill(
         remaining,
@@ -239,8 +300,8 @@ fn fill_best(
         ORDERS[0],
     );
     for place in 1..ORDERS.len() {
-        if best <= remaining.most_near() {
-            return;
+        if best <= remaining.least_steps(settings) {
+            return (best, longest);
         }
         let (steps, top) = fill(
             remaining,
@@ -257,6 +318,7 @@ fn fill_best(
             slots.copy_from_slice(spare);
         }
     }
+    (best, longest)
 }
 
 /// The number of a pair's next transfer: that of its last slot that is left.
@@ -319,7 +381,7 @@ fn settings_by(
     places: &Places<'_>,
     slots: &mut [usize],
     spare: &mut [usize],
-) -> Result<Vec<Vec<usize>>, AllocError>
+) -> Result<Settings, AllocError>
     requires batch { IsBatch graph.now }
     requires counted { ArePairCounts graph.now places.now.totals.now }
     requires whole { remaining.now.counts ≡ places.now.totals.now }
@@ -328,11 +390,24 @@ fn settings_by(
     requires room { length slots.old
         ≡ sum_below (MAX_MODULES * MAX_MODULES) (slice_index places.now.totals.now) }
     requires spare { length spare.old ≡ length slots.old }
-    ensures { IfOk result (λ lists.
-        AreNumberedSettings graph.now settings (lists_of lists.items)) }
+    ensures long { IfOk result (λ both.
+        AreLongSettings graph.now settings (lists_of both.long.items)) }
+    ensures weighed { IfOk result (λ both. IfSome both.weighed (λ lists.
+        AreNumberedSettings graph.now settings (lists_of lists.items))) }
 {
-    fill_best(remaining, places, slots, spare, settings);
-    read_all(alloc, graph, places, slots, settings)
+    let (best, longest) = fill_best(remaining, places, slots, spare, settings);
+    let long = read_all(alloc, graph, places, slots, settings)?;
+    if fill_weighed(remaining, places, spare, settings, best, longest) >= best {
+        return Ok(Settings {
+            long,
+            weighed: None,
+        });
+    }
+    let lists = read_all(alloc, graph, places, spare, settings)?;
+    Ok(Settings {
+        long,
+        weighed: Some(lists),
+    })
 }
 
 /// So many settings of all transfers, where the busiest link has as many transfers.
@@ -340,12 +415,14 @@ pub(crate) fn settings_of(
     alloc: Global,
     graph: &LinkGraph,
     settings: usize,
-) -> Result<Vec<Vec<usize>>, AllocError>
+) -> Result<Settings, AllocError>
     requires batch { IsBatch graph.now }
     requires most { (link : Link) → uses graph.now link ≤ settings }
     requires few { settings ≤ MAX_TRANSFERS }
-    ensures { IfOk result (λ lists.
-        AreNumberedSettings graph.now settings (lists_of lists.items)) }
+    ensures long { IfOk result (λ both.
+        AreLongSettings graph.now settings (lists_of both.long.items)) }
+    ensures weighed { IfOk result (λ both. IfSome both.weighed (λ lists.
+        AreNumberedSettings graph.now settings (lists_of lists.items))) }
 {
     let mut remaining = Remaining::none();
     remaining.add_all(graph);

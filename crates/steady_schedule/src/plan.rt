@@ -9,11 +9,11 @@ use std::marker::Model;
 
 /// A shortest schedule of a batch with its certificate, that changes the switch only at need.
 ///
-/// It changes the switch behind a setting only where that joined a pair of links for the last time,
+/// It changes the switch after a setting only where that joined a pair of links for the last time,
 /// or where a link that it left free is used in each later setting. With the first setting it does
-/// so at most once for each pair of links that share transfers, and once for each link in use.
-/// Where a step begins, no matching could be held longer than the step, and steps don't get longer.
-/// The certificate names the busiest link. No setting is empty, and numbers ascend in each.
+/// so at most once for each pair of links that share transfers, and once for each link in use; and
+/// no more often than some schedule whose steps are as long as any matching could be held where
+/// they begin. The certificate names the busiest link. No setting is empty, and numbers ascend in each.
 pub struct Steady {
     graph: LinkGraph,
     schedule: Schedule,

@@ -18,7 +18,8 @@ use batch::MAX_MODULES;
 pub(crate) struct Held {
     /// For each link those of the other end with which it has so many transfers.
     pub(crate) near: Masks,
-    /// Those with which it has just so many: such a pair is used up then. No contract says so.
+    /// Those of them with which it has just so many: such a pair is used up then. No contract says
+    /// so. Links that are near no more may still be here.
     pub(crate) just: Masks,
     /// The links that have more transfers than there are settings left then.
     pub(crate) needed: u32,
@@ -62,9 +63,6 @@ impl Held {
     {
         if has(self.near[link], other) {
             self.near[link] = without_module(self.near[link], other);
-        }
-        if has(self.just[link], other) {
-            self.just[link] = without_module(self.just[link], other);
         }
     }
 
@@ -112,40 +110,41 @@ impl Reach {
         }
     }
 
-    /// What can be held for so many of the settings that are left, where the pairs that it has are
-    /// those for as many already.
-    pub(crate) fn renewed(
-        self,
+    /// Makes it what can be held for so many of the settings that are left. Its pairs stay where they
+    /// are those for as many already.
+    pub(crate) fn renew(
+        &mut self,
         remaining: &Remaining,
         most: usize,
         modules: usize,
         settings: usize,
         orders: Orders,
-    ) -> Reach
+    )
         requires some { 0 < settings }
         requires few { most ≤ MAX_TRANSFERS }
         requires left { settings ≤ most }
         requires within { modules ≤ MAX_MODULES }
-        requires held { self.settings ≡ settings
-            → AreHeld remaining.now.counts settings self.zero.near self.three.near }
-        requires all { self.settings ≡ settings
-            → HaveHeld remaining.now.counts settings modules self.zero.near self.three.near }
-        ensures held { AreHeld remaining.now.counts settings result.zero.near result.three.near }
+        requires held { self.old.settings ≡ settings
+            → AreHeld remaining.now.counts settings self.old.zero.near self.old.three.near }
+        requires all { self.old.settings ≡ settings
+            → HaveHeld remaining.now.counts settings modules
+            self.old.zero.near self.old.three.near }
+        ensures held { AreHeld remaining.now.counts settings
+            self.new.zero.near self.new.three.near }
         ensures all { HaveHeld remaining.now.counts settings modules
-            result.zero.near result.three.near }
+            self.new.zero.near self.new.three.near }
         ensures zero_needed { IsOverMask remaining.now.zero.uses (most - settings) modules
-            result.zero.needed }
+            self.new.zero.needed }
         ensures three_needed { IsOverMask remaining.now.three.uses (most - settings) modules
-            result.three.needed }
-        ensures settings { result.settings ≡ settings }
+            self.new.three.needed }
+        ensures settings { self.new.settings ≡ settings }
     {
         if self.settings != settings {
-            return Reach::of(remaining, most, modules, settings, orders);
+            *self = Reach::of(remaining, most, modules, settings, orders);
+            return;
         }
-        let mut reach = self;
-        reach.zero.needed = over(&remaining.zero.uses, most - settings, modules);
-        reach.three.needed = over(&remaining.three.uses, most - settings, modules);
-        reach
+        self.zero.needed = over(&remaining.zero.uses, most - settings, modules);
+        self.three.needed = over(&remaining.three.uses, most - settings, modules);
     }
 
     /// Takes the pair of a link 0 out, where it is joined, and can't be held so long once it was

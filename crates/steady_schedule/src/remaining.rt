@@ -111,12 +111,17 @@ impl Remaining {
         }
     }
 
-    /// How many links of the other end a link has transfers with, at most. No contract says so.
-    pub(crate) fn most_near(&self) -> usize {
-        let near = self.zero.near.iter().chain(&self.three.near);
-        near.map(|near| near.count_ones() as usize)
-            .max()
-            .unwrap_or(0)
+    /// How many steps so many settings have at least: those in which a link is joined to each of its
+    /// partners, and one where it is idle. No contract says so.
+    pub(crate) fn least_steps(&self, settings: usize) -> usize {
+        let mut least = 0;
+        for side in [&self.zero, &self.three] {
+            for module in 0..MAX_MODULES {
+                let idle = side.uses[module] as usize != settings;
+                least = least.max(side.near[module].count_ones() as usize + idle as usize);
+            }
+        }
+        least
     }
 
     /// One transfer more waits.

@@ -123,7 +123,12 @@ fn three_room(remaining: &Remaining, matching: &Matching, most: usize, module: u
 }
 
 /// For how many settings the matching can be held at most.
-fn how_long(remaining: &Remaining, matching: &Matching, most: usize, modules: usize) -> usize
+pub(crate) fn how_long(
+    remaining: &Remaining,
+    matching: &Matching,
+    most: usize,
+    modules: usize,
+) -> usize
     requires some { 0 < most }
     requires most { HaveMost remaining.now.counts most }
     requires within { modules ≤ MAX_MODULES }
@@ -149,12 +154,12 @@ fn how_long(remaining: &Remaining, matching: &Matching, most: usize, modules: us
 pub(crate) fn next_step(
     remaining: &Remaining,
     matching: &mut Matching,
-    reach: Reach,
+    reach: &mut Reach,
     most: usize,
     modules: usize,
     longest: usize,
     orders: Orders,
-) -> (usize, Reach)
+) -> usize
     requires some { 0 < most }
     requires few { most ≤ MAX_TRANSFERS }
     requires most { HaveMost remaining.now.counts most }
@@ -162,21 +167,21 @@ pub(crate) fn next_step(
     requires none { NoneWait remaining.now.counts modules }
     requires some_longest { 0 < longest }
     requires longest { NoneLonger remaining.now.counts most longest }
-    requires kept { AreHeld remaining.now.counts reach.settings reach.zero.near reach.three.near }
-    requires kept_all { 0 < reach.settings → HaveHeld remaining.now.counts reach.settings modules
-        reach.zero.near reach.three.near }
-    ensures can { CanHold remaining.now.counts matching.new.zero matching.new.three most result.0 }
-    ensures longest { NoneLonger remaining.now.counts most result.0 }
-    ensures no_longer { result.0 ≤ longest }
-    ensures kept { AreHeld remaining.now.counts result.1.settings
-        result.1.zero.near result.1.three.near }
-    ensures kept_all { HaveHeld remaining.now.counts result.1.settings modules
-        result.1.zero.near result.1.three.near }
+    requires kept { AreHeld remaining.now.counts reach.old.settings
+        reach.old.zero.near reach.old.three.near }
+    requires kept_all { 0 < reach.old.settings
+        → HaveHeld remaining.now.counts reach.old.settings modules
+        reach.old.zero.near reach.old.three.near }
+    ensures can { CanHold remaining.now.counts matching.new.zero matching.new.three most result }
+    ensures longest { NoneLonger remaining.now.counts most result }
+    ensures no_longer { result ≤ longest }
+    ensures kept { AreHeld remaining.now.counts reach.new.settings
+        reach.new.zero.near reach.new.three.near }
+    ensures kept_all { HaveHeld remaining.now.counts reach.new.settings modules
+        reach.new.zero.near reach.new.three.near }
     ensures low { AreBelow matching.new.zero modules }
 {
-    let choice = choose(remaining, matching, reach, most, modules, longest, orders);
-    *matching = choice.matching;
-    join_free(remaining, &choice.reach.zero.near, matching, modules);
-    let held = how_long(remaining, matching, most, modules);
-    (held, choice.reach)
+    *matching = choose(remaining, matching, reach, most, modules, longest, orders);
+    join_free(remaining, &reach.zero.near, matching, modules);
+    how_long(remaining, matching, most, modules)
 }

@@ -1,5 +1,5 @@
 use Rattle.std.proofs.Common.{◌≡◌, true, get_or, rules}
-use Rattle.link_graph.specs.Masks.{has_bit, has_pair}
+use Rattle.link_graph.specs.Masks.{has_pair}
 use Rattle.steady_schedule.proofs.Searching.{both_bits}
 use Rattle.steady_schedule.proofs.choosing.join_first.Goals as goal
 

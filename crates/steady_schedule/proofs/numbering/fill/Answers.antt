@@ -1,4 +1,4 @@
-use Rattle.std.proofs.Common.{◌≡◌, ◌-◌, ◌+◌, ◌<◌, ℕ, refl, subst, sym, ap, ◌∙◌, arith, List}
+use Rattle.std.proofs.Common.{◌≡◌, ◌-◌, ◌+◌, ℕ, refl, subst, sym, ◌∙◌, arith, List}
 use Rattle.std.proofs.lemmas.Bool.{true≢false}
 use Rattle.steady_schedule.specs.Steps.{NoneLonger}
 use Rattle.steady_schedule.specs.Waiting.{HaveMost}
@@ -13,11 +13,11 @@ use Rattle.steady_schedule.proofs.numbering.fill.Goals as goal
 
 pub hold-requires-clause-there : goal.hold-requires-clause-there
 hold-requires-clause-there c x y joined =
-    (c.next_step-settings_held.ensures.can.each x (has_low c.next_step-settings_held.new.matching.zero x y c.next_step-settings_held.new.matching.matched.sized joined)).pair y joined
+    (c.next_step-held.ensures.can.each x (has_low c.next_step-held.new.matching.zero x y c.next_step-held.new.matching.matched.sized joined)).pair y joined
 
 pub leave-requires : goal.leave-requires
 leave-requires c = record {
-  there = λ x y joined. (c.next_step-settings_held.ensures.can.each x (has_low c.next_step-settings_held.new.matching.zero x y c.next_step-settings_held.new.matching.matched.sized joined)).pair y joined;
+  there = λ x y joined. (c.next_step-held.ensures.can.each x (has_low c.next_step-held.new.matching.zero x y c.next_step-held.new.matching.matched.sized joined)).pair y joined;
 }
 
 pub steps-init : goal.steps-init
@@ -48,11 +48,11 @@ steps-init c =
 
 pub steps-preserved : goal.steps-preserved
 steps-preserved c =
-    let can = c.next_step-settings_held.ensures.can in
-    let m = c.next_step-settings_held.new.matching in
+    let can = c.next_step-held.ensures.can in
+    let m = c.next_step-held.new.matching in
     let totals = c.args.places.now.totals.now in
     let most = c.args.settings - c.steps.first in
-    let k = c.next_step-settings_held.result.0 in
+    let k = c.next_step-held.result in
     let after = c.hold.new.remaining.counts in
     let rest : most - k ≡ c.args.settings - (c.steps.first + k) = omega arith in
     record {
@@ -67,22 +67,22 @@ steps-preserved c =
             let none : c.steps.first ≡ 0 = omega (arith, w.if-first-eq0) in
             let now : most ≡ c.args.settings = omega (arith, none) in
             let same : c.steps.left.counts ≡ c.args.remaining.now.counts = c.steps.invariant.whole none in
-            let long : NoneLonger c.steps.left.counts most k = c.next_step-settings_held.ensures.longest in
+            let long : NoneLonger c.steps.left.counts most k = c.next_step-held.ensures.longest in
             let first : NoneLonger c.args.remaining.now.counts most k = subst (λ (counts : List ℕ). NoneLonger counts most k) same long in
             let whole : NoneLonger c.args.remaining.now.counts c.args.settings k = subst (λ (n : ℕ). NoneLonger c.args.remaining.now.counts n k) now first in
             rw w.top-is whole)
         | else-first-eq0 w ↦ rw w.top-is c.steps.invariant.top
       ];
-      kept = rw c.leave.ensures.settings (c.leave.ensures.held c.next_step-settings_held.ensures.kept after c.hold.ensures.taken);
-      kept_all = λ _. rw c.leave.ensures.settings (c.leave.ensures.all c.modules-modules.result c.modules-modules.ensures.within c.next_step-settings_held.ensures.kept_all after c.hold.ensures.taken);
+      kept = rw c.leave.ensures.settings (c.leave.ensures.held c.next_step-held.ensures.kept after c.hold.ensures.taken);
+      kept_all = λ _. rw c.leave.ensures.settings (c.leave.ensures.all c.modules-modules.result c.modules-modules.ensures.within c.next_step-held.ensures.kept_all after c.hold.ensures.taken);
       whole = λ e. absurd (omega (arith, e, can.some));
       few = omega (arith, can.few);
       most = subst (HaveMost after) rest (less_waits m.zero m.three m.matched k c.steps.left.counts after c.hold.ensures.taken most c.steps.invariant.most can);
       numbered = c.hold.ensures.numbered.numbered;
-      longest = subst (λ (n : ℕ). NoneLonger after n k) rest (still_longest m.zero m.three m.matched k c.steps.left.counts after c.hold.ensures.taken most c.steps.invariant.most can c.next_step-settings_held.ensures.longest);
+      longest = subst (λ (n : ℕ). NoneLonger after n k) rest (still_longest m.zero m.three m.matched k c.steps.left.counts after c.hold.ensures.taken most c.steps.invariant.most can c.next_step-held.ensures.longest);
       none = none_wait m.zero m.three m.matched k c.steps.left.counts after c.hold.ensures.taken most c.steps.invariant.most can c.modules-modules.result c.steps.invariant.none;
       near = c.hold.ensures.near;
-      long = one_longer totals c.steps.left.counts c.steps.slots after c.hold.new.slots m.zero m.three m.matched c.args.settings c.steps.first c.steps.held k c.hold.ensures.taken (λ x y joined. (can.each x (has_low m.zero x y m.matched.sized joined)).pair y joined) c.hold.ensures.kept c.hold.ensures.numbered c.steps.invariant.long c.next_step-settings_held.ensures.longest c.next_step-settings_held.ensures.no_longer (step_apart totals c.steps.left.counts c.steps.slots m.zero m.three c.args.settings c.steps.first k m.matched can c.steps.invariant.needs c.steps-test.true);
+      long = one_longer totals c.steps.left.counts c.steps.slots after c.hold.new.slots m.zero m.three m.matched c.args.settings c.steps.first c.steps.held k c.hold.ensures.taken (λ x y joined. (can.each x (has_low m.zero x y m.matched.sized joined)).pair y joined) c.hold.ensures.kept c.hold.ensures.numbered c.steps.invariant.long c.next_step-held.ensures.longest c.next_step-held.ensures.no_longer (step_apart totals c.steps.left.counts c.steps.slots m.zero m.three c.args.settings c.steps.first k m.matched can c.steps.invariant.needs c.steps-test.true);
       needs = still_needed totals c.steps.left.counts c.steps.slots after c.hold.new.slots m.zero m.three m.matched c.args.settings c.steps.first k c.steps.invariant.few c.hold.ensures.taken c.steps.invariant.most can c.hold.ensures.kept c.hold.ensures.numbered c.steps.invariant.needs;
     }
 
@@ -91,9 +91,11 @@ returns-clause-filled c less =
     let none : c.args.settings - c.steps.first ≡ 0 = omega arith in
     let all : c.steps.first ≡ c.args.settings = omega (arith, c.steps.invariant.few) in
     record {
-      counts = c.steps.left.counts;
-      done = all_taken c.steps.left.counts (subst (HaveMost c.steps.left.counts) none c.steps.invariant.most);
-      numbered = rw all at c.steps.invariant.numbered;
-      needs = rw all at c.steps.invariant.needs;
+      filled = record {
+        counts = c.steps.left.counts;
+        done = all_taken c.steps.left.counts (subst (HaveMost c.steps.left.counts) none c.steps.invariant.most);
+        numbered = rw all at c.steps.invariant.numbered;
+        needs = rw all at c.steps.invariant.needs;
+      };
       long = any_held c.args.places.now.totals.now c.steps.left.counts c.steps.slots c.args.settings c.args.settings c.steps.held (rw all at c.steps.invariant.long);
     }

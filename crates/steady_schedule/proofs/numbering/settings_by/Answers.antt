@@ -1,30 +1,23 @@
 use Rattle.std.proofs.Common.{arith}
-use Rattle.std.proofs.lemmas.Result.{IfOk-weaker}
-use Rattle.steady_schedule.proofs.Ends.{modules_low}
-use Rattle.steady_schedule.proofs.LongSteps.{long_read}
-use Rattle.steady_schedule.proofs.Needs.{needs_read}
-use Rattle.steady_schedule.proofs.Slots.{are_proper, joins_from, joins_to_number}
+use Rattle.link_graph.specs.Schedules.{lists_of}
+use Rattle.steady_schedule.proofs.Read.{numbered_settings, long_settings}
 use Rattle.steady_schedule.proofs.numbering.settings_by.Goals as goal
 
 pub read_all-requires-clause-below : goal.read_all-requires-clause-below
 read_all-requires-clause-below c u v i u_in v_in lt =
-    c.fill_best.ensures.numbered.below u v i (record { zero_in = u_in; three_in = v_in; done = omega (arith, c.fill_best.ensures.done u v u_in v_in); there = lt })
+    let f = c.fill_best-best.ensures.filled in
+    f.numbered.below u v i (record { zero_in = u_in; three_in = v_in; done = omega (arith, f.done u v u_in v_in); there = lt })
 
-pub returns : goal.returns
-returns c =
-    let batch = c.args.graph.now in
-    let totals = c.args.places.now.totals.now in
-    let counts = c.fill_best.ensures.counts in
-    let slots = c.fill_best.new.slots in
-    let settings = c.args.settings in
-    let done = c.fill_best.ensures.done in
-    let numbered = c.fill_best.ensures.numbered in
-    let low = modules_low batch c.requires.batch in
-    IfOk-weaker c.read_all.result _ _
-    (λ lists into. record {
-      numbers = into.numbers;
-      proper = are_proper batch totals counts slots into.numbers settings c.requires.counted done numbered into.read low;
-      needs = needs_read batch totals counts slots into.numbers settings c.requires.counted done numbered into.read low c.fill_best.ensures.needs;
-      long = long_read batch totals counts slots into.numbers settings done (joins_to_number batch totals counts slots into.numbers settings c.requires.counted done numbered into.read low) (joins_from batch totals counts slots into.numbers settings c.requires.counted done numbered into.read low) c.fill_best.ensures.long;
-      gathered = into.gathered;
-    }) c.read_all.ensures
+pub read_all-requires-2-clause-below : goal.read_all-requires-2-clause-below
+read_all-requires-2-clause-below c u v i u_in v_in lt =
+    let f = c.fill_weighed.ensures c.if-fill_weighed-best.false in
+    f.numbered.below u v i (record { zero_in = u_in; three_in = v_in; done = omega (arith, f.done u v u_in v_in); there = lt })
+
+pub returns-then-fill_weighed-best-clause-long : goal.returns-then-fill_weighed-best-clause-long
+returns-then-fill_weighed-best-clause-long c = long_settings c.args.graph.now c.args.places.now.totals.now c.fill_best-best.new.slots c.args.settings (lists_of c.in_ok-long.long.items) c.requires.batch c.requires.counted c.in_ok-long.ensures c.fill_best-best.ensures
+
+pub returns-clause-long : goal.returns-clause-long
+returns-clause-long c = long_settings c.args.graph.now c.args.places.now.totals.now c.fill_best-best.new.slots c.args.settings (lists_of c.in_ok-long.long.items) c.requires.batch c.requires.counted c.in_ok-long.ensures c.fill_best-best.ensures
+
+pub returns-clause-weighed : goal.returns-clause-weighed
+returns-clause-weighed c = numbered_settings c.args.graph.now c.args.places.now.totals.now c.fill_weighed.new.slots c.args.settings (lists_of c.in_ok-lists.lists.items) c.requires.batch c.requires.counted c.in_ok-lists.ensures (c.fill_weighed.ensures c.if-fill_weighed-best.false)

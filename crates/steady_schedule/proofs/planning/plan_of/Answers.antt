@@ -13,6 +13,5 @@ of-requires c =
       ascending = c.requires.ascending;
       few = few_needs _ _ c.requires.batch c.requires.schedule none_empty c.requires.needs;
       at_need = c.requires.needs;
-      longest = c.requires.longest;
-      no_longer = c.requires.no_longer;
+      no_worse = c.requires.no_worse;
     }

@@ -1,0 +1,229 @@
+//! A matching of the greatest worth.
+//!
+//! The links have prices: those of two links are together no less than the worth of their pair. One
+//! link 0 after the other is joined, on the way by which prices exceed worths the least (Kuhn 1955;
+//! Tomizawa 1971). No contract says that no matching is worth more.
+
+ghost use Rattle.std.specs.Prelude.{◌≡◌, ◌<◌, ◌≤◌, ℕ, All, Some, None, IfSome, true};
+ghost use Rattle.batch.specs.declared.limits.TheConstants.{MAX_MODULES};
+ghost use Rattle.link_graph.specs.Masks.{has_bit};
+ghost use Rattle.steady_schedule.specs.Matchings.{partner};
+
+use crate::masks::{lowest, without_module};
+use crate::matching::{Matching, Partners, join, part};
+use crate::remaining::PAIRS;
+use batch::MAX_MODULES;
+
+/// What each pair is worth: that of link 0 of module u and link 3 of module v is at the place
+/// `u * MAX_MODULES + v`.
+pub(crate) type Worths = [u32; PAIRS];
+
+/// The prices of the links of both ends.
+#[derive(Drop)]
+struct Prices {
+    zero: [u32; MAX_MODULES],
+    three: [u32; MAX_MODULES],
+}
+
+/// The ways from a link 0 to links 3 that are known.
+#[derive(Drop)]
+struct Ways {
+    /// By how much prices exceed worths on the best way to each link 3.
+    excess: [u32; MAX_MODULES],
+    /// The link 0 before it on that way.
+    before: [usize; MAX_MODULES],
+    ghost low: { All (λ zero. zero < MAX_MODULES) before },
+}
+
+/// A mask of the first modules.
+fn first_modules(modules: usize) -> u32
+    requires { modules ≤ MAX_MODULES }
+{
+    if modules == MAX_MODULES {
+        return u32::MAX;
+    }
+    (1u32 << modules) - 1
+}
+
+/// What the pair of a link 0 is worth that is worth the most.
+fn most_worth(worths: &Worths, zero: usize, modules: usize) -> u32
+    requires zero { zero < MAX_MODULES }
+    requires within { modules ≤ MAX_MODULES }
+{
+    let mut most = 0;
+    for three in 0..modules {
+        most = most.max(worths[zero * MAX_MODULES + three]);
+    }
+    most
+}
+
+impl Prices {
+    /// Prices that no pair is worth more than.
+    fn of(worths: &Worths, modules: usize) -> Prices
+        requires { modules ≤ MAX_MODULES }
+    {
+        let mut prices = Prices {
+            zero: [0; MAX_MODULES],
+            three: [0; MAX_MODULES],
+        };
+        for zero in 0..modules {
+            prices.zero[zero] = most_worth(worths, zero, modules);
+        }
+        prices
+    }
+
+    /// Changes them so that they exceed no worth on the way from a link 0 whose excess is so much.
+    fn settle(&mut self, ways: &Ways, three_partners: &Partners, root: usize, far: u32)
+        requires root { root < MAX_MODULES }
+        requires partners { (x y : ℕ) → partner three_partners.now x ≡ Some y → y < MAX_MODULES }
+    {
+        self.zero[root] = self.zero[root].saturating_sub(far);
+        for three in 0..MAX_MODULES {
+            let change = far.saturating_sub(ways.excess[three]);
+            self.three[three] = self.three[three].saturating_add(change);
+            if let Some(zero) = three_partners[three] {
+                self.zero[zero as usize] = self.zero[zero as usize].saturating_sub(change);
+            }
+        }
+    }
+}
+
+impl Ways {
+    /// None.
+    fn none() -> Ways {
+        Ways {
+            excess: [u32::MAX; MAX_MODULES],
+            before: [0; MAX_MODULES],
+        }
+    }
+
+    /// Goes on from a link 0, whose way has so much excess, to these links 3, and gives the one that
+    /// has the least, where that isn't beyond all numbers.
+    fn go_on(
+        &mut self,
+        worths: &Worths,
+        prices: &Prices,
+        zero: usize,
+        far: u32,
+        threes: u32,
+    ) -> Option<usize>
+        requires { zero < MAX_MODULES }
+        ensures low { IfSome result (λ three. three < MAX_MODULES) }
+        ensures has { IfSome result (λ three. has_bit threes three ≡ true) }
+    {
+        let so_far = far.wrapping_add(prices.zero[zero]);
+        let mut nearest = None;
+        let mut least = u32::MAX;
+        let mut rest = threes;
+        'links: while rest != 0 {
+            let three = lowest(rest);
+            rest = without_module(rest, three);
+            let price = so_far.wrapping_add(prices.three[three]);
+            let excess = price.wrapping_sub(worths[zero * MAX_MODULES + three]);
+            if excess < self.excess[three] {
+                self.excess[three] = excess;
+                self.before[three] = zero;
+            }
+            if self.excess[three] < least {
+                least = self.excess[three];
+                nearest = Some(three);
+            }
+        }
+        nearest
+    }
+
+    /// Looks from a link 0 for the nearest link 3 that is free, as long as there are looks left.
+    fn nearest_free(
+        &mut self,
+        worths: &Worths,
+        prices: &Prices,
+        matching: &Matching,
+        root: usize,
+        modules: usize,
+        looks: &mut usize,
+    ) -> Option<usize>
+        requires root { root < MAX_MODULES }
+        requires modules { modules ≤ MAX_MODULES }
+        ensures low { IfSome result (λ three. three < MAX_MODULES) }
+        ensures free { IfSome result (λ three. partner matching.now.three three ≡ None) }
+    {
+        let mut rest = first_modules(modules);
+        let mut zero = root;
+        let mut far = 0;
+        'looks: while *looks > 0 {
+            *looks -= 1;
+            let three = self.go_on(worths, prices, zero, far, rest)?;
+            let Some(next) = matching.three[three] else {
+                return Some(three);
+            };
+            far = self.excess[three];
+            rest = without_module(rest, three);
+            zero = next as usize;
+        }
+        None
+    }
+}
+
+/// Joins a link 0 to a link 3 that is free, and gives the one that it was joined to before.
+fn join_instead(matching: &mut Matching, zero: usize, three: usize) -> Option<usize>
+    requires zero { zero < MAX_MODULES }
+    requires three { three < MAX_MODULES }
+    requires free { partner matching.old.three three ≡ None }
+    ensures low { IfSome result (λ other. other < MAX_MODULES) }
+    ensures free { IfSome result (λ other. partner matching.new.three other ≡ None) }
+{
+    let Some(other) = matching.zero[zero] else {
+        join(&mut matching.zero, &mut matching.three, zero, three);
+        return None;
+    };
+    let other = other as usize;
+    part(&mut matching.zero, &mut matching.three, zero, other);
+    join(&mut matching.zero, &mut matching.three, zero, three);
+    Some(other)
+}
+
+/// Joins the links on the way to a link 3 that is free.
+fn join_way(matching: &mut Matching, ways: &Ways, last: usize)
+    requires low { last < MAX_MODULES }
+    requires free { partner matching.old.three last ≡ None }
+{
+    let mut three = last;
+    for _ in 0..MAX_MODULES {
+        match join_instead(matching, ways.before[three], three) {
+            Some(other) => three = other,
+            None => return,
+        }
+    }
+}
+
+/// Parts a link 0 whose pair has no worth.
+fn part_worthless(worths: &Worths, matching: &mut Matching, zero: usize)
+    requires { zero < MAX_MODULES }
+{
+    let Some(three) = matching.zero[zero] else {
+        return;
+    };
+    let three = three as usize;
+    if worths[zero * MAX_MODULES + three] == 0 {
+        part(&mut matching.zero, &mut matching.three, zero, three);
+    }
+}
+
+/// A matching of the first modules that is worth as much as any, where it finds that before so many
+/// looks from a link at the others are over.
+pub(crate) fn heaviest(worths: &Worths, modules: usize, looks: &mut usize) -> Option<Matching>
+    requires { modules ≤ MAX_MODULES }
+{
+    let mut prices = Prices::of(worths, modules);
+    let mut matching = Matching::none();
+    for zero in 0..modules {
+        let mut ways = Ways::none();
+        let last = ways.nearest_free(worths, &prices, &matching, zero, modules, looks)?;
+        prices.settle(&ways, &matching.three, zero, ways.excess[last]);
+        join_way(&mut matching, &ways, last);
+    }
+    for zero in 0..modules {
+        part_worthless(worths, &mut matching, zero);
+    }
+    Some(matching)
+}

@@ -1,0 +1,248 @@
+//! Steps that use up as many pairs as they can.
+
+ghost use Rattle.std.specs.Prelude.{◌≡◌, ℕ, ◌-◌, ◌<◌, ◌≤◌, IfSome, IsSome, true};
+ghost use Rattle.batch.specs.declared.limits.TheConstants.{MAX_MODULES, MAX_TRANSFERS};
+ghost use Rattle.link_graph.specs.Masks.{has_bit};
+ghost use Rattle.steady_schedule.specs.Matchings.{partner, AreBelow};
+ghost use Rattle.steady_schedule.specs.Reaches.{HaveEach, JoinsNeeded};
+ghost use Rattle.steady_schedule.specs.Steps.{CanHold};
+ghost use Rattle.steady_schedule.specs.Waiting.{HaveMost, NoneWait};
+
+use crate::choosing::standing;
+use crate::heaviest::{Worths, heaviest};
+use crate::masks::{ORDERS, has, lowest, with_module, without_module};
+use crate::matching::{Matching, Partners};
+use crate::reach::Reach;
+use crate::remaining::{PAIRS, Remaining, Side};
+use crate::stepping::how_long;
+use batch::{MAX_MODULES, MAX_TRANSFERS};
+
+/// How many pairs, and links that may be idle, a step of each length would use up.
+type Lengths = [u16; MAX_TRANSFERS + 1];
+
+/// What a pair is worth where it is joined.
+const JOINED: u32 = 1;
+
+/// What more where it was joined before.
+const STAYS: u32 = 100;
+
+/// What more where it is used up.
+const USED_UP: u32 = 2000;
+
+/// What more for each link of it that has to be joined: more than all that.
+const NEEDED: u32 = 1_000_000;
+
+/// Counts one more of a length, where that isn't 0.
+fn count_length(lengths: &mut Lengths, length: usize)
+    requires { length ≤ MAX_TRANSFERS }
+{
+    if length > 0 {
+        lengths[length] = lengths[length].saturating_add(1);
+    }
+}
+
+/// Counts the pairs of a link 0.
+fn count_pairs(lengths: &mut Lengths, remaining: &Remaining, zero: usize)
+    requires { zero < MAX_MODULES }
+{
+    let mut rest = remaining.zero.near[zero];
+    'links: while rest != 0 {
+        let three = lowest(rest);
+        rest = without_module(rest, three);
+        count_length(lengths, remaining.count(zero, three).min(MAX_TRANSFERS));
+    }
+}
+
+/// Counts for how many settings a link in use may be idle.
+fn count_rest(lengths: &mut Lengths, side: &Side, module: usize, most: usize)
+    requires low { «module» < MAX_MODULES }
+    requires few { most ≤ MAX_TRANSFERS }
+{
+    if side.uses[module] > 0 {
+        count_length(lengths, most.saturating_sub(side.uses[module] as usize));
+    }
+}
+
+/// Counts for how many settings pairs can be joined, and links be idle, until they are used up.
+fn count_lengths(lengths: &mut Lengths, remaining: &Remaining, most: usize, modules: usize)
+    requires few { most ≤ MAX_TRANSFERS }
+    requires within { modules ≤ MAX_MODULES }
+{
+    for module in 0..modules {
+        count_pairs(lengths, remaining, module);
+        count_rest(lengths, &remaining.zero, module, most);
+        count_rest(lengths, &remaining.three, module, most);
+    }
+}
+
+/// The longest of the lengths that most have, of those up to `longest`, where some have any.
+fn commonest(lengths: &Lengths, longest: usize) -> Option<usize>
+    requires { longest ≤ MAX_TRANSFERS }
+    ensures { IfSome result (λ length. (0 < length) × (length ≤ longest)) }
+{
+    let mut best = None;
+    let mut most = 1;
+    for length in 1..longest + 1 {
+        if lengths[length] >= most {
+            most = lengths[length];
+            best = Some(length);
+        }
+    }
+    best
+}
+
+/// A mask of the links that are full after so many settings without them.
+fn full_then(uses: &[u32; MAX_MODULES], left: usize, modules: usize) -> u32
+    requires { modules ≤ MAX_MODULES }
+{
+    let mut mask = 0;
+    for module in 0..modules {
+        if uses[module] > 0 && uses[module] as usize == left {
+            mask = with_module(mask, module);
+        }
+    }
+    mask
+}
+
+/// What a pair that can be held is worth: `full` has the links that are full after it without them.
+fn worth(reach: &Reach, full: (u32, u32), before: &Matching, zero: usize, three: usize) -> u32
+    requires zero { zero < MAX_MODULES }
+    requires three { three < MAX_MODULES }
+{
+    let mut worth = JOINED;
+    if has(reach.zero.just[zero], three) {
+        worth += USED_UP;
+    }
+    if before.zero[zero] == Some(three as u8) {
+        worth += STAYS;
+    }
+    if has(reach.zero.needed, zero) {
+        worth += NEEDED;
+    }
+    if has(reach.three.needed, three) {
+        worth += NEEDED;
+    }
+    if has(full.0, zero) {
+        worth = worth.saturating_sub(USED_UP);
+    }
+    if has(full.1, three) {
+        worth = worth.saturating_sub(USED_UP);
+    }
+    worth
+}
+
+/// Puts in what the pairs of a link 0 are worth.
+fn add_worths(worths: &mut Worths, reach: &Reach, full: (u32, u32), before: &Matching, zero: usize)
+    requires { zero < MAX_MODULES }
+{
+    let mut rest = reach.zero.near[zero];
+    'links: while rest != 0 {
+        let three = lowest(rest);
+        rest = without_module(rest, three);
+        worths[zero * MAX_MODULES + three] = worth(reach, full, before, zero, three);
+    }
+}
+
+/// What each pair is worth that can be held for some of the settings.
+fn worths_of(
+    remaining: &Remaining,
+    reach: &Reach,
+    before: &Matching,
+    left: usize,
+    modules: usize,
+) -> Worths
+    requires { modules ≤ MAX_MODULES }
+{
+    let full = (
+        full_then(&remaining.zero.uses, left, modules),
+        full_then(&remaining.three.uses, left, modules),
+    );
+    let mut worths = [0; PAIRS];
+    for zero in 0..modules {
+        add_worths(&mut worths, reach, full, before, zero);
+    }
+    worths
+}
+
+/// Whether all links in the mask are joined.
+fn are_joined(partners: &Partners, mask: u32) -> bool
+    ensures { result ≡ true → (z : ℕ) → has_bit mask z ≡ true → IsSome (partner partners.now z) }
+{
+    let mut rest = mask;
+    'links: while rest != 0 {
+        let link = lowest(rest);
+        rest = without_module(rest, link);
+        if partners[link].is_none() {
+            return false;
+        }
+    }
+    true
+}
+
+/// A matching that can be held for so many settings, and is worth as much as is found.
+fn weighed(
+    remaining: &Remaining,
+    before: &Matching,
+    most: usize,
+    modules: usize,
+    settings: usize,
+    looks: &mut usize,
+) -> Option<Matching>
+    requires within { modules ≤ MAX_MODULES }
+    requires few { most ≤ MAX_TRANSFERS }
+    requires some { 0 < settings }
+    requires left { settings ≤ most }
+    requires none { NoneWait remaining.now.counts modules }
+    ensures each { IfSome result (λ m. HaveEach remaining.now.counts settings m.zero) }
+    ensures joined { IfSome result (λ m.
+        JoinsNeeded remaining.now.counts m.zero m.three most settings) }
+{
+    let reach = Reach::of(remaining, most, modules, settings, ORDERS[0]);
+    let worths = worths_of(remaining, &reach, before, most - settings, modules);
+    let found = heaviest(&worths, modules, looks)?;
+    let matching = standing(&found, &reach);
+    if !are_joined(&matching.zero, reach.zero.needed)
+        || !are_joined(&matching.three, reach.three.needed)
+    {
+        return None;
+    }
+    Some(matching)
+}
+
+/// Makes the next matching, and gives for how many of the settings that are left it can be held,
+/// and no longer. Of the lengths up to `longest` it takes the commonest that can be. Where it finds
+/// none before the looks are over, it gives none.
+pub(crate) fn weighed_step(
+    remaining: &Remaining,
+    matching: &mut Matching,
+    most: usize,
+    modules: usize,
+    longest: usize,
+    looks: &mut usize,
+) -> Option<usize>
+    requires some { 0 < most }
+    requires few { most ≤ MAX_TRANSFERS }
+    requires most { HaveMost remaining.now.counts most }
+    requires within { modules ≤ MAX_MODULES }
+    requires none { NoneWait remaining.now.counts modules }
+    ensures can { IfSome result (λ held.
+        CanHold remaining.now.counts matching.new.zero matching.new.three most held) }
+    ensures low { IfSome result (λ held. AreBelow matching.new.zero modules) }
+{
+    let top = longest.min(most);
+    let mut lengths = [0; MAX_TRANSFERS + 1];
+    count_lengths(&mut lengths, remaining, most, modules);
+    for _ in 0..top {
+        if *looks <= modules {
+            return None;
+        }
+        *looks -= modules + 1;
+        let settings = commonest(&lengths, top)?;
+        lengths[settings] = 0;
+        if let Some(made) = weighed(remaining, matching, most, modules, settings, looks) {
+            *matching = made;
+            return Some(how_long(remaining, matching, most, modules));
+        }
+    }
+    None
+}
