@@ -5,15 +5,13 @@
 -- way at its other end, and so on. These edges form a path whose colours alternate. At each time
 -- one edge of the path, in hand, has no colour; so the colouring is proper throughout. The path
 -- ends, since it meets no edge twice: the next edge still has its first colour.
-use Rattle.std.proofs.Common.{◌≡◌, ◌≢◌, ℕ, ◌<◌, ◌≤◌, ◌⊎◌, ◌↔◌, inl, inr, List, length, set, Option, Some, None, IsSome, false, refl, sym, ap, ◌∙◌, subst, arith, get_or-set_same, get_or-set_other, length-set, eq-eqb}
-use Rattle.std.proofs.lemmas.Bool.Decides.{eqb_tells}
+use Rattle.std.proofs.Common.{◌≡◌, ◌≢◌, ℕ, ◌<◌, ◌⊎◌, ◌↔◌, inl, inr, List, length, set, Option, Some, None, IsSome, refl, sym, ap, ◌∙◌, subst, get_or-set_same, get_or-set_other, length-set}
 use Rattle.batch.specs.declared.transfer.Transfer.{Transfer}
 use Rattle.link_graph.specs.declared.link.End.{End}
 use Rattle.alternating_path.specs.Ends.{link_at}
 use Rattle.alternating_path.specs.Colouring.{colour_at, IsProper, IsFree, HasColour, PlacesJust}
 use Rattle.alternating_path.proofs.Links.{not_free, free_from, same_transfer}
 use Rattle.alternating_path.proofs.Writes.{at_written, after_take, after_put, some_within, differs}
-use Rattle.alternating_path.proofs.Agreement.{is_same, agreeing, agreeing-set_lt, agreeing-set_le}
 
 -- The colouring is f₀ at first and f now. The edge in hand has no colour; it is to take c, which is
 -- free at its end o and may be taken at its end e, where d is free. An edge that has c or d now had
@@ -121,20 +119,6 @@ module _ (g : List Transfer) (k : ℕ) (f₀ : List (Option ℕ)) (t : ℕ) (p�
               (λ p. (h.placed u other.0).0 (subst IsSome same_now p), λ q. subst IsSome (sym same_now) ((h.placed u other.0).1 q))
         ];
       }
-
-  -- ---- with each step one edge fewer has its first colour, so the path ends
-
-  pub path_is_finite : (f : List (Option ℕ)) (hand : ℕ) (e o : End) (c d w : ℕ) → IsOnPath g k f₀ t f hand e o c d → colour_at f w ≡ Some c → link_at g w e ≡ link_at g hand e → agreeing (set (set f w None) hand (Some c)) f₀ < agreeing f f₀
-  path_is_finite f hand e o c d w h at_w same =
-      let was : colour_at f₀ w ≡ Some c = next_is_new f hand e o c d w h at_w same in
-      let ne : c ≢ d = λ cd. not_free g f h.proper.sized hand w d e h.d_free (at_w ∙ ap Some cd) same in
-      let once : agreeing (set f w None) f₀ < agreeing f f₀ = agreeing-set_lt f f₀ w None (some_within f w c at_w) (some_within f₀ w c was) (rw (at_w, was) (eq-eqb c c refl)) (rw was refl) in
-      let other : is_same (Some c) (colour_at f₀ hand) ≡ false = elim h.last [
-        | inl first ↦ rw (first.0, out₀) refl
-        | inr is ↦ rw is (elim (eqb_tells c d) [ inl equal ↦ absurd (ne equal.1) | inr apart ↦ apart.0 ])
-      ] in
-      let again : agreeing (set (set f w None) hand (Some c)) f₀ ≤ agreeing (set f w None) f₀ = agreeing-set_le (set f w None) f₀ hand (Some c) other in
-      omega arith
 
   -- ---- the path ends: c is free at both ends of the edge in hand, which takes it
 

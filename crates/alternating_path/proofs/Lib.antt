@@ -1,6 +1,5 @@
 pub mod Links
 pub mod Writes
-pub mod Agreement
 pub mod AlternatingPath
 pub mod Shown
 pub mod Noted
@@ -10,6 +9,7 @@ pub mod FirstSeen
 pub mod Joined
 pub mod Removed
 pub mod Smallest
+pub mod Path
 pub mod Starting
 pub mod Singles
 pub mod MoreClasses

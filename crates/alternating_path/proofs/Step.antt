@@ -1,5 +1,5 @@
 -- A step along the path, over whole tables; and when there is room.
-use Rattle.std.proofs.Common.{◌≡◌, ℕ, ◌<◌, List, set, Option, Some, None, refl, ap, ◌∙◌, subst, arith}
+use Rattle.std.proofs.Common.{◌≡◌, ℕ, ◌+◌, ◌<◌, List, set, Option, Some, None, refl, ap, ◌∙◌, subst, arith}
 use Rattle.batch.specs.declared.transfer.Transfer.{Transfer}
 use Rattle.link_graph.specs.declared.link.End.{End}
 use Rattle.link_graph.specs.declared.link.End.TheVariants.{Zero, Three}
@@ -7,10 +7,10 @@ use Rattle.link_graph.specs.Links.{other_end}
 use Rattle.alternating_path.specs.Ends.{link_at}
 use Rattle.alternating_path.specs.Colouring.{Colouring, colour_at, IsProper, IsFree}
 use Rattle.alternating_path.specs.Counts.{placed_uses, HasFullLink}
-use Rattle.alternating_path.proofs.Agreement.{agreeing}
+use Rattle.alternating_path.proofs.Path.{still, still_less}
 use Rattle.alternating_path.proofs.Links.{other-other, uses_at}
 use Rattle.alternating_path.proofs.Writes.{some_within}
-use Rattle.alternating_path.proofs.AlternatingPath.{IsOnPath, freed, still_free, path_goes_on, path_is_finite}
+use Rattle.alternating_path.proofs.AlternatingPath.{IsOnPath, freed, still_free, path_goes_on}
 
 free_at_both : (g : List Transfer) (f : List (Option ℕ)) (t c : ℕ) (e o : End) → IsFree g f (link_at g t e) c → IsFree g f (link_at g t (other_end e)) c → IsFree g f (link_at g t o) c
 free_at_both g f t c Zero Zero a b = a
@@ -33,7 +33,7 @@ free_next s₀ s m t hand w c d e o h rest holder m_is =
 pub record IsStep (s₀ s n : Colouring) (t w : ℕ) (o : End) (c d : ℕ) : Type 0 where
   pub on_path : IsOnPath s₀.batch s₀.colours s₀.colour t n.colour w o (other_end o) d c
   pub rest : n ≡ record s₀ { colour = n.colour }
-  pub less : agreeing n.colour s₀.colour < agreeing s.colour s₀.colour
+  pub one : still c d s.colour s₀.colour ≡ still d c n.colour s₀.colour + 1
 
 same_but_colour : (n s : Colouring) → n.batch ≡ s.batch → n.colours ≡ s.colours → n.inserted ≡ s.inserted → n ≡ record s { colour = n.colour }
 same_but_colour n s a b c = rw (← a, ← b, ← c) refl
@@ -50,7 +50,7 @@ step s₀ s m n t hand w c d e o proper₀ out h rest holder m_is n_is proper o_
     record {
       on_path = rw (o_is, other-other e, colour_n) (path_goes_on s₀.batch s₀.colours s₀.colour t proper₀ out s.colour hand e (other_end e) c d w h holder.0 same proper_n);
       rest = same_but_colour n s₀ batch_n colours_n inserted_n;
-      less = rw colour_n (path_is_finite s₀.batch s₀.colours s₀.colour t proper₀ out s.colour hand e (other_end e) c d w h holder.0 same);
+      one = rw colour_n (still_less s₀.batch s₀.colours s₀.colour t proper₀ out s.colour hand e (other_end e) c d w h holder.0 same);
     }
 
 -- ---- room

@@ -7,6 +7,7 @@ ghost use Rattle.alternating_path.specs.Classes.{AreClassesOf, EachStandsOnce, w
 
 use batch::MAX_MODULES;
 use std::alloc::{AllocError, Global};
+use step_count::Steps;
 
 /// Puts a transfer at the end of list `k`.
 fn push_into(lists: &mut Vec<Vec<usize>>, k: usize, t: usize) -> Result<(), AllocError>
@@ -39,16 +40,20 @@ pub(crate) fn classes(
     alloc: Global,
     colour: &[Option<usize>],
     colours: usize,
+    steps: &mut Steps,
 ) -> Result<Vec<Vec<usize>>, AllocError>
     requires { (t c : ℕ) → colour_at colour.now t ≡ Some c → c < colours }
     ensures classes { IfOk result (λ lists. AreClassesOf colour.now (lists_of lists.items)) }
     ensures once { IfOk result (λ lists. EachStandsOnce colour.now (lists_of lists.items)) }
     ensures count { IfOk result (λ lists. length (lists_of lists.items) ≤ colours) }
+    ensures cost { steps.new ≤ steps.old + colours + length colour.now }
 {
     let room = MAX_MODULES.min(2 * colour.len() / colours.max(1));
     let mut lists = Vec::new(alloc);
+    steps.tick_many(colours);
     let mut list_of_colour = vec![in alloc; None; colours]?;
     for t in 0..colour.len() {
+        steps.tick();
         let Some(c) = colour[t] else {
             continue;
         };

@@ -5,6 +5,7 @@ pub mod Partners
 pub mod Numbers
 pub mod Masks
 pub mod Steps
+pub mod PairCounts
 pub mod Evenness
 pub mod Dealt
 pub mod InTurn

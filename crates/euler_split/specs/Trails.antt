@@ -1,6 +1,6 @@
 -- Walks along pairs of a link 0 and a link 3, by which these fall into a left half and a right one.
 -- `untaken` are the pairs that no walk has taken yet, `left_half` are those of the left half.
-use Rattle.std.specs.Prelude.{◌≡◌, ℕ, ◌+◌, ◌-◌, ◌*◌, ◌≤◌, ◌⊎◌, List, Bool, true, false, not, ◌==◌, cond}
+use Rattle.std.specs.Prelude.{◌≡◌, ℕ, zero, suc, ◌+◌, ◌-◌, ◌*◌, ◌≤◌, ◌⊎◌, List, Bool, true, false, not, ◌==◌, cond}
 use Rattle.batch.specs.declared.limits.TheConstants.{MAX_MODULES}
 use Rattle.link_graph.specs.declared.link.End.{End}
 use Rattle.link_graph.specs.declared.link.End.TheVariants.{Zero, Three}
@@ -12,6 +12,15 @@ use Rattle.euler_split.specs.Masks.{AreWithin}
 unfoldable pub pairs_of_module : (ℕ → ℕ → Bool) → End → ℕ → ℕ
 pairs_of_module pairs Zero m = count_below MAX_MODULES (λ v. pairs m v)
 pairs_of_module pairs Three m = count_below MAX_MODULES (λ u. pairs u m)
+
+-- how many pairs there are at the first n links 0
+abbrev pub pairs_upto : (ℕ → ℕ → Bool) → ℕ → ℕ
+pairs_upto pairs zero = 0
+pairs_upto pairs (suc n) = pairs_of_module pairs Zero n + pairs_upto pairs n
+
+-- how many pairs the masks have
+unfoldable pub pairs_left : List ℕ → ℕ
+pairs_left masks = pairs_upto (has_pair masks) MAX_MODULES
 
 -- At a link the left half has as many pairs more than the right one as `surplus` says, where 1 is
 -- none and 0 is one fewer; or no pair is untaken there, and the halves have equally many, or one

@@ -1,8 +1,10 @@
-ghost use Rattle.std.specs.Prelude.{◌≡◌, ℕ, ◌<◌, ◌≤◌, length, take, drop, All, IfOk};
+ghost use Rattle.std.specs.Prelude.{◌≡◌, ℕ, ◌+◌, ◌*◌, ◌<◌, ◌≤◌, length, take, drop, All, IfOk};
 ghost use Rattle.batch.specs.Batches.{IsBatch};
 ghost use Rattle.link_graph.specs.Certificates.{AreDistinct};
 ghost use Rattle.link_graph.specs.declared.link.End.TheVariants.{Zero, Three};
+ghost use Rattle.batch.specs.declared.limits.TheConstants.{MAX_MODULES};
 ghost use Rattle.euler_split.specs.Split.{IsSplit};
+ghost use Rattle.euler_split.specs.Trails.{pairs_left};
 ghost use Rattle.euler_split.specs.Pairs.{module_in, modules_in};
 ghost use Rattle.link_graph.specs.Masks.{has_pair};
 ghost use Rattle.euler_split.specs.Masks.{AreToggled};
@@ -14,16 +16,20 @@ use crate::trails::left_of;
 use batch::MAX_TRANSFERS;
 use link_graph::LinkGraph;
 use std::alloc::{AllocError, Global};
+use step_count::Steps;
 
 /// The pairs of links that an odd number of the members use.
-fn odd_pairs(graph: &LinkGraph, members: &[usize]) -> Pairs
+fn odd_pairs(graph: &LinkGraph, members: &[usize], steps: &mut Steps) -> Pairs
     requires batch { IsBatch graph.now }
     requires known { All (λ t. t < length graph.now) members.now }
-    ensures { (u v : ℕ) → has_pair result.zero u v
+    ensures odd { (u v : ℕ) → has_pair result.zero u v
         ≡ odd_among (modules_in graph.now members.now) (length members.now) u v }
+    ensures few { pairs_left result.zero ≤ length members.now }
+    ensures cost { steps.new ≡ steps.old + length members.now }
 {
     let mut pairs = Pairs::none();
     for place in 0..members.len() {
+        steps.tick();
         let (start, answer) = graph.ends_of(members[place]);
         pairs.toggle(start.module, answer.module);
     }
@@ -54,6 +60,7 @@ pub(crate) fn deal(
     members: &mut [usize],
     turns: &mut Masks,
     others: &mut [usize],
+    steps: &mut Steps,
 ) -> usize
     requires batch { IsBatch graph.now }
     requires known { All (λ t. t < length graph.now) members.old }
@@ -61,10 +68,12 @@ pub(crate) fn deal(
     ensures within { result ≤ length members.old }
     ensures dealt { AreDealt graph.now members.old (length members.old) turns.old turns.new
         (take result members.new) (drop result members.new) }
+    ensures cost { steps.new ≤ steps.old + 2 * length members.old }
 {
     let mut left = 0;
     let mut right = 0;
     for place in 0..members.len() {
+        steps.tick();
         let member = members[place];
         if take_turn(graph, turns, member) {
             members[left] = member;
@@ -74,6 +83,7 @@ pub(crate) fn deal(
             right += 1;
         }
     }
+    steps.tick_many(right);
     members[left..].copy_from_slice(&others[..right]);
     left
 }
@@ -84,7 +94,12 @@ pub(crate) fn deal(
 /// has places.
 ///
 /// Takes time that grows with the number of members, and no memory.
-pub fn split_in_place(graph: &LinkGraph, members: &mut [usize], scratch: &mut Scratch) -> usize
+pub fn split_in_place(
+    graph: &LinkGraph,
+    members: &mut [usize],
+    scratch: &mut Scratch,
+    steps: &mut Steps,
+) -> usize
     requires known { All (λ t. t < length graph.now) members.old }
     requires distinct { AreDistinct members.old }
     requires room { length members.old ≤ scratch.old }
@@ -92,11 +107,12 @@ pub fn split_in_place(graph: &LinkGraph, members: &mut [usize], scratch: &mut Sc
     ensures split { IsSplit graph.now members.old (take result members.new)
         (drop result members.new) }
     ensures room { scratch.new ≡ scratch.old }
+    ensures cost { steps.new ≤ steps.old + 4 * length members.old + MAX_MODULES }
 {
     prove!(graph.len() <= MAX_TRANSFERS);
-    let mut odd = odd_pairs(graph, members);
-    let mut turns = left_of(&mut odd);
-    deal(graph, members, &mut turns, &mut scratch.others)
+    let mut odd = odd_pairs(graph, members, steps);
+    let mut turns = left_of(&mut odd, steps);
+    deal(graph, members, &mut turns, &mut scratch.others, steps)
 }
 
 /// Two halves of some transfers, in which each link's uses are halved too, rounded up where they
@@ -113,9 +129,10 @@ pub fn split(
     requires distinct { AreDistinct members.now }
     ensures { IfOk result (λ halves. IsSplit graph.now members.now halves.0.items halves.1.items) }
 {
-    let mut scratch = Scratch::new(alloc, members.len())?;
+    let mut steps = Steps::none();
+    let mut scratch = Scratch::new(alloc, members.len(), &mut steps)?;
     let mut left = Vec::from_slice(alloc, members)?;
-    let count = split_in_place(graph, &mut left, &mut scratch);
+    let count = split_in_place(graph, &mut left, &mut scratch, &mut steps);
     let right = left.split_off(count)?;
     Ok((left, right))
 }

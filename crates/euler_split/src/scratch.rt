@@ -1,9 +1,10 @@
 //! What halving takes beside the members.
 
-ghost use Rattle.std.specs.Prelude.{◌≡◌, IfOk};
+ghost use Rattle.std.specs.Prelude.{◌≡◌, ◌+◌, IfOk};
 
 use std::alloc::{AllocError, Global};
 use std::marker::Model;
+use step_count::Steps;
 
 /// Room for so many members, which halving fills anew each time. Contracts see their number.
 #[derive(Drop)]
@@ -22,9 +23,11 @@ impl Model for Scratch {
 
 impl Scratch {
     /// Cells for this many places. Takes time and room that grow with their number.
-    pub fn new(alloc: Global, places: usize) -> Result<Scratch, AllocError>
-        ensures { IfOk result (λ scratch. scratch ≡ places) }
+    pub fn new(alloc: Global, places: usize, steps: &mut Steps) -> Result<Scratch, AllocError>
+        ensures places { IfOk result (λ scratch. scratch ≡ places) }
+        ensures cost { steps.new ≡ steps.old + places }
     {
+        steps.tick_many(places);
         Ok(Scratch {
             others: vec![in alloc; 0; places]?,
         })

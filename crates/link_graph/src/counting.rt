@@ -1,6 +1,6 @@
 //! Counting, for each link, the transfers that use it.
 
-ghost use Rattle.std.specs.Prelude.{◌≡◌, ◌<◌, ◌↔◌, [], length, All, IsTrue, IfOk};
+ghost use Rattle.std.specs.Prelude.{◌≡◌, ◌+◌, ◌<◌, ◌≤◌, ◌↔◌, [], length, All, IsTrue, IfOk};
 ghost use Rattle.batch.specs.declared.transfer.Transfer.{Transfer};
 ghost use Rattle.batch.specs.Extent.{widest};
 ghost use Rattle.batch.specs.Text.{HasModules};
@@ -12,6 +12,7 @@ use crate::limits::LINKS;
 use crate::link::{End, Link};
 use batch::{Batch, Transfer};
 use std::alloc::AllocError;
+use step_count::Steps;
 
 /// The link that sends the pokes and peeks of a transfer.
 pub(crate) fn start_of(transfer: &Transfer) -> Link
@@ -64,23 +65,32 @@ pub(crate) fn count_transfer(counts: &mut [usize; LINKS], transfer: &Transfer)
 }
 
 /// Counts all transfers of a batch.
-pub(crate) fn count_batch(batch: &Batch) -> [usize; LINKS]
-    ensures { IsGraph result batch.now }
+pub(crate) fn count_batch(batch: &Batch, steps: &mut Steps) -> [usize; LINKS]
+    ensures graph { IsGraph result batch.now }
+    ensures cost { steps.new ≡ steps.old + length batch.now }
 {
     let mut counts = [0; LINKS];
     for transfer in batch.as_slice() {
+        steps.tick();
         count_transfer(&mut counts, transfer);
     }
     counts
 }
 
 /// The transfers that use the link, in a list with this much room.
-pub(crate) fn users_of(batch: &Batch, link: Link, room: usize) -> Result<Vec<usize>, AllocError>
+pub(crate) fn users_of(
+    batch: &Batch,
+    link: Link,
+    room: usize,
+    steps: &mut Steps,
+) -> Result<Vec<usize>, AllocError>
     ensures users { IfOk result (λ users. AreUsers batch.now link users.items) }
     ensures count { IfOk result (λ users. length users.items ≡ uses batch.now link) }
+    ensures cost { steps.new ≤ steps.old + length batch.now }
 {
     let mut users = Vec::with_capacity(batch.allocator(), room)?;
     for t in 0..batch.len() {
+        steps.tick();
         if uses_link(batch, t, link) {
             users.push(t)?;
         }

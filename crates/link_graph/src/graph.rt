@@ -1,4 +1,4 @@
-ghost use Rattle.std.specs.Prelude.{◌≡◌, ◌<◌, ◌↔◌, [], Some, IfOk, IfSome, IsNone, length, nat_lt, slice_get, option_map};
+ghost use Rattle.std.specs.Prelude.{◌≡◌, ◌+◌, ◌*◌, ◌<◌, ◌≤◌, ◌↔◌, [], Some, IfOk, IfSome, IsNone, length, nat_lt, slice_get, option_map};
 ghost use Rattle.std.specs.List.{IsFirstBest};
 ghost use Rattle.batch.specs.Batches.{IsBatch};
 ghost use Rattle.link_graph.specs.Uses.{start_link, answer_link};
@@ -11,6 +11,7 @@ use crate::link::Link;
 use batch::{Batch, MAX_MODULES};
 use std::alloc::AllocError;
 use std::marker::Model;
+use step_count::Steps;
 
 /// The graph of a batch: its nodes are the links of the modules, its edges the transfers. Contracts
 /// see the batch.
@@ -51,7 +52,16 @@ impl LinkGraph {
     pub fn of(batch: &Batch) -> Result<LinkGraph, AllocError>
         ensures { IfOk result (λ graph. graph ≡ batch.now) }
     {
-        let counts = counting::count_batch(batch);
+        LinkGraph::of_in_steps(batch, &mut Steps::none())
+    }
+
+    /// [`of`](LinkGraph::of), with its steps counted: each transfer is looked at and copied.
+    pub fn of_in_steps(batch: &Batch, steps: &mut Steps) -> Result<LinkGraph, AllocError>
+        ensures graph { IfOk result (λ graph. graph ≡ batch.now) }
+        ensures cost { steps.new ≡ steps.old + 2 * length batch.now }
+    {
+        let counts = counting::count_batch(batch, steps);
+        steps.tick_many(batch.len());
         let batch = batch.copy()?;
         Ok(LinkGraph { batch, counts })
     }
@@ -119,7 +129,20 @@ impl LinkGraph {
         ensures users { IfOk result (λ users. AreUsers self.now link users.items) }
         ensures count { IfOk result (λ users. length users.items ≡ uses self.now link) }
     {
+        self.transfers_of_in_steps(link, &mut Steps::none())
+    }
+
+    /// [`transfers_of`](LinkGraph::transfers_of), with its steps counted.
+    pub fn transfers_of_in_steps(
+        &self,
+        link: Link,
+        steps: &mut Steps,
+    ) -> Result<Vec<usize>, AllocError>
+        ensures users { IfOk result (λ users. AreUsers self.now link users.items) }
+        ensures count { IfOk result (λ users. length users.items ≡ uses self.now link) }
+        ensures cost { steps.new ≤ steps.old + length self.now }
+    {
         let room = self.uses(link);
-        counting::users_of(&self.batch, link, room)
+        counting::users_of(&self.batch, link, room, steps)
     }
 }

@@ -1,5 +1,5 @@
 -- The halves of a part, and how its colouring comes from theirs.
-use Rattle.std.proofs.Common.{◌≡◌, ◌==◌, ℕ, zero, suc, ◌+◌, ◌-◌, ◌*◌, ◌/◌, ◌<◌, ◌≤◌, ◌⊎◌, ◌↔◌, inl, inr, List, ◌++◌, length, map, take, drop, All, Option, Some, None, IsSome, Result, Ok, Err, IfOk, get_or, cond, refl, sym, ap, ◌∙◌, subst, arith}
+use Rattle.std.proofs.Common.{◌≡◌, ◌==◌, ℕ, zero, suc, ◌+◌, ◌-◌, ◌*◌, ◌/◌, ◌^◌, ◌<◌, ◌≤◌, ◌⊎◌, ◌↔◌, inl, inr, List, ◌++◌, length, map, take, drop, All, Option, Some, None, IsSome, Result, Ok, Err, IfOk, get_or, cond, refl, sym, ap, ◌∙◌, subst, arith}
 use Rattle.std.specs.Prelude.{Contains}
 use Rattle.std.proofs.lemmas.Bool.{false≢true}
 use Rattle.std.proofs.lemmas.Bool.Decides.{eqb_tells}
@@ -9,7 +9,9 @@ use Rattle.std.proofs.lemmas.List.Elements.{Contains-append_left, Contains-appen
 use Rattle.std.proofs.lemmas.List.Sorted.{IsPermutation-refl, IsPermutation-sym, All-permutation, Contains-permutation, sum_by-IsPermutation, length_permutation}
 use Rattle.std.proofs.lemmas.List.Sums.{sum_by-append}
 use Rattle.std.proofs.Math.Nat.{mul_comm}
+use Rattle.batch.specs.declared.limits.TheConstants.{MAX_MODULES}
 use Rattle.batch.specs.declared.transfer.Transfer.{Transfer}
+use Rattle.link_graph.specs.declared.limits.TheConstants.{LINKS}
 use Rattle.link_graph.specs.declared.link.Link.{Link}
 use Rattle.link_graph.specs.Uses.{IsMatching}
 use Rattle.link_graph.specs.Marks.{members}
@@ -30,6 +32,8 @@ use Rattle.schedule_certificate.specs.declared.degree.Known.TheVariants.{Is, AtM
 use Rattle.schedule_certificate.specs.Parts.{IsPart, IsDegree, IsDegreeKnown, IsHalf, AreHalves, AreHalvesOfTwo, IsColouredPart, HasRoomFor}
 use Rattle.schedule_certificate.proofs.Bounds.{few_le, few_halves}
 use Rattle.schedule_certificate.proofs.Counting.{uses_counted, placed_few}
+use Rattle.schedule_certificate.specs.Steps.{at_most, colouring_steps}
+use Rattle.schedule_certificate.proofs.Levels.{class_steps, half_fits, level}
 
 -- ---- a part of degree 0 or 1
 
@@ -63,6 +67,10 @@ one_of : (a b : ℕ) → 0 < a + b → (0 < a) ⊎ (0 < b)
 one_of zero b h = inr (omega arith)
 one_of (suc a) b h = inl (omega arith)
 
+-- halves that were cut at a place
+pub cut : (batch : List Transfer) (whole now front back : List ℕ) (k : ℕ) → front ≡ take k now → back ≡ drop k now → AreHalves batch whole (take k now) (drop k now) → AreHalves batch whole front back
+cut batch whole now front back k first rest halves = rw (first, rest) halves
+
 module _ (batch : List Transfer) (whole left right : List ℕ) (part : IsPart batch whole) (s : AreHalves batch whole left right) where
   both_standings : (t : ℕ) → standings t left + standings t right ≡ standings t whole
   both_standings t = omega (arith, sum_by-append (λ u. cond (u == t) 1 0) left right, sum_by-IsPermutation (λ u. cond (u == t) 1 0) whole (left ++ right) s.parts)
@@ -82,8 +90,13 @@ module _ (batch : List Transfer) (whole left right : List ℕ) (part : IsPart ba
     distinct = distinct_from_once right (λ t stands. omega (arith, both_standings t, at_most_once whole t part.distinct));
   }
 
-  both_lengths : length left + length right ≡ length whole
+  pub both_lengths : length left + length right ≡ length whole
   both_lengths = omega (arith, length-append left right, length_permutation whole (left ++ right) s.parts)
+
+  -- the steps of the whole are its own, and those of its halves
+  pub both_steps : (d k : ℕ) (half : Known) (own s t : ℕ) → 1 < d → IsHalf d half → d ≤ 2 ^ k → own ≤ 32 * length whole + 7 * MAX_MODULES * (d + 1) + 2 * MAX_MODULES → ((j : ℕ) → at_most half ≤ 2 ^ j → t ≤ s + own + colouring_steps (length left) j + colouring_steps (length right) j) → t ≤ s + colouring_steps (length whole) k
+  both_steps d zero half own s t high is low few took = absurd (omega arith)
+  both_steps d (suc k) half own s t high is low few took = rw both_lengths at (level (length left) (length right) d k own s t low (omega (arith, few, both_lengths)) (took k (half_fits d k half is low)))
 
   both_uses : (link : Link) → uses_among batch left link + uses_among batch right link ≡ uses_among batch whole link
   both_uses link =
@@ -237,7 +250,7 @@ module _ (batch : List Transfer) (whole left right : List ℕ) (d : ℕ) (t₁ t
     | inr at ↦ omega (arith, at.1, both_uses batch whole left right part s at.0, c₁.is_degree.most at.0, c₂.is_degree.most at.0)
   ]
 
-  colours_few : t₁.colours + t₂.colours ≤ d + 1
+  pub colours_few : t₁.colours + t₂.colours ≤ d + 1
   colours_few = omega (arith, c₁.colours_is, c₂.colours_is, left_degree, right_degree)
 
   few_with : (x r : ℕ) → (d + 1) * x ≤ length whole → (c₁.degree + c₂.degree ≤ d → x ≡ 0) → r ≤ t₁.inserted + t₂.inserted + x → AreFew (length whole) d r
@@ -316,6 +329,11 @@ module _ (batch : List Transfer) (whole left right : List ℕ) (d : ℕ) (t₁ t
           let cols : joined.colours ≡ d + 1 = omega (arith, more, colours, colours_few) in
           let turned : length class * joined.colours ≡ (d + 1) * length class = ap (λ c. length class * c) cols ∙ mul_comm (length class) (d + 1) in
           omega (arith, turned, taken.few, placed_few whole joined.colour (λ u some. (all_placed u).0 some))
+
+      pub put_back_steps : (s₀ s₁ s₂ s₃ : ℕ) → s₁ ≤ s₀ + (t₁.colours + t₂.colours) * LINKS → s₂ ≤ s₁ + 5 * MAX_MODULES * joined.colours + MAX_MODULES → s₃ ≤ s₂ + length class * (3 * table.colours + 2 * MAX_MODULES + 1) → s₃ ≤ s₀ + 25 * length whole + 7 * MAX_MODULES * (d + 1) + MAX_MODULES
+      put_back_steps s₀ s₁ s₂ s₃ one two three =
+          let same : length class * (3 * table.colours + 2 * MAX_MODULES + 1) ≡ length class * (3 * d + 2 * MAX_MODULES + 1) = ap (λ n. length class * (3 * n + 2 * MAX_MODULES + 1)) table_colours in
+          omega (arith, one, two, three, same, colours, colours_few, class_steps (length class) d (length whole) high class_few)
 
       pub put_back_coloured : (new : Colouring) → new.batch ≡ table.batch → new.colours ≡ table.colours → ((t : ℕ) → HasColour new.colour t ↔ (HasColour table.colour t ⊎ Contains class t)) → new.inserted ≤ table.inserted + length class → IsColouredPart batch whole new
       put_back_coloured new same colours_same placed count = record {

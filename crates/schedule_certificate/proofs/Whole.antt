@@ -1,5 +1,5 @@
 -- The part of all transfers.
-use Rattle.std.proofs.Common.{◌≡◌, ℕ, zero, suc, ◌<◌, ◌≤◌, max, List, [], ◌∷◌, ◌++◌, length, get_or, take, slice_get, Some, All, refl, sym, ap, subst, ◌∙◌, arith, add-one}
+use Rattle.std.proofs.Common.{◌≡◌, ℕ, zero, suc, ◌^◌, ◌<◌, ◌≤◌, max, List, [], ◌∷◌, ◌++◌, length, get_or, take, slice_get, Some, All, refl, sym, ap, subst, ◌∙◌, arith, add-one}
 use Rattle.std.specs.Prelude.{Contains}
 use Rattle.std.specs.List.{range_with_len}
 use Rattle.std.proofs.lemmas.List.{take_more, take_all}
@@ -19,6 +19,8 @@ use Rattle.alternating_path.specs.Classes.{ColouredSettings, AreClassesOf}
 use Rattle.schedule_certificate.specs.Reinsertions.{AreFew}
 use Rattle.schedule_certificate.specs.Parts.{IsPart, IsDegree, IsColouredPart}
 use Rattle.schedule_certificate.specs.Plans.{IsColoured}
+use Rattle.schedule_certificate.specs.Steps.{UsesAtMost}
+use Rattle.schedule_certificate.proofs.Levels.{one_at, degree_fits}
 
 abbrev all_of : List Transfer → List ℕ
 all_of batch = range_with_len 0 (length batch)
@@ -78,3 +80,9 @@ all_coloured batch table coloured c classes inserted few schedule_if =
       by_least = classes.by_least;
       few = subst (λ (n : ℕ). AreFew n c.degree coloured.inserted) (length-range_with_len 0 (length batch)) (subst (AreFew (length (all_of batch)) c.degree) (sym inserted) c.few);
     }
+
+-- the table of all transfers has few enough colours
+pub colours_fit : (batch : List Transfer) (table : Colouring) (k : ℕ) → UsesAtMost batch (2 ^ k) → IsColouredPart batch (all_of batch) table → (table.colours ≤ 2 ^ k) × (table.batch ≡ batch)
+colours_fit batch table k low c =
+    let degree : IsDegree batch c.degree = subst (λ (xs : List Transfer). IsDegree xs c.degree) (all_members batch) c.is_degree in
+    (omega (arith, c.colours_is, degree_fits batch c.degree (2 ^ k) degree low, one_at k), c.batch_is)

@@ -1,8 +1,9 @@
 //! Colouring a part of a graph by its halves, both at once where there are workers for them.
 
-ghost use Rattle.std.specs.Prelude.{◌≡◌, ◌≤◌, length, IfOk};
+ghost use Rattle.std.specs.Prelude.{◌≡◌, ℕ, ◌+◌, ◌*◌, ◌^◌, ◌≤◌, length, IfOk};
 ghost use Rattle.std.specs.Thread.{IsSync};
 ghost use Rattle.schedule_certificate.specs.Parts.{IsPartBy, IsWidth, IsColouredPart};
+ghost use Rattle.schedule_certificate.specs.Steps.{at_most, colouring_steps};
 
 use crate::degree::{Known, degree_of, half_of};
 use crate::gate::Gate;
@@ -13,6 +14,7 @@ use euler_split::Scratch;
 use link_graph::LinkGraph;
 use std::alloc::{AllocError, Global};
 use std::thread::{Threads, join};
+use step_count::Steps;
 
 /// Colours a part as [`colour_alone`] does, with the same contract and the same colours. Two
 /// workers or more colour its halves at once, also where all transfers share one link:
@@ -29,29 +31,32 @@ pub(crate) fn colour_part<'a, R: Threads + Sync, G: Gate>(
     known: Known,
     width: usize,
     room: usize,
+    steps: &mut Steps,
 ) -> Result<Table<'a>, AllocError>
     requires part { IsPartBy graph.now part.old known }
     requires width { IsWidth graph.now width }
     requires places { length part.old ≤ scratch.old }
     ensures coloured { IfOk result (IsColouredPart graph.now part.old) }
     ensures places { scratch.new ≡ scratch.old }
+    ensures cost { (k : ℕ) → at_most known ≤ 2 ^ k
+        → steps.new ≤ steps.old + colouring_steps (length part.old) k }
 {
     if workers.count < 2 {
-        return colour_alone(alloc, graph, part, scratch, known, width, room);
+        return colour_alone(alloc, graph, part, scratch, known, width, room, steps);
     }
-    let degree = degree_of(graph, part, known, width);
+    let degree = degree_of(graph, part, known, width, steps);
     if degree <= 1 {
-        return Table::one_with_room(alloc, graph, part, room.max(1));
+        return Table::one_with_room(alloc, graph, part, room.max(1), steps);
     }
-    let middle = halve_part(graph, part, degree, scratch);
+    let middle = halve_part(graph, part, degree, scratch, steps);
     let (left, right) = part.split_at_mut(middle);
     let half = half_of(degree);
     // The halves may have one colour too many.
     let room = room.max(degree.saturating_add(1));
     let (left, right) = colour_both(
-        rt, gate, workers, alloc, graph, left, right, half, width, room,
+        rt, gate, workers, alloc, graph, left, right, half, width, room, steps,
     )?;
-    join_halves(left, right, degree)
+    join_halves(left, right, degree, steps)
 }
 
 /// Colours two parts at once. Each is coloured by a copy of it, with a scratch of its own, so that
@@ -68,33 +73,51 @@ fn colour_both<'a, R: Threads + Sync, G: Gate>(
     known: Known,
     width: usize,
     room: usize,
+    steps: &mut Steps,
 ) -> Result<(Table<'a>, Table<'a>), AllocError>
     requires left { IsPartBy graph.now left.now known }
     requires right { IsPartBy graph.now right.now known }
     requires width { IsWidth graph.now width }
     ensures left { IfOk result (λ tables. IsColouredPart graph.now left.now tables.0) }
     ensures right { IfOk result (λ tables. IsColouredPart graph.now right.now tables.1) }
+    ensures cost { (k : ℕ) → at_most known ≤ 2 ^ k → steps.new ≤ steps.old
+        + 2 * length left.now + colouring_steps (length left.now) k
+        + 2 * length right.now + colouring_steps (length right.now) k }
 {
     let (first, rest) = workers.halves();
-    let (left, right) = join(
+    let ((left, left_steps), (right, right_steps)) = join(
         rt,
-        || -> Result<Table, AllocError>
+        || -> (Result<Table, AllocError>, Steps)
             requires { IsSync R.row × IsSync G.row
                 × IsPartBy graph.now left.now known × IsWidth graph.now width }
-            ensures { IfOk result (IsColouredPart graph.entry.now left.entry.now) }
+            ensures coloured { IfOk result.0 (IsColouredPart graph.entry.now left.entry.now) }
+            ensures cost { (k : ℕ) → at_most known ≤ 2 ^ k → result.1
+                ≤ 2 * length left.entry.now + colouring_steps (length left.entry.now) k }
         {
+            let mut own = Steps::none();
             gate.arrive(first.least);
-            colour_copy(rt, gate, first, alloc, graph, left, known, width, room)
+            let left = colour_copy(
+                rt, gate, first, alloc, graph, left, known, width, room, &mut own,
+            );
+            (left, own)
         },
-        || -> Result<Table, AllocError>
+        || -> (Result<Table, AllocError>, Steps)
             requires { IsSync R.row × IsSync G.row
                 × IsPartBy graph.now right.now known × IsWidth graph.now width }
-            ensures { IfOk result (IsColouredPart graph.entry.now right.entry.now) }
+            ensures coloured { IfOk result.0 (IsColouredPart graph.entry.now right.entry.now) }
+            ensures cost { (k : ℕ) → at_most known ≤ 2 ^ k → result.1
+                ≤ 2 * length right.entry.now + colouring_steps (length right.entry.now) k }
         {
+            let mut own = Steps::none();
             gate.arrive(rest.least);
-            colour_copy(rt, gate, rest, alloc, graph, right, known, width, 0)
+            let right = colour_copy(
+                rt, gate, rest, alloc, graph, right, known, width, 0, &mut own,
+            );
+            (right, own)
         },
     );
+    steps.merge(left_steps);
+    steps.merge(right_steps);
     Ok((left?, right?))
 }
 
@@ -110,12 +133,16 @@ pub(crate) fn colour_copy<'a, R: Threads + Sync, G: Gate>(
     known: Known,
     width: usize,
     room: usize,
+    steps: &mut Steps,
 ) -> Result<Table<'a>, AllocError>
     requires part { IsPartBy graph.now part.now known }
     requires width { IsWidth graph.now width }
-    ensures { IfOk result (IsColouredPart graph.now part.now) }
+    ensures coloured { IfOk result (IsColouredPart graph.now part.now) }
+    ensures cost { (k : ℕ) → at_most known ≤ 2 ^ k
+        → steps.new ≤ steps.old + 2 * length part.now + colouring_steps (length part.now) k }
 {
-    let mut scratch = Scratch::new(alloc, part.len())?;
+    let mut scratch = Scratch::new(alloc, part.len(), steps)?;
+    steps.tick_many(part.len());
     let mut part = Vec::from_slice(alloc, part)?;
     colour_part(
         rt,
@@ -128,5 +155,6 @@ pub(crate) fn colour_copy<'a, R: Threads + Sync, G: Gate>(
         known,
         width,
         room,
+        steps,
     )
 }

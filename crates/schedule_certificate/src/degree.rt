@@ -1,12 +1,14 @@
-ghost use Rattle.std.specs.Prelude.{◌≡◌, ◌+◌, ◌<◌, max, All, slice_index, slice_set};
+ghost use Rattle.std.specs.Prelude.{◌≡◌, ◌+◌, ◌<◌, ◌≤◌, max, All, length, slice_index, slice_set};
 ghost use Rattle.batch.specs.declared.limits.TheConstants.{MAX_MODULES};
 ghost use Rattle.link_graph.specs.Counts.{module_at};
 ghost use Rattle.link_graph.specs.Links.{link_index};
 ghost use Rattle.link_graph.specs.Marks.{members};
 ghost use Rattle.schedule_certificate.specs.Parts.{IsPart, IsPartBy, IsDegree, IsHalf, IsWidth};
+ghost use Rattle.schedule_certificate.specs.Steps.{at_most};
 
 use batch::{MAX_MODULES, MAX_TRANSFERS};
 use link_graph::{End, LINKS, Link, LinkGraph};
+use step_count::Steps;
 
 /// What is known of a part's degree before its transfers are counted.
 #[derive(Clone, Copy, Debug)]
@@ -62,14 +64,16 @@ fn greater(a: usize, b: usize) -> usize
 /// How many transfers of a part use the link that most of them use.
 ///
 /// Takes time that grows with the number of transfers in the part.
-fn count_degree(graph: &LinkGraph, part: &[usize]) -> usize
+fn count_degree(graph: &LinkGraph, part: &[usize], steps: &mut Steps) -> usize
     requires { IsPart graph.now part.now }
-    ensures { IsDegree (members graph.now part.now) result }
+    ensures degree { IsDegree (members graph.now part.now) result }
+    ensures cost { steps.new ≡ steps.old + length part.now }
 {
     prove!(graph.len() <= MAX_TRANSFERS);
     let mut uses = [0; LINKS];
     let mut degree = 0;
     for t in part {
+        steps.tick();
         let (start, answer) = graph.ends_of(*t);
         let starts = count_use(&mut uses, start);
         let answers = count_use(&mut uses, answer);
@@ -83,10 +87,18 @@ fn count_degree(graph: &LinkGraph, part: &[usize]) -> usize
 /// All transfers of the graph use one of so many links at one end, its width. If each of these had
 /// less uses than the degree may have at most, a part couldn't have more transfers than all of them
 /// together. Where it has more, the degree is the most that it may be, and nothing is counted.
-pub(crate) fn degree_of(graph: &LinkGraph, part: &[usize], known: Known, width: usize) -> usize
+pub(crate) fn degree_of(
+    graph: &LinkGraph,
+    part: &[usize],
+    known: Known,
+    width: usize,
+    steps: &mut Steps,
+) -> usize
     requires part { IsPartBy graph.now part.now known }
     requires width { IsWidth graph.now width }
-    ensures { IsDegree (members graph.now part.now) result }
+    ensures degree { IsDegree (members graph.now part.now) result }
+    ensures most { result ≤ at_most known }
+    ensures cost { steps.new ≤ steps.old + length part.now }
 {
     match known {
         Known::Is(degree) => degree,
@@ -94,7 +106,7 @@ pub(crate) fn degree_of(graph: &LinkGraph, part: &[usize], known: Known, width: 
             if part.len() > width.saturating_mul(most.saturating_sub(1)) {
                 return most;
             }
-            count_degree(graph, part)
+            count_degree(graph, part, steps)
         }
     }
 }

@@ -1,27 +1,33 @@
 //! Colouring a part of a graph by its halves, one after the other.
 
-ghost use Rattle.std.specs.Prelude.{◌≡◌, ℕ, ◌+◌, ◌-◌, ◌≤◌, List, length, take, drop, IfOk};
+ghost use Rattle.std.specs.Prelude.{◌≡◌, ℕ, ◌+◌, ◌-◌, ◌*◌, ◌^◌, ◌≤◌, List, length, take, drop, IfOk};
+ghost use Rattle.batch.specs.declared.limits.TheConstants.{MAX_MODULES};
 ghost use Rattle.batch.specs.declared.transfer.Transfer.{Transfer};
+ghost use Rattle.link_graph.specs.declared.limits.TheConstants.{LINKS};
 ghost use Rattle.link_graph.specs.Marks.{members};
 ghost use Rattle.euler_split.specs.Evenness.{CanBeHalved};
 ghost use Rattle.schedule_certificate.specs.Parts.{IsPart, IsDegree, IsPartBy, IsWidth, AreHalves, AreHalvesOfTwo, AreColouredHalves, IsColouredPart, HasRoomFor, PlacesClass};
+ghost use Rattle.schedule_certificate.specs.Steps.{at_most, colouring_steps};
 
 use crate::degree::{Known, degree_of, half_of};
 use alternating_path::{InsertFault, Table};
 use euler_split::{Scratch, split_evenly, split_in_place, times_even};
 use link_graph::LinkGraph;
 use std::alloc::{AllocError, Global};
+use step_count::Steps;
 
 /// Puts the transfers of a class that was given up into the other colours.
-fn put_back(table: &mut Table<'_>, class: &[usize])
+fn put_back(table: &mut Table<'_>, class: &[usize], steps: &mut Steps)
     requires { HasRoomFor table.old class.now }
     ensures batch { table.new.batch ≡ table.old.batch }
     ensures colours { table.new.colours ≡ table.old.colours }
     ensures placed { PlacesClass table.old.colour table.new.colour class.now }
     ensures inserted { table.new.inserted ≤ table.old.inserted + length class.now }
+    ensures cost { steps.new
+        ≤ steps.old + length class.now * (3 * table.old.colours + 2 * MAX_MODULES + 1) }
 {
     for t in class {
-        match table.insert(*t) {
+        match table.insert_in_steps(*t, steps) {
             Ok(()) => (),
             Err(InsertFault::Already) => unreachable!(),
             Err(InsertFault::NoRoom) => unreachable!(),
@@ -38,6 +44,7 @@ pub(crate) fn halve_part(
     part: &mut [usize],
     degree: usize,
     scratch: &mut Scratch,
+    steps: &mut Steps,
 ) -> usize
     requires part { IsPart graph.now part.old }
     requires degree { IsDegree (members graph.now part.old) degree }
@@ -45,11 +52,12 @@ pub(crate) fn halve_part(
     ensures within { result ≤ length part.old }
     ensures halves { AreHalves graph.now part.old (take result part.new) (drop result part.new) }
     ensures places { scratch.new ≡ scratch.old }
+    ensures cost { steps.new ≤ steps.old + 4 * length part.old + MAX_MODULES }
 {
     if degree == part.len() {
         return degree.div_ceil(2);
     }
-    split_in_place(graph, part, scratch)
+    split_in_place(graph, part, scratch, steps)
 }
 
 /// The table of a part of this degree, of the tables of its halves. They are joined, and that may
@@ -59,19 +67,23 @@ pub(crate) fn join_halves<'a>(
     left: Table<'a>,
     right: Table<'a>,
     degree: usize,
+    steps: &mut Steps,
 ) -> Result<Table<'a>, AllocError>
     requires { (batch : List Transfer) × (whole : List ℕ)
         × AreColouredHalves batch whole degree left right }
-    ensures { (batch : List Transfer) (whole : List ℕ)
+    ensures coloured { (batch : List Transfer) (whole : List ℕ)
         → AreColouredHalves batch whole degree left.entry right.entry
         → IfOk result (IsColouredPart batch whole) }
+    ensures cost { (batch : List Transfer) (whole : List ℕ)
+        → AreColouredHalves batch whole degree left.entry right.entry
+        → steps.new ≤ steps.old + 25 * length whole + 7 * MAX_MODULES * (degree + 1) + MAX_MODULES }
 {
-    let joined = Table::join(left, right)?;
+    let joined = Table::join_in_steps(left, right, steps)?;
     if joined.colours() <= degree {
         return Ok(joined);
     }
-    let (mut table, class) = joined.take_back()?;
-    put_back(&mut table, &class);
+    let (mut table, class) = joined.take_back_in_steps(steps)?;
+    put_back(&mut table, &class, steps);
     Ok(table)
 }
 
@@ -84,6 +96,7 @@ fn halve_known(
     degree: usize,
     times: usize,
     scratch: &mut Scratch,
+    steps: &mut Steps,
 ) -> usize
     requires part { IsPart graph.now part.old }
     requires degree { IsDegree (members graph.now part.old) degree }
@@ -94,22 +107,24 @@ fn halve_known(
     ensures left_times { CanBeHalved graph.now (take result part.new) (times - 1) }
     ensures right_times { CanBeHalved graph.now (drop result part.new) (times - 1) }
     ensures places { scratch.new ≡ scratch.old }
+    ensures cost { steps.new ≤ steps.old + 4 * length part.old + MAX_MODULES }
 {
     if times == 0 {
-        return halve_part(graph, part, degree, scratch);
+        return halve_part(graph, part, degree, scratch, steps);
     }
-    split_evenly(graph, part, scratch)
+    split_evenly(graph, part, scratch, steps)
 }
 
 /// How many times the transfers of each pair of links of a part can be halved. Where all transfers
 /// are known to share one link, nobody asks, and it is none.
-fn times_of(graph: &LinkGraph, part: &[usize], known: Known) -> usize
+fn times_of(graph: &LinkGraph, part: &[usize], known: Known, steps: &mut Steps) -> usize
     requires { IsPartBy graph.now part.now known }
-    ensures { CanBeHalved graph.now part.now result }
+    ensures times { CanBeHalved graph.now part.now result }
+    ensures cost { steps.new ≤ steps.old + length part.now }
 {
     match known {
         Known::Is(degree) if degree == part.len() => 0,
-        _ => times_even(graph, part),
+        _ => times_even(graph, part, steps),
     }
 }
 
@@ -121,13 +136,15 @@ fn colour_two<'a>(
     left: &[usize],
     right: &[usize],
     room: usize,
+    steps: &mut Steps,
 ) -> Result<Table<'a>, AllocError>
     requires { (whole : List ℕ) × AreHalvesOfTwo graph.now whole left.now right.now }
-    ensures { (whole : List ℕ) → AreHalvesOfTwo graph.now whole left.now right.now
+    ensures coloured { (whole : List ℕ) → AreHalvesOfTwo graph.now whole left.now right.now
         → IfOk result (IsColouredPart graph.now whole) }
+    ensures cost { steps.new ≤ steps.old + 3 * LINKS + length left.now + length right.now }
 {
-    let table = Table::one_with_room(alloc, graph, left, room)?;
-    table.with_class(right)
+    let table = Table::one_with_room(alloc, graph, left, room, steps)?;
+    table.with_class(right, steps)
 }
 
 /// Colours a part with as many colours as its busiest link has uses, its degree, and with one where
@@ -147,15 +164,20 @@ pub(crate) fn colour_alone<'a>(
     known: Known,
     width: usize,
     room: usize,
+    steps: &mut Steps,
 ) -> Result<Table<'a>, AllocError>
     requires part { IsPartBy graph.now part.old known }
     requires width { IsWidth graph.now width }
     requires places { length part.old ≤ scratch.old }
     ensures coloured { IfOk result (IsColouredPart graph.now part.old) }
     ensures places { scratch.new ≡ scratch.old }
+    ensures cost { (k : ℕ) → at_most known ≤ 2 ^ k
+        → steps.new ≤ steps.old + colouring_steps (length part.old) k }
 {
-    let times = times_of(graph, part, known);
-    colour_halves(alloc, graph, part, scratch, known, width, room, times)
+    let times = times_of(graph, part, known, steps);
+    colour_halves(
+        alloc, graph, part, scratch, known, width, room, times, steps,
+    )
 }
 
 /// Colours a part as [`colour_alone`] does. The transfers of each pair of links can be halved so
@@ -169,6 +191,7 @@ fn colour_halves<'a>(
     width: usize,
     room: usize,
     times: usize,
+    steps: &mut Steps,
 ) -> Result<Table<'a>, AllocError>
     requires part { IsPartBy graph.now part.old known }
     requires width { IsWidth graph.now width }
@@ -176,24 +199,26 @@ fn colour_halves<'a>(
     requires times { CanBeHalved graph.now part.old times }
     ensures coloured { IfOk result (IsColouredPart graph.now part.old) }
     ensures places { scratch.new ≡ scratch.old }
+    ensures cost { (k : ℕ) → at_most known ≤ 2 ^ k
+        → steps.new + length part.old ≤ steps.old + colouring_steps (length part.old) k }
 {
-    let degree = degree_of(graph, part, known, width);
+    let degree = degree_of(graph, part, known, width, steps);
     if degree <= 1 {
-        return Table::one_with_room(alloc, graph, part, room.max(1));
+        return Table::one_with_room(alloc, graph, part, room.max(1), steps);
     }
     if degree == part.len() {
-        return Table::each_with_room(alloc, graph, part, room);
+        return Table::each_with_room(alloc, graph, part, room, steps);
     }
-    let middle = halve_known(graph, part, degree, times, scratch);
+    let middle = halve_known(graph, part, degree, times, scratch, steps);
     let (left, right) = part.split_at_mut(middle);
     // The halves may have one colour too many.
     let room = room.max(degree.saturating_add(1));
     if degree == 2 {
-        return colour_two(alloc, graph, left, right, room);
+        return colour_two(alloc, graph, left, right, room, steps);
     }
     let half = half_of(degree);
     let times = times.saturating_sub(1);
-    let left = colour_halves(alloc, graph, left, scratch, half, width, room, times)?;
-    let right = colour_halves(alloc, graph, right, scratch, half, width, 0, times)?;
-    join_halves(left, right, degree)
+    let left = colour_halves(alloc, graph, left, scratch, half, width, room, times, steps)?;
+    let right = colour_halves(alloc, graph, right, scratch, half, width, 0, times, steps)?;
+    join_halves(left, right, degree, steps)
 }

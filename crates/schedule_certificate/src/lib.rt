@@ -8,6 +8,10 @@
 //! transfers are put in one by one, and none where the busiest link's uses are 0 or a power of two
 //! (`AreFew` of `specs/Reinsertions.antt`). The type [`Planned`] keeps all this.
 //!
+//! [`schedule_in_steps`] counts the steps of all workers: they are at most `most_steps` of
+//! `specs/Steps.antt`. A step is one round of an innermost loop; `tools/steps.txt` names the loops
+//! that count none, with the reason of each.
+//!
 //! [`first_fit`] gives a schedule that may be longer than needed: each transfer stands in the first
 //! setting in which no smaller number uses one of its links (`IsFirstFit` of
 //! `specs/FirstFit.antt`).
@@ -27,5 +31,5 @@ pub use gate::{Gate, OpenGate};
 pub use greedy::first_fit;
 pub use planned::Planned;
 pub use planner::{NoThreads, Planner};
-pub use planning::schedule;
+pub use planning::{schedule, schedule_in_steps};
 pub use workers::Workers;

@@ -1,8 +1,9 @@
 //! Who makes plans: whoever has threads, or [`NoThreads`].
 
-ghost use Rattle.std.specs.Prelude.{◌≡◌, IfOk};
+ghost use Rattle.std.specs.Prelude.{◌≡◌, ℕ, ◌+◌, ◌*◌, ◌^◌, ◌≤◌, length, IfOk};
 ghost use Rattle.schedule_certificate.specs.Plans.{IsPlan, IsColoured, HasFewReinsertions};
 ghost use Rattle.schedule_certificate.specs.Sharing.{SaysOneToAllThreads};
+ghost use Rattle.schedule_certificate.specs.Steps.{UsesAtMost, most_steps};
 
 use crate::degree::{Known, width_of};
 use crate::gate::OpenGate;
@@ -16,6 +17,7 @@ use exchange_limits::WorkerCount;
 use link_graph::LinkGraph;
 use std::alloc::{AllocError, Global};
 use std::thread::Threads;
+use step_count::Steps;
 
 /// What plans batches for callers that needn't know whether it has threads.
 pub trait Planner: Sync {
@@ -51,22 +53,38 @@ impl Planner for NoThreads {
         batch: Batch,
         _workers: WorkerCount,
     ) -> Result<Planned, AllocError> {
+        let mut steps = Steps::none();
         let graph = LinkGraph::of(&batch)?;
-        let coloured = colour_all_alone(alloc, &graph)?;
-        planned_by(batch, &graph, coloured)
+        let coloured = colour_all_alone(alloc, &graph, &mut steps)?;
+        planned_by(batch, &graph, coloured, &mut steps)
     }
 }
 
 /// The schedule of a colouring of all transfers with as many colours as the busiest link has uses,
 /// by one worker, who starts no thread.
-fn colour_all_alone(alloc: Global, graph: &LinkGraph) -> Result<Coloured, AllocError>
-    ensures { IfOk result (λ coloured. IsColoured graph.now coloured) }
+fn colour_all_alone(
+    alloc: Global,
+    graph: &LinkGraph,
+    steps: &mut Steps,
+) -> Result<Coloured, AllocError>
+    ensures coloured { IfOk result (λ coloured. IsColoured graph.now coloured) }
+    ensures cost { (k : ℕ) → UsesAtMost graph.now (2 ^ k)
+        → steps.new + 3 * length graph.now ≤ steps.old + most_steps (length graph.now) k }
 {
-    let mut all = all_transfers(alloc, graph)?;
-    let mut scratch = Scratch::new(alloc, all.len())?;
+    let mut all = all_transfers(alloc, graph, steps)?;
+    let mut scratch = Scratch::new(alloc, all.len(), steps)?;
     let degree = Known::Is(degree_of_all(graph));
     let width = width_of(graph);
-    let table = colour_alone(alloc, graph, &mut all, &mut scratch, degree, width, 0)?;
-    let coloured = table.into_schedule()?;
+    let table = colour_alone(
+        alloc,
+        graph,
+        &mut all,
+        &mut scratch,
+        degree,
+        width,
+        0,
+        steps,
+    )?;
+    let coloured = table.into_schedule_in_steps(steps)?;
     Ok(coloured)
 }

@@ -1,9 +1,10 @@
 //! Shortest schedules.
 
-ghost use Rattle.std.specs.Prelude.{◌≡◌, ◌<◌, IfOk, length};
+ghost use Rattle.std.specs.Prelude.{◌≡◌, ℕ, ◌+◌, ◌*◌, ◌^◌, ◌<◌, ◌≤◌, IfOk, length};
 ghost use Rattle.std.specs.List.{range_with_len};
 ghost use Rattle.schedule_certificate.specs.Parts.{IsDegree};
 ghost use Rattle.schedule_certificate.specs.Plans.{NamesBusiest, IsPlan, IsColoured, HasFewReinsertions};
+ghost use Rattle.schedule_certificate.specs.Steps.{UsesAtMost, most_steps};
 
 use crate::colouring::colour_copy;
 use crate::degree::{Known, width_of};
@@ -16,11 +17,18 @@ use exchange_limits::WorkerCount;
 use link_graph::{Certificate, LinkGraph};
 use std::alloc::{AllocError, Global};
 use std::thread::Threads;
+use step_count::Steps;
 
 /// The numbers of all transfers.
-pub(crate) fn all_transfers(alloc: Global, graph: &LinkGraph) -> Result<Vec<usize>, AllocError>
-    ensures { IfOk result (λ all. all.items ≡ range_with_len 0 (length graph.now)) }
+pub(crate) fn all_transfers(
+    alloc: Global,
+    graph: &LinkGraph,
+    steps: &mut Steps,
+) -> Result<Vec<usize>, AllocError>
+    ensures all { IfOk result (λ all. all.items ≡ range_with_len 0 (length graph.now)) }
+    ensures cost { steps.new ≡ steps.old + length graph.now }
 {
+    steps.tick_many(graph.len());
     (0..graph.len()).collect(alloc)
 }
 
@@ -41,25 +49,31 @@ fn colour_all<R: Threads + Sync, G: Gate>(
     workers: Workers,
     alloc: Global,
     graph: &LinkGraph,
+    steps: &mut Steps,
 ) -> Result<Coloured, AllocError>
-    ensures { IfOk result (λ coloured. IsColoured graph.now coloured) }
+    ensures coloured { IfOk result (λ coloured. IsColoured graph.now coloured) }
+    ensures cost { (k : ℕ) → UsesAtMost graph.now (2 ^ k)
+        → steps.new + 3 * length graph.now ≤ steps.old + most_steps (length graph.now) k }
 {
-    let all = all_transfers(alloc, graph)?;
+    let all = all_transfers(alloc, graph, steps)?;
     let degree = Known::Is(degree_of_all(graph));
     let width = width_of(graph);
-    let table = colour_copy(rt, gate, workers, alloc, graph, &all, degree, width, 0)?;
-    let coloured = table.into_schedule()?;
+    let table = colour_copy(
+        rt, gate, workers, alloc, graph, &all, degree, width, 0, steps,
+    )?;
+    let coloured = table.into_schedule_in_steps(steps)?;
     Ok(coloured)
 }
 
 /// The certificate that names the busiest link.
-fn certificate_of(graph: &LinkGraph) -> Result<Certificate, AllocError>
-    ensures { IfOk result (λ named. NamesBusiest graph.now named.link named.transfers) }
+fn certificate_of(graph: &LinkGraph, steps: &mut Steps) -> Result<Certificate, AllocError>
+    ensures named { IfOk result (λ named. NamesBusiest graph.now named.link named.transfers) }
+    ensures cost { steps.new ≤ steps.old + length graph.now }
 {
     let Some(link) = graph.busiest() else {
         return Ok(Certificate::none());
     };
-    let transfers = graph.transfers_of(link)?;
+    let transfers = graph.transfers_of_in_steps(link, steps)?;
     Ok(Certificate::of(link, transfers).unwrap())
 }
 
@@ -68,14 +82,16 @@ pub(crate) fn planned_by(
     batch: Batch,
     graph: &LinkGraph,
     coloured: Coloured,
+    steps: &mut Steps,
 ) -> Result<Planned, AllocError>
     requires graph { graph.now ≡ batch }
     requires coloured { IsColoured graph.now coloured }
     ensures batch { IfOk result (λ planned. planned.batch ≡ batch) }
     ensures plan { IfOk result (λ planned. IsPlan planned) }
     ensures reinserted { IfOk result (λ planned. HasFewReinsertions planned) }
+    ensures cost { steps.new ≤ steps.old + length graph.now }
 {
-    let certificate = certificate_of(graph)?;
+    let certificate = certificate_of(graph, steps)?;
     Ok(Planned::of(batch, coloured, certificate))
 }
 
@@ -102,7 +118,25 @@ pub fn schedule<R: Threads + Sync, G: Gate>(
     ensures plan { IfOk result (λ planned. IsPlan planned) }
     ensures reinserted { IfOk result (λ planned. HasFewReinsertions planned) }
 {
-    let graph = LinkGraph::of(&batch)?;
-    let coloured = colour_all(rt, gate, Workers::all(workers), alloc, &graph)?;
-    planned_by(batch, &graph, coloured)
+    schedule_in_steps(rt, alloc, batch, workers, gate, &mut Steps::none())
+}
+
+/// [`schedule`], with the steps of all workers counted.
+pub fn schedule_in_steps<R: Threads + Sync, G: Gate>(
+    rt: &R,
+    alloc: Global,
+    batch: Batch,
+    workers: WorkerCount,
+    gate: &G,
+    steps: &mut Steps,
+) -> Result<Planned, AllocError>
+    ensures batch { IfOk result (λ planned. planned.batch ≡ batch) }
+    ensures plan { IfOk result (λ planned. IsPlan planned) }
+    ensures reinserted { IfOk result (λ planned. HasFewReinsertions planned) }
+    ensures cost { (k : ℕ) → UsesAtMost batch (2 ^ k)
+        → steps.new ≤ steps.old + most_steps (length batch) k }
+{
+    let graph = LinkGraph::of_in_steps(&batch, steps)?;
+    let coloured = colour_all(rt, gate, Workers::all(workers), alloc, &graph, steps)?;
+    planned_by(batch, &graph, coloured, steps)
 }

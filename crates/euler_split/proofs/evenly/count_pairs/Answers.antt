@@ -9,7 +9,7 @@ use Rattle.euler_split.proofs.Evenness.{none_counted, counted_more}
 use Rattle.euler_split.proofs.evenly.count_pairs.Goals as goal
 
 pub loop-place-init : goal.loop-place-init
-loop-place-init c = none_counted c.args.graph.now
+loop-place-init c = (omega arith, none_counted c.args.graph.now)
 
 lows : (c : goal.After-struct_known-in-loop-place-1) → (c.ends_of.result.0.«module» < MAX_MODULES) × (c.ends_of.result.1.«module» < MAX_MODULES)
 lows c =
@@ -20,7 +20,7 @@ lows c =
 pub overflow_add-counts-in-loop-place : goal.overflow_add-counts-in-loop-place
 overflow_add-counts-in-loop-place c =
     let low = lows c in
-    let here = c.loop-place.invariant.at c.ends_of.result.0.«module» c.ends_of.result.1.«module» low.0 low.1 in
+    let here = c.loop-place.invariant.1.at c.ends_of.result.0.«module» c.ends_of.result.1.«module» low.0 low.1 in
     omega (arith, here, c.requires.few, count_by-le-length (uses_pair c.args.graph.now c.ends_of.result.0.«module» c.ends_of.result.1.«module») (take c.loop-place.place c.args.members.now), length-take c.loop-place.place c.args.members.now)
 
 pub bounds-counts-start-in-loop-place : goal.bounds-counts-start-in-loop-place
@@ -31,9 +31,9 @@ loop-place-preserved c =
     let low = lows c in
     let t_in = c.requires.known c.loop-place.place 0 c.loop-place-test.true in
     let ends = ends_modules c.args.graph.now _ c.ends_of.result t_in c.ends_of.ensures in
-    counted_more c.args.graph.now c.args.members.now c.loop-place.counts c.loop-place.place c.ends_of.result.0.«module» c.ends_of.result.1.«module» c.loop-place-test.true c.loop-place.invariant low.0 low.1 ends.0 ends.1
+    (omega (arith, c.loop-place.invariant.0, c.tick.ensures), counted_more c.args.graph.now c.args.members.now c.loop-place.counts c.loop-place.place c.ends_of.result.0.«module» c.ends_of.result.1.«module» c.loop-place-test.true c.loop-place.invariant.1 low.0 low.1 ends.0 ends.1)
 
-pub returns : goal.returns
-returns c =
+pub returns-clause-counts : goal.returns-clause-counts
+returns-clause-counts c =
     let all : take c.loop-place.place c.args.members.now ≡ c.args.members.now = take_all _ _ (omega arith) in
-    rw all at c.loop-place.invariant
+    rw all at c.loop-place.invariant.1

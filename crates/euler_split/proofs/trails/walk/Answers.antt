@@ -15,6 +15,7 @@ returns-clause-walked c all x = ended all _ _ c.args.start c.args.first_left Zer
 pub steps-preserved : goal.steps-preserved
 steps-preserved c = record {
   zero_in = c.lowest-zero.ensures.within;
+  cost = omega (arith, c.steps.invariant.cost, c.take.ensures.fewer, c.take.ensures.cost, c.take-in-steps.ensures.fewer, c.take-in-steps.ensures.cost);
   less = inl (grind arith);
   even = λ all x.
       let across = c.take.ensures.walked all c.args.first_left c.args.start Zero refl (c.steps.invariant.even all x) in

@@ -24,5 +24,5 @@ pub returns-clause-none : goal.returns-clause-none
 returns-clause-none c =
     let s = c.self.inside in
     let taken : (d : ℕ) → d < s.colours → IsSome (holder_at s.cells.items d (place_at s.graph.now c.args.t c.args.end)) =
-    λ d d_in. rw (← c.place_at-place.ensures.place) (c.loop-colour.invariant d (omega arith)) in
+    λ d d_in. rw (← c.place_at-place.ensures.place) (c.loop-colour.invariant.0 d (omega arith)) in
     rw (← c.self.view_is) (all_taken s.graph.now s.colours _ s.cells.items c.self.invariant c.args.t c.args.end taken)

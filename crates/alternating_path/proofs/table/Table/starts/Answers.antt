@@ -4,8 +4,8 @@ use Rattle.alternating_path.specs.Cells.{StartBelow}
 use Rattle.alternating_path.proofs.Smallest.{starts_are}
 use Rattle.alternating_path.proofs.table.Table.starts.Goals as goal
 
-pub returns : goal.returns
-returns c =
+pub returns-clause-starts : goal.returns-clause-starts
+returns-clause-starts c =
     let s = c.self.inside in
     let width : c.args.colour * LINKS + c.args.modules - c.args.colour * LINKS ≡ c.args.modules = omega arith in
     let all : StartBelow s.graph.now c.args.modules = rw (← c.self.view_is) at c.requires.all in

@@ -1,4 +1,5 @@
-use Rattle.std.proofs.Common.{◌+◌, List, Option, ℕ, ap}
+use Rattle.std.proofs.Common.{◌+◌, List, Option, ℕ, length, ap, ◌∙◌, arith}
+use Rattle.std.proofs.lemmas.List.{length-append}
 use Rattle.alternating_path.specs.Colouring.{Colouring}
 use Rattle.alternating_path.specs.Cells.{shown_colours}
 use Rattle.alternating_path.proofs.MoreClasses.{more_cells}
@@ -24,3 +25,8 @@ returns-clause-proper c =
 
 pub returns-clause-before : goal.returns-clause-before
 returns-clause-before c = rw (← c.self.view_is) (cells_proper _ _ _ _ c.self.invariant)
+
+pub returns-clause-cost : goal.returns-clause-cost
+returns-clause-cost c =
+    let s = c.self.inside in
+    rw (← c.self.view_is) (omega (arith, c.tick_many.ensures, c.len.ensures, ap length c.in_ok-extend_from_slice.ensures.items ∙ length-append s.cells.items _, c.self.invariant.rows))

@@ -1,7 +1,7 @@
 use Rattle.std.proofs.Common.{ℕ, ◌≡◌, ◌≢◌, ◌<◌, Some, sym, ap, ◌∙◌, arith}
 use Rattle.alternating_path.specs.Cells.{holder_at, place_at}
 use Rattle.alternating_path.proofs.Shown.{cells_proper, not_shown, read_cell}
-use Rattle.alternating_path.proofs.table.Table.colour_of.Goals as goal
+use Rattle.alternating_path.proofs.table.Table.colour_in_steps.Goals as goal
 
 pub returns-then-t-len-clause-proper : goal.returns-then-t-len-clause-proper
 returns-then-t-len-clause-proper c = rw (← c.self.view_is) (cells_proper _ _ _ _ c.self.invariant)
@@ -21,7 +21,7 @@ pub returns-clause-colour : goal.returns-clause-colour
 returns-clause-colour c =
     let s = c.self.inside in
     let nowhere : (d : ℕ) → d < s.colours → holder_at s.cells.items d (place_at s.graph.now c.args.t _) ≢ Some c.args.t =
-    λ d d_in. rw (← c.place_at-place.ensures.place) (c.loop-colour.invariant d (omega arith)) in
+    λ d d_in. rw (← c.place_at-place.ensures.place) (c.loop-colour.invariant.0 d (omega arith)) in
     rw (← c.self.view_is) (not_shown s.graph.now s.colours _ s.cells.items c.args.t c.self.invariant nowhere)
 
 pub returns-clause-proper : goal.returns-clause-proper
