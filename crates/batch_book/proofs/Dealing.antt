@@ -1,13 +1,18 @@
 -- How the seats of a new exchange are dealt.
-use Rattle.std.proofs.Common.{◌≡◌, ℕ, zero, suc, ◌+◌, ◌-◌, ◌<◌, ◌≤◌, List, [], ◌∷◌, ◌++◌, length, length-append, get_or, refl, sym, ap, ◌∙◌, subst, inl, inr, add-one, arith}
+use Rattle.std.proofs.Common.{◌≡◌, ℕ, zero, suc, ◌+◌, ◌-◌, ◌<◌, ◌≤◌, List, [], ◌∷◌, ◌++◌, length, length-append, get_or, false, refl, sym, ap, ◌∙◌, subst, inl, inr, add-one, arith}
 use Rattle.std.proofs.lemmas.Bool.{cases_lt}
 use Rattle.std.proofs.lemmas.List.{get_or_append_left, get_or_push}
 use Rattle.std.proofs.lemmas.Grind.{common_steps}
 use Rattle.std.proofs.lemmas.List.Sums.{sum_by_push, sum_by-cons}
 use Rattle.atomic_table.specs.Seated.{TableId}
 use Rattle.progress_word.specs.declared.limits.TheConstants.{ALL_PARTS}
-use Rattle.batch_book.specs.Seats.{SeatState, parts_of}
+use Rattle.progress_word.specs.Watchers.{watcher_view}
+use Rattle.batch_book.specs.Seats.{SeatState, open_seat, parts_of}
 use Rattle.batch_book.specs.Exchanges.{new_seat, parts_at, AreNew}
+
+-- a seat that isn't the first has raised to nothing yet
+pub later_seat : (word : TableId) (start session : ℕ) → 0 < session → open_seat (watcher_view word start 0 1) session [] [] 1 false ≡ new_seat word start session 1
+later_seat word start session less = grind (arith, common_steps)
 
 -- the seats of the sessions from 1 to before this one are dealt, with one part each
 pub record AreDealt (word : TableId) (start session : ℕ) (seats : List SeatState) : Type 0 where

@@ -1,5 +1,5 @@
 -- What is noted of calls.
-use Rattle.std.proofs.Common.{◌≡◌, ℕ, ◌+◌, ◌≤◌, max, List, [], ◌∷◌, ◌++◌, Bool, true, false, true≢false, All, get_or, cond, nat_eq, if◌then◌else◌, Option, Some, None, Result, Ok, Err, IfOk, is_err, ◌||◌, refl, sym, ap, ◌∙◌, subst, arith, append_assoc, append-nil}
+use Rattle.std.proofs.Common.{◌≡◌, ℕ, ◌+◌, ◌≤◌, max, List, [], ◌∷◌, ◌++◌, Bool, true, false, true≢false, All, get_or, cond, nat_eq, if◌then◌else◌, Option, Some, None, Result, Ok, Err, IfOk, is_err, ◌||◌, refl, sym, ap, ap₂, ◌==◌, ◌∙◌, subst, arith, append_assoc, append-nil}
 use Rattle.std.proofs.lemmas.Bool.{or_left, or_right}
 use Rattle.std.proofs.lemmas.Grind.{flat_map-append}
 use Rattle.std.proofs.lemmas.List.Elements.{filter-append}
@@ -18,7 +18,7 @@ use Rattle.batch_book.specs.History.{Account, AreUnstopped, IsSound, Starts, ent
 use Rattle.batch_book.specs.Places.{LogAgrees, notes_of}
 use Rattle.batch_book.specs.Recording.{Applies, IsAnswered, Noted, asked_by, entry_if, entry_of, has_mark, made_by, made_in, mark, marks, note, noted, marked_in, value_made}
 use Rattle.batch_book.specs.Replies.{NeverFail, is_logged, outcome_in}
-use Rattle.batch_book.specs.Seats.{IsAsked, IsRecorded, Reaches, SeatState, open_seat, own}
+use Rattle.batch_book.specs.Seats.{IsAsked, IsRecorded, Reaches, SeatState, open_seat, own, raised_for}
 use Rattle.batch_book.specs.Values.{greatest, value_of}
 use Rattle.batch_book.proofs.Answering.{replied}
 use Rattle.batch_book.proofs.Fronts.{IsFront, starts, starts_same, starts_then}
@@ -138,6 +138,29 @@ greatest_more notes session place c (Err lost) = let same = ap (λ (ns : List No
 pub greatest_append : (earlier es : List Entry) → greatest (earlier ++ es) ≡ max (greatest earlier) (greatest es)
 greatest_append [] es = omega arith
 greatest_append (x ∷ earlier) es = let rest = greatest_append earlier es in omega (arith, rest)
+
+first_below : (earlier : List Entry) (b : Bool) → greatest (if b then earlier else []) ≤ greatest earlier
+first_below earlier true = omega arith
+first_below earlier false = omega arith
+
+-- a seat raises to no more than all entries tell of
+pub raised_below : (earlier : List Entry) (session : ℕ) (asked : List Entry) → greatest (raised_for earlier session asked) ≤ max (greatest earlier) (greatest asked)
+raised_below earlier session asked =
+    let first = first_below earlier (session == 0) in
+    let both = greatest_append (if session == 0 then earlier else []) asked in
+    omega (arith, first, both)
+
+-- what a seat has raised to, with a call more
+pub raised_more : (earlier : List Entry) (session by place after : ℕ) (notes list : List Noted) (c : Call) (r : Result Reply Unrecorded) (was now : ℕ)
+    → was ≡ greatest (raised_for earlier session (made_in notes)) → now ≡ max was (value_made r) → after ≡ session → list ≡ notes ++ noted by place c r
+    → now ≡ greatest (raised_for earlier after (made_in list))
+raised_more earlier session by place after notes list c r was now is next same grown =
+    let first : List Entry = if session == 0 then earlier else [] in
+    let before = greatest_append first (made_in notes) in
+    let behind = greatest_append first (made_in (notes ++ noted by place c r)) in
+    let more = greatest_more notes by place c r in
+    let all : now ≡ greatest (raised_for earlier session (made_in (notes ++ noted by place c r))) = omega (arith, is, next, before, behind, more) in
+    all ∙ ap₂ (λ (s : ℕ) (ns : List Noted). greatest (raised_for earlier s (made_in ns))) (sym same) (sym grown)
 
 -- ---- a session's own
 

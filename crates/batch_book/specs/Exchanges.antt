@@ -18,7 +18,7 @@ exchange_coded =
     (λ e. (e.word, (e.shape.modules, (e.shape.blocks, e.shape.words))))
     (λ p. record { word = p.0; shape = extent p.1.0 p.1.1.0 p.1.1.1 }) (λ _. refl)
 
--- a seat that has asked nothing, and seen where the word began
+-- a seat that has asked nothing, and seen where the word began; the first has raised it to that
 abbrev pub new_seat : TableId → ℕ → ℕ → ℕ → SeatState
 new_seat word start session parts =
     record {
@@ -27,6 +27,7 @@ new_seat word start session parts =
       asked = [];
       log = [];
       seen = start;
+      raised = if session == 0 then start else 0;
       parts = parts;
       broken = false;
     }

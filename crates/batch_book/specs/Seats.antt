@@ -1,5 +1,5 @@
 -- The seats of an exchange, and their lists.
-use Rattle.std.specs.Prelude.{◌≡◌, ℕ, ◌≤◌, max, ◌||◌, Bool, true, List, ◌++◌, length, sum_by, Option, Some, Result, Ok, Err, is_err}
+use Rattle.std.specs.Prelude.{◌≡◌, ℕ, ◌≤◌, ◌==◌, if◌then◌else◌, max, ◌||◌, Bool, true, List, [], ◌++◌, length, sum_by, Option, Some, Result, Ok, Err, is_err}
 use Rattle.atomic_table.specs.Seated.{TableId}
 use Rattle.progress_word.specs.Watchers.{WatcherView}
 use Rattle.own_lists.specs.Lists.{own_of}
@@ -9,16 +9,18 @@ use Rattle.batch_book.specs.declared.reply.Reply.{Reply}
 use Rattle.batch_book.specs.declared.unrecorded.Unrecorded.{Unrecorded}
 use Rattle.batch_book.specs.History.{Starts}
 use Rattle.batch_book.specs.Recording.{asked_by, value_made}
+use Rattle.batch_book.specs.Values.{greatest}
 
 -- What contracts see of a seat: the word of its exchange, its session, the list of what it asked,
--- and of that what could be told to it, the greatest value that it saw of the word, its parts, and
--- whether the record of its calls is broken, so that a reply was lost
+-- and of that what could be told to it, the greatest value that it saw of the word, that to which it
+-- raised the word, its parts, and whether the record of its calls is broken, so that a reply was lost
 pub record SeatState : Type 0 where
   pub exchange : Option TableId
   pub session : ℕ
   pub asked : List Entry
   pub log : List Entry
   pub seen : ℕ
+  pub raised : ℕ
   pub parts : ℕ
   pub broken : Bool
 
@@ -31,6 +33,7 @@ open_seat o session asked log parts broken =
       asked = asked;
       log = log;
       seen = o.seen;
+      raised = o.raised;
       parts = parts;
       broken = broken;
     }
@@ -58,6 +61,15 @@ pub record IsAsked (old : SeatState) (call : Call) (made : Result Reply Unrecord
 abbrev pub IsSettled : SeatState → Result (Unit {0}) Unrecorded → SeatState → Type 0
 IsSettled old (Ok done) new = new ≡ record old { log = old.asked }
 IsSettled old (Err lost) new = new ≡ record old { broken = true }
+
+-- the entries of whose runs a session's seat has told the word: what it asked, and for the first
+-- seat those too that the book had before
+abbrev pub raised_for : List Entry → ℕ → List Entry → List Entry
+raised_for earlier session asked = (if session == 0 then earlier else []) ++ asked
+
+-- the seat has raised the word to the greatest value of its own entries
+abbrev pub HasRaisedOwn : List Entry → SeatState → Type 0
+HasRaisedOwn earlier seat = seat.raised ≡ greatest (raised_for earlier seat.session seat.asked)
 
 -- the parts of these seats together
 abbrev pub parts_of : List SeatState → ℕ

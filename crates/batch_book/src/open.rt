@@ -295,7 +295,8 @@ fn deal<L: ExchangeName>(
     requires few { sessions ≤ MAX_SESSIONS }
     requires first { first.watcher
         ≡ watcher_view word.now first.watcher.seen first.watcher.raised ALL_PARTS }
-    requires raised { first.watcher.raised ≤ greatest L.earlier }
+    requires raised { first.watcher.raised ≡ greatest L.earlier }
+    requires seen { first.watcher.seen ≡ first.watcher.raised }
     requires amount { first.share.amount ≡ 0 }
     requires none_dealt { keeper.old.dealt ≡ 0 }
     requires history { keeper.old.history ≡ [] }

@@ -1,11 +1,11 @@
 //! A session's seat at an exchange.
 
-ghost use Rattle.std.specs.Prelude.{◌≡◌, ◌≤◌, ◌++◌, ◌∷◌, max, [], true, false, length, Some, IsSome};
+ghost use Rattle.std.specs.Prelude.{◌≡◌, ◌≤◌, ◌++◌, ◌∷◌, [], true, false, length, Some, IsSome};
 ghost use Rattle.batch_book.specs.Places.{are_up_to};
 ghost use Rattle.batch_book.specs.Recording.{made_in, mark, marked_in};
 ghost use Rattle.progress_word.specs.declared.limits.TheConstants.{ALL_PARTS};
 ghost use Rattle.batch_book.specs.Values.{greatest};
-ghost use Rattle.batch_book.specs.Seats.{open_seat};
+ghost use Rattle.batch_book.specs.Seats.{open_seat, raised_for};
 
 use crate::access::ExchangeAccess;
 use crate::naming::ExchangeName;
@@ -26,7 +26,7 @@ pub(crate) struct Place<L: ExchangeName> {
     pub(crate) broken: bool,
     pub(crate) ghost counted: { access.share.amount ≡ length (made_in own.list) },
     pub(crate) ghost highest: { access.watcher.raised
-        ≤ max (greatest L.earlier) (greatest (made_in own.list)) },
+        ≡ greatest (raised_for L.earlier own.session (made_in own.list)) },
     pub(crate) ghost low: { are_up_to last own.list ≡ true },
     pub(crate) ghost settled: { waits ≡ false → marked_in own.list ≡ made_in own.list },
 }
@@ -118,6 +118,7 @@ impl<L: ExchangeName> Model for Seat<L> {
       asked = option_map_or (λ p. made_in p.own.list) s.place [];
       log = option_map_or (λ p. marked_in p.own.list) s.place [];
       seen = option_map_or (λ p. p.access.watcher.seen) s.place 0;
+      raised = option_map_or (λ p. p.access.watcher.raised) s.place 0;
       parts = option_map_or (λ p. p.access.parts) s.place 0;
       broken = option_map_or (λ p. p.broken) s.place false;
     } };
@@ -133,7 +134,7 @@ impl<L: ExchangeName> Seat<L> {
         own: OwnList<NotedEntry, L>,
     ) -> Seat<L>
         requires amount { access.share.amount ≡ 0 }
-        requires raised { access.watcher.raised ≤ greatest L.earlier }
+        requires raised { access.watcher.raised ≡ greatest (raised_for L.earlier session []) }
         requires session { own.session ≡ session }
         requires list { own.list ≡ [] }
         ensures { result ≡ open_seat access.watcher session [] [] access.parts false }

@@ -2,7 +2,7 @@
 
 ghost use Rattle.std.specs.Prelude.{◌≡◌, ◌≤◌, ◌<◌, true, false, Some, IfOk, OnErr};
 ghost use Rattle.batch_book.specs.Answering.{IsReplyTo};
-ghost use Rattle.batch_book.specs.Seats.{IsSameSeat, IsAsked, IsSettled};
+ghost use Rattle.batch_book.specs.Seats.{IsSameSeat, IsAsked, IsSettled, HasRaisedOwn};
 ghost use Rattle.batch_book.specs.Values.{value_at};
 
 use crate::book_side::BookSide;
@@ -142,6 +142,7 @@ impl<L: ExchangeName, P: ConfigPort, W: WireMaker, G, H: History> Shared<L, P, W
         ensures reading { seat.new.seen ≡ value_at result.run result.done }
         ensures done { result.done < RUN_STEP }
         ensures later { seat.old.seen ≤ seat.new.seen }
+        ensures raised { HasRaisedOwn L.earlier seat.old × (seat.new.raised ≡ seat.old.raised) }
         ensures seat { IsSameSeat seat.old seat.new }
         ensures asked { seat.new.asked ≡ seat.old.asked }
         ensures log { seat.new.log ≡ seat.old.log }

@@ -1,7 +1,7 @@
 use Rattle.std.proofs.Common.{◌∙◌, ap, sym, arith}
 use Rattle.batch_book.specs.Recording.{made_in, marked_in}
 use Rattle.batch_book.specs.Values.{greatest}
-use Rattle.batch_book.proofs.Noting.{greatest_own, own_asked}
+use Rattle.batch_book.proofs.Noting.{greatest_own, own_asked, raised_below}
 use Rattle.batch_book.specs.Places.{notes_of}
 use Rattle.batch_book.proofs.close.compared.Goals as goal
 
@@ -21,4 +21,5 @@ returns-clause-raised g c =
     let notes = c.args.keeper.now.history in
     let own = ap greatest (ap made_in c.compare.ensures.list ∙ own_asked place.own.session notes) in
     let below = greatest_own place.own.session (made_in notes) in
-    omega (arith, place.highest, own, below)
+    let most = raised_below g.L.ExchangeName.earlier place.own.session (made_in place.own.list) in
+    omega (arith, place.highest, most, own, below)

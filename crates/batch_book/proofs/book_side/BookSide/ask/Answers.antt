@@ -1,8 +1,7 @@
 use Rattle.std.proofs.Common.{◌∙◌, ◌+◌, ◌++◌, ap, refl, sym, subst, length, length-append, true≢false, arith}
 use Rattle.batch_book.specs.History.{AreUnstopped}
 use Rattle.batch_book.specs.Recording.{made_in, noted}
-use Rattle.batch_book.specs.Values.{greatest}
-use Rattle.batch_book.proofs.Noting.{asked, greatest_more, grown_by, made_append}
+use Rattle.batch_book.proofs.Noting.{asked, grown_by, made_append, raised_more}
 use Rattle.batch_book.proofs.book_side.BookSide.ask.Goals as goal
 
 pub note_made-own-requires-clause-grown : goal.note_made-own-requires-clause-grown
@@ -66,10 +65,9 @@ invariant_of-result g c =
     let notes = t.own.list in
     let r = c.apply-made.result.0 in
     let counted = ap length (ap made_in e.list ∙ made_append notes _) ∙ length-append (made_in notes) _ in
-    let highest = ap (λ ns. greatest (made_in ns)) e.list ∙ greatest_more notes c.args.session (was.pushed + 1) c.of-asked.result.value r in
     record {
       counted = omega (arith, counted, e.amount, t.counted);
-      highest = omega (arith, highest, reaches.raised, t.highest);
+      highest = raised_more g.L.ExchangeName.earlier t.own.session c.args.session (was.pushed + 1) _ notes _ c.of-asked.result.value r _ _ t.highest reaches.raised (e.session ∙ sym c.requires.session) e.list;
       low = e.low;
       settled = λ never. absurd (true≢false never);
     }

@@ -2,8 +2,7 @@ use Rattle.std.proofs.Common.{◌∙◌, ◌++◌, ap, refl, sym, subst, length,
 use Rattle.batch_book.specs.History.{Starts}
 use Rattle.batch_book.specs.Places.{are_up_to}
 use Rattle.batch_book.specs.Recording.{made_in, noted, marked_in}
-use Rattle.batch_book.specs.Values.{greatest}
-use Rattle.batch_book.proofs.Noting.{asked, greatest_more, kept_more, made_append, told_more}
+use Rattle.batch_book.proofs.Noting.{asked, kept_more, made_append, raised_more, told_more}
 use Rattle.batch_book.proofs.Places.{low_noted}
 use Rattle.batch_book.proofs.locked.Locked.ask.Goals as goal
 
@@ -46,10 +45,9 @@ invariant_of-result g c =
     let notes = t.own.list in
     let r = c.apply-made.result.0 in
     let counted = ap length (ap made_in e.list ∙ made_append notes _) ∙ length-append (made_in notes) _ in
-    let highest = ap (λ ns. greatest (made_in ns)) e.list ∙ greatest_more notes c.args.session 0 c.of-asked.result.value r in
     record {
       counted = omega (arith, counted, e.amount, t.counted);
-      highest = omega (arith, highest, reaches.raised, t.highest);
+      highest = raised_more g.L.ExchangeName.earlier t.own.session c.args.session 0 _ notes _ c.of-asked.result.value r _ _ t.highest reaches.raised (e.session ∙ sym c.requires.session) e.list;
       low = ap (are_up_to t.last) e.list ∙ low_noted t.last notes c.args.session c.of-asked.result.value r t.low;
       settled = λ never. absurd (true≢false never);
     }
