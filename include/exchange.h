@@ -96,7 +96,7 @@ uint8_t exchange_plan_steady(const uint8_t *batch, size_t batch_bytes, uint8_t *
 uint8_t exchange_check(const uint8_t *batch, size_t batch_bytes, const uint8_t *schedule,
                        size_t schedule_bytes, uint8_t *out, size_t room, size_t *count);
 
-/* `exchange switch`: the bytes that set a C004, or both of a rack with more than 16 modules, for each setting of a
+/* `exchange switch`: the bytes that set a C004, or both where the batch names a module above 15, for each setting of a
  * schedule of the batch, with a certificate or without.
  *
  * With a `schedule_bytes` of 0 no schedule is given, and the bytes are those for the plan of `exchange_plan`. Then

@@ -307,7 +307,7 @@ def words_of(arguments):
     for name in "--steady", "--pause", "--tables", "--go-on":
         words.add_argument(name, action="store_true")
     words.add_argument("--from", dest="first", default="0")
-    words.add_argument("--switches", choices=["1", "2"])
+    words.add_argument("--switches", choices=["2"])
     words.add_argument("--patience", type=float)
     given = words.parse_args(arguments)
     if given.go_on:
@@ -355,12 +355,15 @@ def main():
     if given.image:
         with open(given.image, "rb") as file:
             image = file.read()
-    by_tables = read_switch(ask("switch", given.batch, *schedule, *wiring)) if given.tables else None
+    switches = ["--switches", given.switches] if given.switches else []
+    by_tables = read_switch(ask("switch", given.batch, *schedule, *wiring, *switches)) if given.tables else None
     if by_tables and not (given.first.isdecimal() and int(given.first) <= count):
         fail(f"--from {given.first} names no setting")
     cable = Cable(given.cable, given.patience)
     cable.find_modules()
     shape = cable.compare(count, due)
+    if by_tables and shape[0] > ON_ONE_SWITCH:
+        fail("--tables is for a board with one switch")
     if image is not None:
         if len(image) != size_of(shape):
             fail(f"{given.image} has {len(image)} bytes, and {shape[0]} modules of {shape[1]} blocks of {shape[2]} words have {size_of(shape)}")
@@ -369,7 +372,7 @@ def main():
     if by_tables:
         cable.move_by_tables(int(given.first), *by_tables)
     else:
-        ways = [SWITCH, SWITCH_B] if shape[0] > ON_ONE_SWITCH or given.switches == "2" else [SWITCH]
+        ways = [SWITCH, SWITCH_B] if shape[0] > ON_ONE_SWITCH or switches else [SWITCH]
         with tempfile.TemporaryDirectory(prefix="host-") as folder:
             drive = Drive(cable, folder, ways, given.batch, *schedule, *wiring, "--from", given.first)
             status = drive_all(cable, drive, given)

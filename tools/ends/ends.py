@@ -7,6 +7,7 @@ comes between an enquiry and its answer: there may be none.
 """
 
 import functools
+import itertools
 import os
 import random
 import select
@@ -130,9 +131,9 @@ def start_apart(words, **streams):
     return subprocess.Popen(words, **{"stdout": subprocess.PIPE, "stderr": subprocess.PIPE, **streams})
 
 
-def driven_at_c004(batch, *options, make=Pipes):
+def driven_at_c004(batch, *options, make=Pipes, switches=()):
     """What `drive` prints with `c004` at each port, and what these were sent and told."""
-    wanted = sent_for(batch, *(word for word in options if word != "--go-on"))
+    wanted = sent_for(batch, *switches, *(word for word in options if word != "--go-on"))
     tees = [Tee(make(f"port{n}"), begin_c004) for n in range(len(wanted))]
     ended = drive(batch, *(tee.way.port for tee in tees), *options)
     return (ended, [tee.heard() for tee in tees]), [(b"".join(sent), b"", 0) for sent in wanted]
@@ -150,11 +151,12 @@ def put_away(*ports):
 
 
 def examples():
-    """Each example."""
-    for batch in batches():
-        (ended, heard), wanted = driven_at_c004(batch, "--go-on")
+    """Each example, over as many ports as it needs, and over two."""
+    for batch, switches in itertools.product(batches(), [(), ("--switches", "2")]):
+        (ended, heard), wanted = driven_at_c004(batch, "--go-on", switches=switches)
         yield (batch, ended), (batch, all_driven(lines_for(batch)))
         yield (batch, heard), (batch, wanted)
+        yield (batch, switches and len(heard)), (batch, switches and 2)
         put_away("port0", "port1")
 
 
@@ -808,7 +810,7 @@ def at_a_file():
 def refuses():
     """Ports that aren't wanted or can't be opened, and texts. Nothing is made, opened or sent
     before."""
-    yield first_line(THREE, "one", "two"), ("refused ports 1", 1)
+    yield first_line(THREE, "one", "two"), ("refused port a", 1)
     yield first_line(WIDE, "one"), ("refused ports 2", 1)
     yield first_line(THREE, "none"), ("refused port a", 1)
     os.mkdir("folder")

@@ -98,6 +98,7 @@ CASES = [
     ("a block that is sent to itself", "2x4x2", ITSELF, "settings 2\nsetting 0\nsetting 1\n"),
     ("pulls", "3x4x2", PULLS, []),
     ("two switches", "17x2x2", read("wide-rack.txt"), []),
+    ("two switches, and a batch that needs one", "17x1x1", read("swap.txt"), []),
     ("no transfers", "2x1x1", "batch 0\n", []),
     ("no ring, links in turn", "3x2x2", read("three-transfers.txt"), ["--in-turn"]),
     ("a cable to slot 0", "3x2x2", read("three-transfers.txt"), ["--slot-0"]),
@@ -365,23 +366,7 @@ def refuses(room, line, front, *case, options=()):
     room.write(*case)
     run = room.rack(*options)
     told = room.end(run)
-    lines = told.splitlines()
-    room.expect(run.returncode == 1 and lines[0] == line and lines[1].startswith(front.format(room.path)), told)
-
-
-def needs_two(room):
-    """Notes whether a rack of 17 modules has two switches, also where the batch names no module above 15. A program that takes no second port
-    then refuses it."""
-    is_taken = b"refused ports" not in subprocess.run(
-        [room.program, "drive", f"{EXAMPLES}/swap.txt", "/dev/zero", "/dev/full", "--go-on"], capture_output=True, check=False
-    ).stdout
-    case = "17x1x1", read("swap.txt"), []
-    if is_taken:
-        is_moved(room, *case)
-    else:
-        room.write(*case)
-        told = room.end(room.rack())
-        room.expect("refused ports 1\n" in told and told.endswith("rack.py: host.py has ended with status 1\n"), told)
+    room.expect(run.returncode == 1 and told.startswith(f"{line}\n{front.format(room.path)}"), told)
 
 
 def goes(room, order, is_well, *case):
@@ -413,8 +398,8 @@ def compile_all(room, sources, *words):
     subprocess.run(["cc", *FLAGS, *words, f"-I{room.path}", f"-I{INMOS}", *sources, f"{INMOS}/rack.c", "-lpthread"], check=True)
 
 
-def is_moved_in_c(room, *case, by_tables=False):
-    """Notes whether a rack of modules in C leaves what the program says, and one whose relay in C sets the switch itself."""
+def is_moved_in_c(room, *case, by_tables=False, first=0):
+    """Notes whether a rack of modules in C leaves what the program says, and one whose relay in C sets the switch itself, from a setting on."""
     room.write(*case)
     count, blocks, size = map(int, case[0].split("x"))
     os.makedirs(room.at("modules"))
@@ -425,9 +410,9 @@ def is_moved_in_c(room, *case, by_tables=False):
         return is_moved(room, *case, options=["--modules", "modules"])
     Path(room.at("switch.h")).write_text(tables_of("switch_to_c", room.ask("switch", "batch", *room.options).decode()))
     compile_all(room, [f"{EXAMPLES}/board/relay.c"], "-DRELAY", "-o", room.at("relay"))
-    run = room.rack("--modules", "modules", "--relay", "relay", "--tables", "--image", "image", "--image-out", "left")
+    run = room.rack("--modules", "modules", "--relay", "relay", "--tables", "--from", str(first), "--image", "image", "--image-out", "left")
     told, moved = room.end(run), int(room.orders().split()[3])
-    wanted = "".join(f"moved setting {k}\n" for k in range(moved)) + f"moved settings {moved}\n"
+    wanted = "".join(f"moved setting {k}\n" for k in range(first, moved)) + f"moved settings {moved}\n"
     room.expect(run.returncode == 0 and told == wanted and room.is_left(), told)
     # The tables of another wiring are seen.
     room.pipes("cable")
@@ -758,11 +743,13 @@ def boards():
     for what, *case in IN_C:
         yield is_moved_in_c, f"in C: {what}", *case
     for what, *case in IN_C[:-1]:
-        yield by_tables, f"in C, by the board's own tables: {what}", *case
+        yield by_tables, f"in C, by the board's own tables: {what}", 0, *case
+    # Setting 0 moves nothing. Setting 1 needs what it joined.
+    yield by_tables, "in C, by the board's own tables, from setting 1 on", 1, "1x3x1", "batch 2\npush 0 0 0 0\npush 0 1 0 2\n", []
 
 
-def by_tables(room, *case):
-    is_moved_in_c(room, *case, by_tables=True)
+def by_tables(room, first, *case):
+    is_moved_in_c(room, *case, by_tables=True, first=first)
 
 
 def faults(totals):
@@ -796,6 +783,8 @@ def hosts():
     yield compares, "a module of another size", blocks, case, {1: size}
     yield compares, "an image of another size", "file has 0 bytes, and 3 modules of 2 blocks of 2 words have 48\n", case, {}, None, \
         ["--schedule", "schedule", "--image", "file"]
+    yield compares, "an image that is too long", f"host.py has {os.path.getsize(HOST)} bytes, and 3 modules of 2 blocks of 2 words have 48\n", case, {}, None, \
+        ["--schedule", "schedule", "--image", HOST]
     yield compares, "another number comes back", "host.py: 1 came back, and awaited was 0 from the modules, which have to do setting 0\n", \
         ("1x2x1", "batch 1\npush 0 0 0 1\n", []), {0: ERRS}
     yield host_says, "a plain file for a cable", "host.py: file is a plain file, and no cable\n", "file"
@@ -805,6 +794,7 @@ def hosts():
         "cable", "--go-on"
     yield host_says, "standard input", "host.py: no file is standard input: the program reads them more than once\n", "cable", "--wiring", "-"
     yield host_says, "a batch that is refused", "refused file\n", "cable", "--schedule", "missing"
+    yield host_says, "no such setting", "host.py: --from 3 names no setting\n", "cable", "--tables", "--from", "3"
     yield host_says, "no cable", "host.py: [Errno 2] No such file or directory: 'missing'\n", "missing"
 
 
@@ -815,7 +805,8 @@ def alone():
     yield refuses, "a batch of more modules", "refused no module 0", "exchange: batch:2: ", "1x1x1", "batch 1\npush 0 0 1 0\n", []
     unwired = "exchange: batch:2: link 0 of module 0; backwards:2 leaves it out"
     yield refuses, "a link that isn't on the switch", "refused no link 0", unwired, "3x2x2", "batch 1\npush 0 0 2 0\n", ["--wiring", "backwards"]
-    yield needs_two, "17 modules, of which the batch names two"
+    yield refuses, "a wiring, and two switches", "rack.py: a wiring is that of one switch, and 17 modules have two", "", "17x1x1", read("swap.txt"), \
+        ["--wiring", "wiring"]
     whole = b"".join(PARTS)
     yield carries, "words in parts", JOIN + SETTLE, 0, whole, ""
     yield carries, "words before the switch has settled", JOIN, 0, b"", LOOSE.format("link 0 of module 0")

@@ -81,6 +81,11 @@ HasSource rows (source.Text file) =
     HasOption (codes "schedule") rows (Some file) × (IsGiven (codes "steady") rows → ⊥)
     × (IsGiven (codes "workers") rows → ⊥)
 
+-- whether there are two switches: `--switches` excludes `--wiring`
+abbrev pub HasTwo : List Row → Bool → Type 0
+HasTwo rows false = IsGiven (codes "switches") rows → ⊥
+HasTwo rows true = IsGiven (codes "switches") rows × (IsGiven (codes "wiring") rows → ⊥)
+
 -- the file for the record of sessions: `--resume` and `--sync` are for such a file
 abbrev pub HasRecord : List Row → Option RecordFile → Type 0
 HasRecord rows None =
@@ -105,7 +110,7 @@ name_of (Plan file planning workers) = name.Plan
 name_of (Check batch schedule) = name.Check
 name_of (Draw batch schedule settings) = name.Draw
 name_of (Prices batch schedule) = name.Draw
-name_of (Switch batch source wiring workers) = name.Switch
+name_of (Switch batch source wiring has_two workers) = name.Switch
 name_of (Orders batch source of_module workers) = name.Orders
 name_of (Drive batch port port_b source wiring first goes_on workers) = name.Drive
 name_of C004 = name.C004
@@ -129,9 +134,9 @@ HasJob rows (Draw batch schedule settings) =
 HasJob rows (Prices batch schedule) =
     HasText (codes "BATCH") rows batch × HasText (codes "SCHEDULE") rows schedule
     × HasOption (codes "settings") rows None × IsGiven (codes "prices") rows
-HasJob rows (Switch batch source wiring workers) =
+HasJob rows (Switch batch source wiring has_two workers) =
     HasText (codes "BATCH") rows batch × HasSource rows source
-    × HasOption (codes "wiring") rows wiring × HasWorkers rows workers
+    × HasOption (codes "wiring") rows wiring × HasTwo rows has_two × HasWorkers rows workers
 HasJob rows (Orders batch source of_module workers) =
     HasText (codes "BATCH") rows batch × HasSource rows source
     × HasNumeral (codes "module") LAST_MODULE rows of_module × HasWorkers rows workers
@@ -234,7 +239,7 @@ files_of (Plan file planning workers) = of_list file None None
 files_of (Check batch schedule) = of_list batch (Some schedule) None
 files_of (Draw batch schedule settings) = of_list batch (Some schedule) None
 files_of (Prices batch schedule) = of_list batch (Some schedule) None
-files_of (Switch batch source wiring workers) = of_list batch (schedule_in source) wiring
+files_of (Switch batch source wiring has_two workers) = of_list batch (schedule_in source) wiring
 files_of (Orders batch source of_module workers) = of_list batch (schedule_in source) None
 files_of (Drive batch port port_b source wiring first goes_on workers) =
     of_list batch (schedule_in source) wiring

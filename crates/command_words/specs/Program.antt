@@ -9,7 +9,7 @@ use Rattle.clap.specs.declared.builder.action.ArgAction.TheVariants.{SetTrue}
 use Rattle.clap.specs.declared.builder.value_parser.ValueParser.TheVariants as parser
 use Rattle.exchange_limits.specs.declared.limits.TheConstants.{MAX_WORKERS}
 use Rattle.command_words.specs.declared.commands.Argument.{Argument}
-use Rattle.command_words.specs.declared.commands.Argument.TheVariants.{Shape, File, Batch, Schedule, Port, PortB, Moves, Image, Record, Scripts, Clients, Shaped, ImageIn, RecordOut, Resume, Sync, ImageOut, Settings, Prices, Scheduled, Wiring, First, Entries, Module, Steady, GoOn, Workers, Quiet}
+use Rattle.command_words.specs.declared.commands.Argument.TheVariants.{Shape, File, Batch, Schedule, Port, PortB, Moves, Image, Record, Scripts, Clients, Shaped, ImageIn, RecordOut, Resume, Sync, ImageOut, Settings, Prices, Scheduled, Wiring, Switches, First, Entries, Module, Steady, GoOn, Workers, Quiet}
 use Rattle.command_words.specs.declared.commands.CommandName.{CommandName}
 use Rattle.command_words.specs.declared.commands.CommandName.TheVariants.{Plan, Check, Draw, Switch, Orders, Drive, C004, Direct, Apply, Run, Serve, Host, Talk, Replay}
 use Rattle.command_words.specs.declared.limits.TheConstants.{LAST_MODULE, MAX_CLIENTS, MAX_NUMBER}
@@ -61,6 +61,7 @@ rule_for Settings = option (codes "settings")
 rule_for Prices = flag (codes "prices")
 rule_for Scheduled = option (codes "schedule")
 rule_for Wiring = option (codes "wiring")
+rule_for Switches = number_option (codes "switches") 2 2
 rule_for First = record (number_option (codes "from") 0 MAX_NUMBER) { defaults = codes "0" ∷ [] }
 rule_for Entries = number_option (codes "first") 0 MAX_NUMBER
 rule_for Module = number_option (codes "module") 0 LAST_MODULE
@@ -83,7 +84,7 @@ sheet_of Plan = (codes "plan", File ∷ Steady ∷ Workers ∷ Quiet ∷ [])
 sheet_of Check = (codes "check", Batch ∷ Schedule ∷ Quiet ∷ [])
 sheet_of Draw = (codes "draw", Batch ∷ Schedule ∷ Settings ∷ Prices ∷ Quiet ∷ [])
 sheet_of Switch =
-    (codes "switch", Batch ∷ Scheduled ∷ Steady ∷ Workers ∷ Wiring ∷ Quiet ∷ [])
+    (codes "switch", Batch ∷ Scheduled ∷ Steady ∷ Workers ∷ Wiring ∷ Switches ∷ Quiet ∷ [])
 sheet_of Orders =
     (codes "orders", Batch ∷ Scheduled ∷ Steady ∷ Workers ∷ Module ∷ Quiet ∷ [])
 sheet_of Drive = (

@@ -74,6 +74,8 @@ pub(crate) enum Argument {
     Scheduled,
     /// `--wiring FILE`.
     Wiring,
+    /// `--switches 2`.
+    Switches,
     /// `--from K`.
     First,
     /// `--first E`.
@@ -130,7 +132,7 @@ impl CommandName {
         use Argument::{
             Batch, Clients, Entries, File, First, GoOn, Image, ImageIn, ImageOut, Module, Moves,
             Port, PortB, Prices, Quiet, Record, RecordOut, Resume, Schedule, Scheduled, Scripts,
-            Settings, Shape, Shaped, Steady, Sync, Wiring, Workers,
+            Settings, Shape, Shaped, Steady, Switches, Sync, Wiring, Workers,
         };
         match self {
             Self::Plan => ("plan", &[File, Steady, Workers, Quiet], &PLAN),
@@ -138,7 +140,7 @@ impl CommandName {
             Self::Draw => ("draw", &[Batch, Schedule, Settings, Prices, Quiet], &DRAW),
             Self::Switch => (
                 "switch",
-                &[Batch, Scheduled, Steady, Workers, Wiring, Quiet],
+                &[Batch, Scheduled, Steady, Workers, Wiring, Switches, Quiet],
                 &SWITCH,
             ),
             Self::Orders => (

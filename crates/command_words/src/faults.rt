@@ -23,6 +23,8 @@ pub(crate) enum Lack {
     Planning,
     /// A choice between a schedule's file and these.
     Source,
+    /// A choice between `--switches` and `--wiring`, which is that of one.
+    Switches,
     /// A choice between `--prices` and `--settings`, which is for a picture.
     Picture,
     /// A record that `--resume` or `--sync` is for.
@@ -50,6 +52,7 @@ impl Lack {
             Lack::Word => "a word is missing",
             Lack::Planning => "`--steady` plans with one worker: leave `--workers` out",
             Lack::Source => "`--schedule` excludes `--steady` and `--workers`",
+            Lack::Switches => "`--wiring` is for a board with one switch: leave `--switches` out",
             Lack::Picture => "`--prices` excludes `--settings`",
             Lack::Record => "`--resume` and `--sync` are for `--record`",
             Lack::Clients => "a client's name is empty or has a line feed",

@@ -71,6 +71,9 @@ fn arg_of<'a>(alloc: Global, argument: Argument) -> Arg<'a>
         Argument::Prices => flag(alloc, "prices", help),
         Argument::Scheduled => option(alloc, "schedule", "FILE", help),
         Argument::Wiring => option(alloc, "wiring", "FILE", help),
+        Argument::Switches => option(alloc, "switches", "2", help).value_parser(value_parser!(
+            u8
+        ).range(2..=2)),
         Argument::First => option(alloc, "from", "K", help)
             .value_parser(value_parser!(u32).range(0..=MAX_NUMBER as i64))
             .default_value("0"),

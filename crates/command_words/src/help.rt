@@ -162,8 +162,8 @@ link of an INMOS C004, setting by setting, as pairs of hexadecimal digits:
   setting S 04 ..   the first setting's set a switch, whatever it was, and each
                     later one's change the switch of the setting before
 Link 0 of module m is on link m of the switch, and link 3 on link 16+m. Where
-BATCH names a module above 15, there are two switches, with both links of module
-m on link m of each, and each setting has two lines:
+BATCH names a module above 15, and with --switches 2, there are two switches,
+with both links of module m on link m of each, and each setting has two lines:
   setting S a ..    the switch of the way from link 0 to link 3
   setting S b ..    the switch of the way back
 A run has two switches where its rack has more than 16 modules, whatever BATCH
@@ -175,7 +175,8 @@ for each of its N modules, by rising numbers, and one before them:
                                      switch, and link 3 on link B
 with N from 1 to 16, M from 0 to 15, and links from 0 to 31, each of them once.
 A module that isn't there has no line. Where a link of one is on no link of the
-switch, write `none` in place of `at A`.
+switch, write `none` in place of `at A`. --wiring and --switches exclude each
+other.
 Two transfers that write one block, which a run refuses, are named on standard
 error.
 
@@ -237,12 +238,12 @@ Example: a driver and a switch of this program, with two pipes between them:
   ./exchange drive examples/three-transfers.txt out/board --go-on",
     notes: "\
 BATCH is a batch text, in the form that `exchange plan --help` shows.
-`exchange switch --help` says which schedule of it is driven, when there are two
-switches, and what --wiring is. PORT is the way to the only switch, or to switch
-a, and PORT_B that to switch b: a device of a link adaptor, which is opened to
-read and write; or, where PORT.in and PORT.out are there, two named pipes, of
-which PORT.in goes to the switch. It is opened first, and each pipe waits for
-its other end.
+`exchange switch --help` says which schedule of it is driven, what two switches
+are, and what --wiring is. PORT is the way to the only switch, or to switch a,
+and PORT_B that to switch b: a device of a link adaptor, which is opened to read
+and write; or, where PORT.in and PORT.out are there, two named pipes, of which
+PORT.in goes to the switch. It is opened first, and each pipe waits for its
+other end.
 
 First each switch comes up: a command that was begun is ended, the switch is
 reset, and up to 31 old answers that are on their way are read. Then, setting by
@@ -273,7 +274,7 @@ Else nothing is sent, and the answer is the first of these that is wrong:
   refused ..              a file, as `exchange switch --help` shows
   refused no setting K    --from names setting K, which the schedule doesn't have
   refused ports W         W ports are needed: 2 where BATCH names a module above
-                          15, else 1
+                          15, and 1 with --wiring
   refused port a          PORT can't be opened, or is a plain file with something
                           in it; `port b`: PORT_B
 
@@ -652,6 +653,7 @@ pub(crate) fn help_on(argument: Argument) -> &'static str {
         Argument::Prices => "Print prices that show how many changes are needed, and no picture",
         Argument::Scheduled => "The file of its schedule, or - for standard input",
         Argument::Wiring => "The file of the board's wiring, or - for standard input",
+        Argument::Switches => "There are two switches, whatever modules BATCH names",
         Argument::First => "The setting of the schedule to begin with, counted from 0",
         Argument::Module => "The module whose orders to print, from 0 to 31",
         Argument::Steady => "Plan so that the switch changes seldom",

@@ -40,12 +40,14 @@ pub enum Job {
         batch: Text,
         schedule: Text,
     },
-    /// Tell what a run of a schedule of the batch of a file sends the switches, or the one switch
-    /// of a board whose wiring a file has. So many workers plan.
+    /// Tell what a run of a schedule of the batch of a file sends the switches, which may be two
+    /// where the batch needs one, or the one switch of a board whose wiring a file has. So many
+    /// workers plan.
     Switch {
         batch: Text,
         source: Source<Text>,
         wiring: Option<Text>,
+        has_two: bool,
         workers: WorkerCount,
     },
     /// Tell what each module does in the settings of a schedule of the batch of a file, or what one

@@ -3,7 +3,7 @@
 ghost use Rattle.std.specs.Prelude.{◌≢◌, ◌↔◌, IfErr, IfOk, IsTrue, OnOk, Some, codes};
 ghost use Rattle.command_words.specs.declared.limits.TheConstants.{MAX_NUMBER};
 ghost use Rattle.command_words.specs.declared.faults.Lack.TheVariants.{Memory};
-ghost use Rattle.command_words.specs.Jobs.{AskFor, HasNumeral, HasOption, HasPlanning, HasServed, HasRack, HasRecord, HasSource, HasText, HasWorkers, GivesRequest, IsFaultIn, IsGiven, IsJob, IsReading, IsRequest, IsTaken, IsWithinLimits, MayBeDone, rows_in, texts_of};
+ghost use Rattle.command_words.specs.Jobs.{AskFor, HasNumeral, HasOption, HasPlanning, HasServed, HasRack, HasRecord, HasSource, HasText, HasTwo, HasWorkers, GivesRequest, IsFaultIn, IsGiven, IsJob, IsReading, IsRequest, IsTaken, IsWithinLimits, MayBeDone, rows_in, texts_of};
 
 use crate::commands::CommandName;
 use crate::faults::{Lack, fault_of};
@@ -190,6 +190,17 @@ fn draw_of(alloc: Global, found: &ArgMatches<'_>) -> Result<Job, Lack>
     })
 }
 
+/// Whether there are two switches.
+fn has_two(matches: &ArgMatches<'_>) -> Result<bool, Lack>
+    ensures { IsReading (HasTwo (rows_in matches.now)) result }
+{
+    match (is_given(matches, "switches"), is_given(matches, "wiring")) {
+        (false, _) => Ok(false),
+        (true, false) => Ok(true),
+        (true, true) => Err(Lack::Switches),
+    }
+}
+
 /// The job of `switch`.
 fn switch_of(alloc: Global, found: &ArgMatches<'_>) -> Result<Job, Lack>
     ensures { IsReading (IsJob CommandName.Switch (rows_in found.now)) result }
@@ -198,6 +209,7 @@ fn switch_of(alloc: Global, found: &ArgMatches<'_>) -> Result<Job, Lack>
         batch: text_of(alloc, found, "BATCH")?,
         source: source_of(alloc, found)?,
         wiring: option_of(alloc, found, "wiring")?,
+        has_two: has_two(found)?,
         workers: workers_of(found)?,
     })
 }
@@ -380,9 +392,10 @@ fn judge(alloc: Global, job: &Job) -> Result<(), Lack>
 /// texts and its number of workers, and whether it is quiet. Other arguments are clap's error of
 /// what is at fault in them, which holds the text to print; a demand for help or for the program's
 /// version is one. So are arguments that fit, but give two of `--workers`, `--steady` and
-/// `--schedule`, or `--prices` with `--settings`, or `--resume` or `--sync` without `--record`, or
-/// name a job of which several files are `-`, standard input, clients whose names are no names, or a
-/// file to be written that is read or written too, or that is `-`.
+/// `--schedule`, or `--prices` with `--settings`, or `--switches` with `--wiring`, or `--resume` or
+/// `--sync` without `--record`, or name a job of which several files are `-`, standard input,
+/// clients whose names are no names, or a file to be written that is read or written too, or that
+/// is `-`.
 /// Where there was no memory, nothing is said about the arguments: clap's error of that kind is
 /// [`ArgumentsFault::NoMemory`], too.
 pub fn read_arguments(alloc: Global, arguments: &[String]) -> Result<Request, ArgumentsFault>

@@ -15,7 +15,7 @@ use Rattle.board_wiring.specs.declared.board.Board.{Board}
 use Rattle.crossbar.specs.declared.board.BoardWiring.{BoardWiring}
 use Rattle.plan_answers.specs.Schedules.{IsScheduleFrom}
 use Rattle.plan_answers.specs.declared.source.Source.{Source}
-use Rattle.drive_answers.specs.Answers.{HasFailed, HasFailedOver, HasPortFailed, IsDrivenOver, rack_for}
+use Rattle.drive_answers.specs.Answers.{HasFailed, HasFailedOver, HasPortFailed, IsDrivenOver, is_wide_over, rack_for}
 use Rattle.drive_answers.specs.declared.fault.DriveFault.{DriveFault}
 use Rattle.drive_answers.specs.declared.fault.DriveFault.TheVariants.{Untold as NotTold, NoMemory}
 use Rattle.drive_answers.specs.Ways.{Names, Ways, given_back, opened_by}
@@ -42,7 +42,7 @@ driven_over hears seen rack batch settings first how names was opened opens old 
 
 -- where there is no answer, of a schedule of the batch that the text denotes
 pub failed : {S : Type 0} (hears : Hearing S) (source : Source (List ℕ)) (text : List ℕ) (wiring : Option (List ℕ)) (first : ℕ) (names : Names) (was opens : Ways) (told tells : S) (board : Option Board) (filled : Option BoardWiring) (batch : List Transfer) (settings : List (List ℕ))
-    → IsBoardOf wiring board → IsScheduleFrom source widest text batch settings → HasWaysOn board batch → IsFilled board filled → (fault : DriveFault) → HasFailedOver hears (rack_for filled batch) batch settings first names was opens told tells fault
+    → IsBoardOf wiring board → IsScheduleFrom source widest text batch settings → HasWaysOn board batch → IsFilled board filled → (fault : DriveFault) → HasFailedOver hears (rack_for filled (is_wide_over names batch)) batch settings first names was opens told tells fault
     → HasFailed hears source text wiring first names was opens told tells fault
 failed hears source text wiring first names was opens told tells board filled batch settings is_board from has fills NotTold over = (board, filled, batch, settings, is_board, from, has, fills, over)
 failed hears source text wiring first names was opens told tells board filled batch settings is_board from has fills NoMemory over = over

@@ -11,7 +11,7 @@ use Rattle.switch_driver.specs.declared.driving.Driven.TheVariants.{Halted}
 use Rattle.switch_driver.specs.declared.stage.Halt.TheVariants as halt
 use Rattle.switch_driver.specs.declared.lines.Lines.{Lines}
 use Rattle.switch_settings.specs.declared.rack_wiring.RackWiring.{RackWiring}
-use Rattle.drive_answers.specs.Answers.{rack_for, IsDrivenOver, IsTried, driven, unopened, IsDriveAnswer, tried, wrong, HasFailed}
+use Rattle.drive_answers.specs.Answers.{is_wide_over, rack_for, IsDrivenOver, IsTried, driven, unopened, IsDriveAnswer, tried, wrong, HasFailed}
 use Rattle.drive_answers.specs.Ways.{Names, Ways}
 use Rattle.drive_answers.specs.declared.fault.DriveFault.{DriveFault}
 use Rattle.drive_answers.specs.declared.fault.DriveFault.TheVariants.{Untold, NoMemory}
@@ -48,7 +48,7 @@ pub told_answer : {I O : Type 0} (remaining : I → Option (List ℕ)) (contents
     → IsDriveAnswer (λ a n ns c b. HasToldLine remaining contents n ns c a b) source batch_text wiring first names was opens told tells printed
     → AsText remaining contents told tells (λ d. IsDriveAnswer (TellsLine told.waits) source batch_text wiring first names was opens (untold remaining told) d printed)
 told_answer {I} {O} remaining contents source batch_text wiring first names was opens told tells printed (tried board filled batch settings is_board from has fills start is) =
-    let so = told_tried remaining contents (rack_for filled batch) batch settings first names was opens told tells printed is in
+    let so = told_tried remaining contents (rack_for filled (is_wide_over names batch)) batch settings first names was opens told tells printed is in
     record { text = so.text; appended = so.appended; loan = so.loan; waits = so.waits; is = tried board filled batch settings is_board from has fills start so.is }
 told_answer {I} {O} remaining contents source batch_text wiring first names was opens told tells printed (wrong refusal why refused same none) =
     none_told remaining contents told tells _ same (wrong refusal why refused refl none)
@@ -58,7 +58,7 @@ pub told_failure : {I O : Type 0} (remaining : I → Option (List ℕ)) (content
     → HasFailed (λ a n ns c b. HasToldLine remaining contents n ns c a b) source batch_text wiring first names was opens told tells fault
     → AsText remaining contents told tells (λ d. HasFailed (TellsLine told.waits) source batch_text wiring first names was opens (untold remaining told) d fault)
 told_failure {I} {O} remaining contents source batch_text wiring first names was opens told tells Untold (board, filled, batch, settings, is_board, from, has, fills, (k, over)) =
-    let so = told_over remaining contents (rack_for filled batch) batch settings first (Halted k halt.Untold) names was opens told tells over in
+    let so = told_over remaining contents (rack_for filled (is_wide_over names batch)) batch settings first (Halted k halt.Untold) names was opens told tells over in
     record { text = so.text; appended = so.appended; loan = so.loan; waits = so.waits; is = (board, filled, batch, settings, is_board, from, has, fills, (k, so.is)) }
 told_failure {I} {O} remaining contents source batch_text wiring first names was opens told tells NoMemory (same, none) =
     none_told remaining contents told tells _ same (refl, none)

@@ -13,7 +13,7 @@ use Rattle.switch_driver.specs.Hearings.{Hearing}
 use Rattle.switch_driver.specs.declared.stage.Halt.{Halt}
 use Rattle.switch_driver.specs.declared.stage.Halt.TheVariants.{Untold}
 use Rattle.switch_settings.specs.declared.rack_wiring.RackWiring.{RackWiring}
-use Rattle.drive_answers.specs.Answers.{rack_for, IsDrivenOver, IsTried, driven, unopened, IsDriveAnswer, tried, wrong, HasFailed}
+use Rattle.drive_answers.specs.Answers.{is_wide_over, rack_for, IsDrivenOver, IsTried, driven, unopened, IsDriveAnswer, tried, wrong, HasFailed}
 use Rattle.drive_answers.specs.Ways.{Names, Ways}
 use Rattle.drive_answers.specs.declared.drive_end.DriveEnd.{DriveEnd}
 use Rattle.drive_answers.specs.declared.fault.DriveFault.{DriveFault}
@@ -68,7 +68,7 @@ module _ (S I O : Type 0) (remaining : I → Option (List ℕ)) (contents : O �
   answer_so : (source : Source (List ℕ)) (text : List ℕ) (wiring : Option (List ℕ)) (first : ℕ) (names : Names) (was opens : Ways) (told tells : S) (printed : Printed)
       → IsDriveAnswer hears source text wiring first names was opens told tells printed → IsDriveAnswer (λ a n ns c b. HasToldLine remaining contents n ns c a b) source text wiring first names was opens (lines told) (lines tells) printed × becomes told tells
   answer_so source text wiring first names was opens told tells printed (tried board filled batch settings is_board from has fills start is) =
-      let so = tried_so (rack_for filled batch) batch settings first names was opens told tells printed is in
+      let so = tried_so (rack_for filled (is_wide_over names batch)) batch settings first names was opens told tells printed is in
       (tried board filled batch settings is_board from has fills start so.0, so.1)
   answer_so source text wiring first names was opens told tells printed (wrong refusal why refused same none) =
       rw same (wrong refusal why refused refl none, t.none told)
@@ -76,7 +76,7 @@ module _ (S I O : Type 0) (remaining : I → Option (List ℕ)) (contents : O �
   failure_so : (source : Source (List ℕ)) (text : List ℕ) (wiring : Option (List ℕ)) (first : ℕ) (names : Names) (was opens : Ways) (told tells : S) (fault : DriveFault)
       → HasFailed hears source text wiring first names was opens told tells fault → HasFailed (λ a n ns c b. HasToldLine remaining contents n ns c a b) source text wiring first names was opens (lines told) (lines tells) fault × becomes told tells
   failure_so source text wiring first names was opens told tells UntoldLine (board, filled, batch, settings, is_board, from, has, fills, (k, over)) =
-      let so = over_so (rack_for filled batch) batch settings first (Halted k Untold) names was opens told tells over in
+      let so = over_so (rack_for filled (is_wide_over names batch)) batch settings first (Halted k Untold) names was opens told tells over in
       ((board, filled, batch, settings, is_board, from, has, fills, (k, so.0)), so.1)
   failure_so source text wiring first names was opens told tells NoMemory (same, none) =
       rw same ((refl, none), t.none told)

@@ -1,6 +1,6 @@
 -- What `drive` answers: how the settings of a schedule were put on the switches of a rack, over
 -- ports of these names, which were opened for them.
-use Rattle.std.specs.Prelude.{◌≡◌, ◌<◌, ◌⊎◌, ℕ, List, [], length, Option, Some, None, if◌then◌else◌, nat_lt}
+use Rattle.std.specs.Prelude.{◌≡◌, ◌<◌, ◌⊎◌, ◌==◌, ◌||◌, ℕ, Bool, List, [], length, Option, Some, None, if◌then◌else◌, nat_lt}
 use Rattle.batch.specs.Extent.{widest}
 use Rattle.batch.specs.declared.transfer.Transfer.{Transfer}
 use Rattle.board_wiring.specs.Boards.{IsBoardOf, IsFilled, IsMiswired}
@@ -36,11 +36,16 @@ use Rattle.drive_answers.specs.Ways.{IsUnopened, Names, Ways, how_many, used}
 abbrev pub IsStart : ℕ → List (List ℕ) → Type 0
 IsStart first settings = (first ≡ 0) ⊎ (first < length settings)
 
+-- a rack that is driven over ports of these names has two switches, if it is wired as usual: there
+-- are two ports, or the batch needs two
+abbrev pub is_wide_over : Names → List Transfer → Bool
+is_wide_over names batch = how_many names == 2 || is_wide batch
+
 -- the rack that a batch is driven on: a board of this wiring, where there is one, and else the
--- modules that as many switches join as the batch needs
-abbrev pub rack_for : Option BoardWiring → List Transfer → RackWiring
-rack_for None batch = Usual (joined_by (is_wide batch))
-rack_for (Some wiring) batch = Own wiring
+-- modules that two switches join, or one
+abbrev pub rack_for : Option BoardWiring → (wide : Bool) → RackWiring
+rack_for None wide = Usual (joined_by wide)
+rack_for (Some wiring) wide = Own wiring
 
 -- how many switches a rack has
 abbrev pub switches_in : RackWiring → ℕ
@@ -116,8 +121,8 @@ pub data IsDriveAnswer {S : Type 0} (hears : Hearing S)
       (settings : List (List ℕ))
       → IsBoardOf wiring board → IsScheduleFrom source widest text batch settings
       → HasWaysOn board batch → IsFilled board filled → IsStart first settings
-      → IsTried hears (rack_for filled batch) batch settings first names was opens told tells
-      printed
+      → IsTried hears (rack_for filled (is_wide_over names batch)) batch settings first names was
+      opens told tells printed
       → IsDriveAnswer hears source text wiring first names was opens told tells printed
   wrong : (refusal : Refusal) → IsFirstDriveWrong source text wiring first refusal
       → Refuses refusal printed → tells ≡ told → opens ≡ was
@@ -131,7 +136,7 @@ HasFailed {S} hears source text wiring first names was opens told tells Untold =
     × (settings : List (List ℕ))
     × IsBoardOf wiring board × IsScheduleFrom source widest text batch settings
     × HasWaysOn board batch × IsFilled board filled
-    × HasFailedOver hears (rack_for filled batch) batch settings first names was opens told tells
-    Untold
+    × HasFailedOver hears (rack_for filled (is_wide_over names batch)) batch settings first names
+    was opens told tells Untold
 HasFailed {S} hears source text wiring first names was opens told tells NoMemory =
     (tells ≡ told) × (opens ≡ was)

@@ -11,7 +11,7 @@ ghost use Rattle.refusals.specs.declared.refusal.Refusal.TheVariants.{NoSetting}
 ghost use Rattle.plan_answers.specs.Schedules.{said_by};
 ghost use Rattle.switch_settings.specs.RackWirings.{wired_in};
 ghost use Rattle.switch_settings.specs.Racks.{HasModulesOf, joined_by};
-ghost use Rattle.drive_answers.specs.Answers.{rack_for, switches_in, IsStart, IsTried, HasFailedOver, IsDriveAnswer, HasFailed};
+ghost use Rattle.drive_answers.specs.Answers.{is_wide_over as wide_over, rack_for, switches_in, IsStart, IsTried, HasFailedOver, IsDriveAnswer, HasFailed};
 ghost use Rattle.drive_answers.specs.Ways.{names_of};
 
 use crate::drive_end::DriveEnd;
@@ -45,16 +45,27 @@ fn modules_of(wide: bool) -> usize
     }
 }
 
-/// The rack that a batch is driven on. A wiring has all modules that the batch names.
-fn rack_of(wiring: &Option<BoardWiring>, batch: &Batch) -> RackWiring
+/// Whether a rack that is wired as usual has two switches, where the batch is driven over these
+/// ports: they are two, or the batch names a module that one doesn't join.
+fn is_wide_over(names: PortNames<'_>, batch: &Batch) -> bool
+    ensures wide { result ≡ wide_over (names_of names.entry) batch.now }
+    ensures modules { HasModulesOf (joined_by result) batch.now }
+{
+    let transfers = batch.as_slice();
+    names.count() == 2 || is_wide(transfers)
+}
+
+/// The rack that a batch is driven on over these ports. A wiring has all modules that the batch
+/// names.
+fn rack_of(wiring: &Option<BoardWiring>, names: PortNames<'_>, batch: &Batch) -> RackWiring
     requires { IfSome wiring.now (λ wiring. HasModulesOf (length (links_of wiring)) batch.now) }
-    ensures rack { result ≡ rack_for wiring.now batch.now }
+    ensures rack { result ≡ rack_for wiring.now (wide_over (names_of names.entry) batch.now) }
     ensures few { wired_in result ≤ MOST }
     ensures modules { HasModulesOf (wired_in result) batch.now }
 {
     match wiring {
         Some(wiring) => RackWiring::Own(*wiring),
-        None => RackWiring::Usual(modules_of(is_wide(batch.as_slice()))),
+        None => RackWiring::Usual(modules_of(is_wide_over(names, batch))),
     }
 }
 
@@ -160,9 +171,9 @@ fn no_setting(alloc: Global, first: usize, schedule: &Schedule) -> Result<DriveE
 /// port failed, `stopped setting K switch O` where that output is the first that doesn't reply what
 /// setting K calls for, and `stopped setting K input` where setting K stands, and it can't be heard
 /// whether another is wanted; or `left setting K` where the stage wants no other. K and S are the
-/// schedule's numbers. The rack has two switches where the batch names a module above 15. The batch
-/// is read against the widest shape. So many workers make a plain plan. Want of memory comes before
-/// a port is opened.
+/// schedule's numbers. The rack has two switches where two ports are named, or where the batch names
+/// a module above 15. The batch is read against the widest shape. So many workers make a plain plan.
+/// Want of memory comes before a port is opened.
 ///
 /// Where there is a text of a board's wiring, the settings are put on the board's one switch, and O
 /// is its output's own number. That text is looked at first, and `refused wiring line N` tells its
@@ -200,7 +211,7 @@ pub fn answer_drive<R: Threads + Sync, Q: Ports, S: Stage>(
             if !is_start(first, schedule) {
                 return no_setting(alloc, first, schedule);
             }
-            let rack = rack_of(&wiring_of(&board), batch);
+            let rack = rack_of(&wiring_of(&board), names, batch);
             drive_over(
                 alloc, &board, rack, batch, schedule, first, names, ports, stage,
             )

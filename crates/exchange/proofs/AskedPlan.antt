@@ -85,9 +85,9 @@ switch_taken : IsTaken switch_words
 unfolding faults_of walk_fault walked defaults_fault
 switch_taken = refl
 
-switch_gives : GivesRequest switch_words (asked (SwitchJob (codes "b") (source.Plan Plain) None 1))
+switch_gives : GivesRequest switch_words (asked (SwitchJob (codes "b") (source.Plan Plain) None false 1))
 unfolding walked
-switch_gives = record { calls = refl; job = (refl, (refl, (λ given. let bad = given in absurd (cc))), refl, (((omega arith, (omega arith, tt)), refl, omega arith), omega arith)); quiet = ((λ bad. absurd (cc)), (λ given. let bad = given in absurd (cc))) }
+switch_gives = record { calls = refl; job = (refl, (refl, (λ given. let bad = given in absurd (cc))), refl, (λ given. let bad = given in absurd (cc)), (((omega arith, (omega arith, tt)), refl, omega arith), omega arith)); quiet = ((λ bad. absurd (cc)), (λ given. let bad = given in absurd (cc))) }
 
 abbrev orders_words : List Text
 orders_words = words_of (codes "orders" ∷ codes "b" ∷ [])
@@ -223,7 +223,7 @@ prices_may = record {
   clients = λ k d lt. absurd (omega (arith, lt));
 }
 
-switch_may : MayBeDone (SwitchJob (codes "b") (source.Plan Plain) None 1)
+switch_may : MayBeDone (SwitchJob (codes "b") (source.Plan Plain) None false 1)
 switch_may = record {
   files = record { each = All-from_recursion MayHaveName (file Read (codes "b") ∷ []) ((λ bad. absurd bad), tt); apart = (AllPairs-cons HaveTwoNames (file Read (codes "b")) ([]) (All-from_recursion (HaveTwoNames (file Read (codes "b"))) ([]) tt) none_apart) };
   clients = λ k d lt. absurd (omega (arith, lt));

@@ -47,15 +47,15 @@ gave_up run why.NoMemory prints = inl prints
 abbrev pub IsEither : ℕ → Type 0
 IsEither status = (status ≡ DONE) ⊎ (status ≡ REFUSED)
 
-switched : (from : Source (List ℕ)) (text : List ℕ) (board : Option Board) (printed : Printed) → IsSwitched from board text printed → IsEither printed.status
-switched from text board printed (switching.switched filled transfers settings is ways fills tells) = inl tells.1
-switched from text board printed (switching.lacking refusal lacks line) = inr line.status
-switched from text board printed (switching.wrong refusal wrong has line) = inr line.status
+switched : (from : Source (List ℕ)) (has_two : Bool) (text : List ℕ) (board : Option Board) (printed : Printed) → IsSwitched from has_two board text printed → IsEither printed.status
+switched from has_two text board printed (switching.switched filled transfers settings is ways fills tells) = inl tells.1
+switched from has_two text board printed (switching.lacking refusal lacks line) = inr line.status
+switched from has_two text board printed (switching.wrong refusal wrong has line) = inr line.status
 
-switched_on : (from : Source (List ℕ)) (text : List ℕ) (wiring : Option (List ℕ)) (printed : Printed) → IsOn (λ board. IsSwitched from board text) wiring printed → IsEither printed.status
-switched_on from text None printed is = switched from text None printed is
-switched_on from text (Some wiring) printed (switching.wired board denotes is) = switched from text (Some board) printed is
-switched_on from text (Some wiring) printed (switching.miswired fault first line) = inr line.status
+switched_on : (from : Source (List ℕ)) (has_two : Bool) (text : List ℕ) (wiring : Option (List ℕ)) (printed : Printed) → IsOn (λ board. IsSwitched from has_two board text) wiring printed → IsEither printed.status
+switched_on from has_two text None printed is = switched from has_two text None printed is
+switched_on from has_two text (Some wiring) printed (switching.wired board denotes is) = switched from has_two text (Some board) printed is
+switched_on from has_two text (Some wiring) printed (switching.miswired fault first line) = inr line.status
 
 pub of_text : (job : Job) (texts : Files (List ℕ)) (printed : Printed) → IsTextAnswer job texts printed → IsEither printed.status
 of_text (Plan file planning workers) texts printed (answers.planned batch denotes plan done) = inl done
@@ -66,7 +66,7 @@ of_text (Draw batch schedule chosen) texts printed (least, drawn d so_many done)
 of_text (Draw batch schedule chosen) texts printed (least, undrawn refusal wrong line) = inr line.status
 of_text (Prices batch schedule) texts printed (priced transfers settings read says done) = inl done
 of_text (Prices batch schedule) texts printed (unpriced refusal wrong line) = inr line.status
-of_text (SwitchJob batch scheduled wiring workers) texts printed is = switched_on (source_in scheduled (text_in texts.other)) (text_in texts.list) texts.wiring printed is
+of_text (SwitchJob batch scheduled wiring has_two workers) texts printed is = switched_on (source_in scheduled (text_in texts.other)) has_two (text_in texts.list) texts.wiring printed is
 of_text (Orders batch scheduled only workers) texts printed (ordering.ordered transfers settings is (ordering.told apart told done)) = inl done
 of_text (Orders batch scheduled only workers) texts printed (ordering.ordered transfers settings is (ordering.overlap i j first line)) = inr line.status
 of_text (Orders batch scheduled only workers) texts printed (ordering.wrong refusal wrong line) = inr line.status

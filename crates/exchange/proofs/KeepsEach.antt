@@ -42,9 +42,9 @@ KeepsDirections run = (moves : Text) → HasDone run (Direct moves) → HasDirec
 
 abbrev pub KeepsSwitches : Run → Type 0
 KeepsSwitches run =
-    (batch : Text) (scheduled : Source Text) (wiring : Option Text) (workers : ℕ)
-    → HasDone run (SwitchJob batch scheduled wiring workers)
-    → HasSwitched run batch scheduled wiring
+    (batch : Text) (scheduled : Source Text) (wiring : Option Text) (has_two : Bool) (workers : ℕ)
+    → HasDone run (SwitchJob batch scheduled wiring has_two workers)
+    → HasSwitched run batch scheduled wiring has_two
 
 abbrev pub KeepsOrders : Run → Type 0
 KeepsOrders run =
@@ -118,7 +118,7 @@ IsOfTextsAlone (Plan file planning workers) = ⊤
 IsOfTextsAlone (Check batch schedule) = ⊤
 IsOfTextsAlone (Draw batch schedule chosen) = ⊤
 IsOfTextsAlone (Prices batch schedule) = ⊤
-IsOfTextsAlone (SwitchJob batch scheduled wiring workers) = ⊤
+IsOfTextsAlone (SwitchJob batch scheduled wiring has_two workers) = ⊤
 IsOfTextsAlone (Orders batch scheduled only workers) = ⊤
 IsOfTextsAlone (Direct moves) = ⊤
 IsOfTextsAlone (Apply shape batch image workers) = ⊤

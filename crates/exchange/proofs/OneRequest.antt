@@ -20,7 +20,7 @@ use Rattle.command_words.specs.declared.jobs.Job.TheVariants.{Plan, Check, Draw,
 use Rattle.command_words.specs.declared.jobs.RecordFile.{RecordFile}
 use Rattle.command_words.specs.declared.jobs.Request.{Request}
 use Rattle.command_words.specs.declared.jobs.SharedRack.{SharedRack}
-use Rattle.command_words.specs.Jobs.{AskFor, HasJob, HasNumeral, HasPlanning, HasRack, HasRecord, HasServed, HasSource, HasWorkers, IsFaultIn, IsRequest, faults_of, name_of}
+use Rattle.command_words.specs.Jobs.{AskFor, HasJob, HasNumeral, HasPlanning, HasRack, HasRecord, HasServed, HasSource, HasTwo, HasWorkers, IsFaultIn, IsRequest, faults_of, name_of}
 use Rattle.command_words.specs.Program.{program}
 use Rattle.command_words.proofs.CommandNames.{same_word}
 
@@ -63,6 +63,12 @@ planned rows planning.Plain planning.Steady x y = absurd (x y.0)
 planned rows planning.Steady planning.Plain x y = absurd (y x.0)
 planned rows planning.Steady planning.Steady x y = refl
 
+two : (rows : List Row) (a b : Bool) → HasTwo rows a → HasTwo rows b → a ≡ b
+two rows false false x y = refl
+two rows false true x y = absurd (x y.0)
+two rows true false x y = absurd (y x.0)
+two rows true true x y = refl
+
 not_both : (o : Option Text) (a : Text) → o ≡ None → o ≡ Some a → ⊥
 not_both o a none some = let e : None ≡ Some a = sym none ∙ some in absurd (cc)
 
@@ -103,8 +109,8 @@ job_of_rows rows (Draw f s r) other same x y = absurd (let bad = same in cc)
 job_of_rows rows (Prices f s) (Prices g t) same x y = rw (text _ f g x.0 y.0, text _ s t x.1 y.1) refl
 job_of_rows rows (Prices f s) (Draw g t q) same x y = absurd (y.3 x.3)
 job_of_rows rows (Prices f s) other same x y = absurd (let bad = same in cc)
-job_of_rows rows (Switch f s i w) (Switch g t j v) same x y = rw (text _ f g x.0 y.0, sourced rows s t x.1 y.1, sym x.2 ∙ y.2, workers rows w v x.3 y.3) refl
-job_of_rows rows (Switch f s i w) other same x y = absurd (let bad = same in cc)
+job_of_rows rows (Switch f s i d w) (Switch g t j e v) same x y = rw (text _ f g x.0 y.0, sourced rows s t x.1 y.1, sym x.2 ∙ y.2, two rows d e x.3 y.3, workers rows w v x.4 y.4) refl
+job_of_rows rows (Switch f s i d w) other same x y = absurd (let bad = same in cc)
 job_of_rows rows (Orders f s m w) (Orders g t n v) same x y = rw (text _ f g x.0 y.0, sourced rows s t x.1 y.1, numeral _ _ rows m n x.2 y.2, workers rows w v x.3 y.3) refl
 job_of_rows rows (Orders f s m w) other same x y = absurd (let bad = same in cc)
 job_of_rows rows (Drive f p o s i k l w) (Drive g q r t j m n v) same x y =

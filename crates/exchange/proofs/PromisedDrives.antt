@@ -1,12 +1,11 @@
 -- The promise of `drive`.
 use Rattle.std.proofs.Common.{◌≡◌, ◌<◌, ◌≤◌, ◌+◌, ◌∙◌, ◌++◌, ℕ, zero, suc, Bool, true, false, not, List, [], ◌∷◌, length, Option, Some, None, Err, inl, inr, ◌⊎◌, refl, sym, ap, subst, append_assoc, arith}
-use Rattle.std.specs.Prelude.{IfSome, codes, if◌then◌else◌}
+use Rattle.std.specs.Prelude.{◌==◌, codes}
 use Rattle.std.specs.List.{AllByRecursion}
 use Rattle.std.proofs.lemmas.List.{append-nil}
 use Rattle.batch.specs.Batches.{IsBatch}
 use Rattle.batch.specs.Extent.{widest}
 use Rattle.batch.specs.declared.transfer.Transfer.{Transfer}
-use Rattle.board_wiring.proofs.ReadBoards.{joins_all}
 use Rattle.board_wiring.specs.Boards.{IsBoardOf, IsFilled}
 use Rattle.board_wiring.specs.Lacks.{HasWaysOn}
 use Rattle.board_wiring.specs.declared.board.Board.{Board as BoardText}
@@ -20,7 +19,6 @@ use Rattle.crossbar.specs.Pairs.{room_of, switch_of}
 use Rattle.crossbar.specs.Switch.{Switch}
 use Rattle.c004_commands.specs.declared.command.Command.{Command}
 use Rattle.crossbar.specs.Traffic.{Passes, PassesFront, conversed}
-use Rattle.crossbar.specs.Wired.{links_of}
 use Rattle.crossbar.specs.declared.board.BoardWiring.{BoardWiring}
 use Rattle.crossbar.specs.declared.chip.Chip.{Chip}
 use Rattle.crossbar.specs.declared.chip.Chip.TheVariants.{A, B}
@@ -29,9 +27,9 @@ use Rattle.crossbar.specs.declared.chip.Wiring.TheVariants.{Back, Board, Both, F
 use Rattle.crossbar.specs.declared.pair.Pair.{Pair}
 use Rattle.crossbar.specs.declared.traffic.Passing.{Passing}
 use Rattle.drive_answers.specs.Answers as drives
-use Rattle.drive_answers.specs.Answers.{IsDriveAnswer, IsDrivenOver, IsFirstDriveWrong, IsTried, rack_for, switches_in}
+use Rattle.drive_answers.specs.Answers.{IsDriveAnswer, IsDrivenOver, IsFirstDriveWrong, IsTried, is_wide_over, rack_for, switches_in}
 use Rattle.drive_answers.specs.Endings.{completed_line, fault_words, left_line, stopped_line}
-use Rattle.drive_answers.specs.Ways.{IsUnopened, Names, Ways, used}
+use Rattle.drive_answers.specs.Ways.{IsUnopened, Names, Ways, how_many, used}
 use Rattle.exchange.proofs.AskedJobs.{JobsCome, Responded, ToldInPart, never_done, the_run}
 use Rattle.exchange.proofs.EndStatuses.{gave_up}
 use Rattle.exchange.proofs.HeldFiles.{given_text, held_files}
@@ -49,6 +47,8 @@ use Rattle.plan_answers.specs.Schedules.{IsScheduleFrom}
 use Rattle.plan_answers.specs.declared.limits.TheConstants.{DONE, REFUSED}
 use Rattle.plan_answers.specs.declared.source.Source.{Source}
 use Rattle.plan_answers.specs.declared.source.Source.TheVariants as source
+use Rattle.rack_answers.proofs.ReadBatches.{all_joined}
+use Rattle.rack_answers.specs.Boards.{joined_on}
 use Rattle.refusals.specs.Refusals.{refusal_words}
 use Rattle.refusals.specs.declared.refusal.Refusal.{Refusal}
 use Rattle.switch_driver.proofs.Telling.{replies_tell}
@@ -58,14 +58,12 @@ use Rattle.switch_driver.specs.Steps.{Stands as StandsOn, changed, kept, settled
 use Rattle.switch_driver.specs.declared.driving.Driven.TheVariants.{Completed, Halted, Stopped}
 use Rattle.switch_driver.specs.declared.stage.Halt.{Halt}
 use Rattle.switch_driver.specs.declared.stage.Halt.TheVariants.{Left, Unheard, Untold}
-use Rattle.switch_settings.proofs.Racks.{has_modules}
 use Rattle.switch_settings.proofs.Turning.{ordered_switch}
 use Rattle.switch_settings.specs.Asking.{AreDone, BreakOff, Breaks, IsDone as IsStepDone, Step, ask, hear, miss, settle, turn}
 use Rattle.switch_settings.specs.Pairs.{all_enquiries}
-use Rattle.switch_settings.specs.Racks.{HasModulesOf, is_wide, joined_by}
+use Rattle.switch_settings.specs.Racks.{HasModulesOf}
 use Rattle.switch_settings.specs.Sending.{pairs_at, turning}
 use Rattle.switch_settings.specs.Settings.{numbers_in, setting_pairs}
-use Rattle.switch_settings.specs.declared.rack_wiring.RackWiring.TheVariants.{Usual}
 use Rattle.switch_settings.specs.declared.fault.SettingFault.{SettingFault}
 use Rattle.switch_settings.specs.declared.fault.SettingFault.TheVariants.{Port, Switch as Disagrees}
 
@@ -186,19 +184,19 @@ both_done standing pairs old new d =
     }
 
 -- the switches of a rack, for its wiring
-setting_done : (board : Option BoardWiring) (batch : List Transfer) (wide : Bool) → is_wide batch ≡ wide → (standing : Option (List Pair)) (pairs : List Pair) (old : List Passing) (new : Option (List Passing)) → AreDone standing pairs (settled_steps (wirings_of (rack_for board batch))) (Some old) new → Grows old new (AreAnswered (switches_of board batch) pairs)
-setting_done (Some w) batch wide is standing pairs old new d = one_done (Board w) standing pairs old new d
-setting_done None batch true is standing pairs old new d = rw is (both_done standing pairs old new (rw is at d))
-setting_done None batch false is standing pairs old new d = rw is (one_done Both standing pairs old new (rw is at d))
+setting_done : (board : Option BoardWiring) (wide : Bool) (standing : Option (List Pair)) (pairs : List Pair) (old : List Passing) (new : Option (List Passing)) → AreDone standing pairs (settled_steps (wirings_of (rack_for board wide))) (Some old) new → Grows old new (AreAnswered (switches_of board wide) pairs)
+setting_done (Some w) wide standing pairs old new d = one_done (Board w) standing pairs old new d
+setting_done None true standing pairs old new d = both_done standing pairs old new d
+setting_done None false standing pairs old new d = one_done Both standing pairs old new d
 
 -- ---- settings of a schedule
 
-record Given (board : Option BoardWiring) (batch : List Transfer) (settings : List (List ℕ)) : Type 0 where
+record Given (board : Option BoardWiring) (wide : Bool) (batch : List Transfer) (settings : List (List ℕ)) : Type 0 where
   fits : IsBatch batch
   is : IsScheduleOf batch settings
-  has : IfSome board (λ w. HasModulesOf (length (links_of w)) batch)
+  has : HasModulesOf (joined_on board wide) batch
 
-module _ (board : Option BoardWiring) (batch : List Transfer) (settings : List (List ℕ)) (g : Given board batch settings) where
+module _ (board : Option BoardWiring) (wide : Bool) (batch : List Transfer) (settings : List (List ℕ)) (g : Given board wide batch settings) where
   -- the pairs in order are those of the setting
   in_order_is : (w : Wiring) → HasModulesOf (room_of w) batch → (k : ℕ) → k < length settings → switch_of w (pairs_at batch settings k) ≡ switch_of w (setting_pairs batch (numbers_in settings k))
   in_order_is w has k lt = ordered_switch (room_of w) w batch (numbers_in settings k) (record { fits = g.fits; known = g.is.no_other k [] lt; matching = g.is.matchings k [] lt }) has (omega arith)
@@ -206,31 +204,27 @@ module _ (board : Option BoardWiring) (batch : List Transfer) (settings : List (
   turned_one : (chip : Chip) (w : Wiring) (k : ℕ) (pairs : List Pair) (passed : List Passing) → pairs ≡ pairs_at batch settings k → HasModulesOf (room_of w) batch → k < length settings → HasAnswered chip (switch_of w pairs) passed → HasAnswered chip (switch_of w (setting_pairs batch (numbers_in settings k))) passed
   turned_one chip w k pairs passed same has lt a = subst (λ (s : Switch). HasAnswered chip s passed) (ap (switch_of w) same ∙ in_order_is w has k lt) a
 
-  turned_usual : (wide : Bool) → is_wide batch ≡ wide → (k : ℕ) (pairs : List Pair) (passed : List Passing) → pairs ≡ pairs_at batch settings k → k < length settings
-      → AreAnswered (if wide then (A, Forth) ∷ (B, Back) ∷ [] else (A, Both) ∷ []) pairs passed → AreAnswered (if wide then (A, Forth) ∷ (B, Back) ∷ [] else (A, Both) ∷ []) (setting_pairs batch (numbers_in settings k)) passed
-  turned_usual true wide k pairs passed same lt a = (turned_one A Forth k pairs passed same (has_modules batch true g.fits wide) lt a.0, (turned_one B Back k pairs passed same (has_modules batch true g.fits wide) lt a.1.0, tt))
-  turned_usual false wide k pairs passed same lt a = (turned_one A Both k pairs passed same (has_modules batch false g.fits wide) lt a.0, tt)
-
-  turned_all : (k : ℕ) (pairs : List Pair) (passed : List Passing) → pairs ≡ pairs_at batch settings k → k < length settings → AreAnswered (switches_of board batch) pairs passed → Stands board batch settings k passed
-  turned_all k pairs passed same lt a = by_board board g.has a
+  turned_all : (k : ℕ) (pairs : List Pair) (passed : List Passing) → pairs ≡ pairs_at batch settings k → k < length settings → AreAnswered (switches_of board wide) pairs passed → Stands board wide batch settings k passed
+  turned_all k pairs passed same lt a = by_board board wide g.has a
     where
-      by_board : (b : Option BoardWiring) → IfSome b (λ w. HasModulesOf (length (links_of w)) batch) → AreAnswered (switches_of b batch) pairs passed → Stands b batch settings k passed
-      by_board None has a = turned_usual (is_wide batch) refl k pairs passed same lt a
-      by_board (Some w) has a = (turned_one A (Board w) k pairs passed same has lt a.0, tt)
+      by_board : (b : Option BoardWiring) (two : Bool) → HasModulesOf (joined_on b two) batch → AreAnswered (switches_of b two) pairs passed → Stands b two batch settings k passed
+      by_board None true has a = (turned_one A Forth k pairs passed same has lt a.0, (turned_one B Back k pairs passed same has lt a.1.0, tt))
+      by_board None false has a = (turned_one A Both k pairs passed same has lt a.0, tt)
+      by_board (Some w) two has a = (turned_one A (Board w) k pairs passed same has lt a.0, tt)
 
   -- what stood and was told
   record Told (first count : ℕ) (new : Option (List Passing)) (tells : Dialogue) : Type 0 where
     passed : List Passing
     known : new ≡ Some passed
-    stood : StoodInTurn board batch settings first count passed
+    stood : StoodInTurn board wide batch settings first count passed
     lines : tells.told ≡ lines_told settings first count
-    last : (n : ℕ) → count ≡ suc n → AreAnswered (switches_of board batch) (pairs_at batch settings (first + n)) passed
+    last : (n : ℕ) → count ≡ suc n → AreAnswered (switches_of board wide) (pairs_at batch settings (first + n)) passed
 
   one_more : (first n : ℕ) (earlier : List Passing) (new : Option (List Passing)) → first + n < length settings
-      → ((m : ℕ) → n ≡ suc m → AreAnswered (switches_of board batch) (pairs_at batch settings (first + m)) earlier)
-      → StandsOn (rack_for board batch) (standing_behind batch settings first n) (pairs_at batch settings (first + n)) (Some earlier) new
-      → Grows earlier new (AreAnswered (switches_of board batch) (pairs_at batch settings (first + n)))
-  one_more first n earlier new lt before (changed other d) = setting_done board batch (is_wide batch) refl _ _ earlier new d
+      → ((m : ℕ) → n ≡ suc m → AreAnswered (switches_of board wide) (pairs_at batch settings (first + m)) earlier)
+      → StandsOn (rack_for board wide) (standing_behind batch settings first n) (pairs_at batch settings (first + n)) (Some earlier) new
+      → Grows earlier new (AreAnswered (switches_of board wide) (pairs_at batch settings (first + n)))
+  one_more first n earlier new lt before (changed other d) = setting_done board wide _ _ earlier new d
   one_more first zero earlier new lt before (kept same nothing) = absurd (let bad : None ≡ Some (pairs_at batch settings (first + 0)) = same in cc)
   one_more first (suc m) earlier new lt before (kept same nothing) =
       let pairs : pairs_at batch settings (first + m) ≡ pairs_at batch settings (first + suc m) = (let e : Some (pairs_at batch settings (first + m)) ≡ Some (pairs_at batch settings (first + suc m)) = same in cc) in
@@ -239,11 +233,11 @@ module _ (board : Option BoardWiring) (batch : List Transfer) (settings : List (
         more = [];
         known = nothing;
         parts = sym (append-nil earlier);
-        is = subst (λ (ps : List Pair). AreAnswered (switches_of board batch) ps earlier) pairs (before m refl);
+        is = subst (λ (ps : List Pair). AreAnswered (switches_of board wide) ps earlier) pairs (before m refl);
       }
 
   have_stood : (waits : Bool) (first count : ℕ) (told tells : Dialogue) (new : Option (List Passing)) → first + count ≤ length settings → told.told ≡ []
-      → HaveStood (TellsLine waits) (rack_for board batch) batch settings first count (Some []) told new tells → Told first count new tells
+      → HaveStood (TellsLine waits) (rack_for board wide) batch settings first count (Some []) told new tells → Told first count new tells
   have_stood waits first zero told tells new few none (same, says) = record {
     passed = [];
     known = same;
@@ -253,13 +247,13 @@ module _ (board : Option BoardWiring) (batch : List Transfer) (settings : List (
   }
   have_stood waits first (suc n) told tells new few none (mid, telling, before, stood, hears) =
       let t = have_stood waits first n told telling mid (omega arith) none before in
-      let grown = one_more first n t.passed new (omega arith) t.last (subst (λ (o : Option (List Passing)). Stood (rack_for board batch) batch settings first n o new) t.known stood) in
+      let grown = one_more first n t.passed new (omega arith) t.last (subst (λ (o : Option (List Passing)). Stood (rack_for board wide) batch settings first n o new) t.known stood) in
       record {
         passed = grown.passed;
         known = grown.known;
         stood = (t.passed, grown.more, grown.parts, t.stood, turned_all (first + n) (pairs_at batch settings (first + n)) grown.passed refl (omega arith) grown.is);
         lines = hears.0 ∙ ap (λ (x : List ℕ). x ++ stage_line (first + n) (numbers_in settings (first + n))) t.lines;
-        last = λ m is. subst (λ (j : ℕ). AreAnswered (switches_of board batch) (pairs_at batch settings (first + j)) grown.passed) (omega (arith, is)) grown.is;
+        last = λ m is. subst (λ (j : ℕ). AreAnswered (switches_of board wide) (pairs_at batch settings (first + j)) grown.passed) (omega (arith, is)) grown.is;
       }
 
 -- ---- a setting that couldn't be set
@@ -308,18 +302,18 @@ break_front fault standing pairs (step ∷ steps) known old new same (inr (mid, 
 driven : (run : Run) (batch : Text) (from : Source Text) (file : Option Text) (first : ℕ) (names : Names) (was opens : Ways) (waits : Bool) (text : List ℕ) (other : Option (List ℕ)) (board : Option BoardText) (filled : Option BoardWiring) (transfers : List Transfer) (settings : List (List ℕ)) (start final : Dialogue) (printed : Printed)
     → run.holds batch text → HoldsGiven run.holds (schedule_in from) other → HoldsBoard run file board → start.told ≡ [] → run.prints (final.told ++ printed.text) → printed.status ≡ DONE
     → IsScheduleFrom (source_in from (text_in other)) widest text transfers settings → HasWaysOn board transfers → IsFilled board filled
-    → IsTried (TellsLine waits) (rack_for filled transfers) transfers settings first names was opens start final printed
+    → IsTried (TellsLine waits) (rack_for filled (is_wide_over names transfers)) transfers settings first names was opens start final printed
     → HasDriven run (record { names = names; before = was; after = opens }) batch from file first
 driven run batch from file first names was opens waits text other board filled transfers settings start final printed held held_schedule held_board none prints status is ways fills (drives.driven (Completed all) many over ends) =
     let reads = denoted from other widest text transfers settings is in
     let schedule = scheduled run from other widest text transfers settings held_schedule is in
     let went = over.went in
     let fits : IsBatch transfers = record { few = reads.few; within = reads.within } in
-    let g : Given filled transfers settings = record { fits = fits; is = schedule_of run from transfers settings schedule; has = joins_all board filled transfers fills ways } in
+    let g : Given filled (is_wide_over names transfers) transfers settings = record { fits = fits; is = schedule_of run from transfers settings schedule; has = all_joined board filled (how_many names == 2) transfers fits fills ways } in
     let all_of : all ≡ length settings = went.0 in
     let count = went.1.0 in
     let sum : first + count ≡ length settings = went.1.1 ∙ all_of in
-    let t = have_stood filled transfers settings g waits first count start final over.carried (omega (arith, sum)) none went.1.2 in
+    let t = have_stood filled (is_wide_over names transfers) transfers settings g waits first count start final over.carried (omega (arith, sum)) none went.1.2 in
     record {
       transfers = transfers;
       settings = settings;
@@ -384,32 +378,33 @@ keeps_drives named known after words prints status come batch port port_b from w
 -- ---- where it ends early
 
 -- what is so of the texts, however the drive went
-record Read (run : Run) (batch : Text) (from : Source Text) (file : Option Text) (board : Option BoardWiring) (transfers : List Transfer) (settings : List (List ℕ)) : Type 0 where
+record Read (run : Run) (batch : Text) (from : Source Text) (file : Option Text) (names : Names) (board : Option BoardWiring) (transfers : List Transfer) (settings : List (List ℕ)) : Type 0 where
   held : HoldsBatch run batch transfers
   schedule : IsScheduled run from transfers settings
   wired : IsWired run file transfers board
-  given : Given board transfers settings
+  given : Given board (is_wide_over names transfers) transfers settings
 
-read_so : (run : Run) (batch : Text) (from : Source Text) (file : Option Text) (text : List ℕ) (other : Option (List ℕ)) (board : Option BoardText) (filled : Option BoardWiring) (transfers : List Transfer) (settings : List (List ℕ))
-    → run.holds batch text → HoldsGiven run.holds (schedule_in from) other → HoldsBoard run file board → IsScheduleFrom (source_in from (text_in other)) widest text transfers settings → HasWaysOn board transfers → IsFilled board filled → Read run batch from file filled transfers settings
-read_so run batch from file text other board filled transfers settings held held_schedule held_board is ways fills =
+read_so : (run : Run) (batch : Text) (from : Source Text) (file : Option Text) (names : Names) (text : List ℕ) (other : Option (List ℕ)) (board : Option BoardText) (filled : Option BoardWiring) (transfers : List Transfer) (settings : List (List ℕ))
+    → run.holds batch text → HoldsGiven run.holds (schedule_in from) other → HoldsBoard run file board → IsScheduleFrom (source_in from (text_in other)) widest text transfers settings → HasWaysOn board transfers → IsFilled board filled → Read run batch from file names filled transfers settings
+read_so run batch from file names text other board filled transfers settings held held_schedule held_board is ways fills =
     let reads = denoted from other widest text transfers settings is in
+    let fits : IsBatch transfers = record { few = reads.few; within = reads.within } in
     let schedule = scheduled run from other widest text transfers settings held_schedule is in
     record {
       held = record { text = text; held = held; denotes = reads };
       schedule = schedule;
       wired = wired_so run file board transfers filled held_board ways fills;
-      given = record { fits = record { few = reads.few; within = reads.within }; is = schedule_of run from transfers settings schedule; has = joins_all board filled transfers fills ways };
+      given = record { fits = fits; is = schedule_of run from transfers settings schedule; has = all_joined board filled (how_many names == 2) transfers fits fills ways };
     }
 
 more_lines : (settings : List (List ℕ)) (first n k : ℕ) → first + n ≡ k → lines_told settings first n ++ stage_line k (numbers_in settings k) ≡ lines_told settings first (n + 1)
 more_lines settings first n k at = let e : suc n ≡ n + 1 = omega arith in subst (λ (m : ℕ). lines_told settings first n ++ stage_line k (numbers_in settings k) ≡ lines_told settings first m) e (ap (λ (m : ℕ). lines_told settings first n ++ stage_line m (numbers_in settings m)) (sym at))
 
-suc_stood : (board : Option BoardWiring) (batch : List Transfer) (settings : List (List ℕ)) (first n : ℕ) (earlier more passed : List Passing) → passed ≡ earlier ++ more → StoodInTurn board batch settings first n earlier → Stands board batch settings (first + n) passed → StoodInTurn board batch settings first (suc n) passed
-suc_stood board batch settings first n earlier more passed parts stood stands = (earlier, more, parts, stood, stands)
+suc_stood : (board : Option BoardWiring) (wide : Bool) (batch : List Transfer) (settings : List (List ℕ)) (first n : ℕ) (earlier more passed : List Passing) → passed ≡ earlier ++ more → StoodInTurn board wide batch settings first n earlier → Stands board wide batch settings (first + n) passed → StoodInTurn board wide batch settings first (suc n) passed
+suc_stood board wide batch settings first n earlier more passed parts stood stands = (earlier, more, parts, stood, stands)
 
-stood_more : (board : Option BoardWiring) (batch : List Transfer) (settings : List (List ℕ)) (first n : ℕ) (earlier more passed : List Passing) → passed ≡ earlier ++ more → StoodInTurn board batch settings first n earlier → Stands board batch settings (first + n) passed → StoodInTurn board batch settings first (n + 1) passed
-stood_more board batch settings first n earlier more passed parts stood stands = let e : suc n ≡ n + 1 = omega arith in subst (λ (m : ℕ). StoodInTurn board batch settings first m passed) e (suc_stood board batch settings first n earlier more passed parts stood stands)
+stood_more : (board : Option BoardWiring) (wide : Bool) (batch : List Transfer) (settings : List (List ℕ)) (first n : ℕ) (earlier more passed : List Passing) → passed ≡ earlier ++ more → StoodInTurn board wide batch settings first n earlier → Stands board wide batch settings (first + n) passed → StoodInTurn board wide batch settings first (n + 1) passed
+stood_more board wide batch settings first n earlier more passed parts stood stands = let e : suc n ≡ n + 1 = omega arith in subst (λ (m : ℕ). StoodInTurn board wide batch settings first m passed) e (suc_stood board wide batch settings first n earlier more passed parts stood stands)
 
 -- settings stood, the last one was told, and no other came
 ended_at : (halt : Halt) (waits : Bool) (old : Dialogue) (k : ℕ) (numbers : List ℕ) (new : Dialogue) → (halt ≡ Left) ⊎ (halt ≡ Unheard) → TellsLine waits old k numbers (Err halt) new → new.told ≡ old.told ++ stage_line k numbers
@@ -418,18 +413,18 @@ ended_at Unheard waits old k numbers new which is = is.0
 ended_at Untold waits old k numbers new (inl which) is = absurd (cc)
 ended_at Untold waits old k numbers new (inr which) is = absurd (cc)
 
-module _ (run : Run) (batch : Text) (from : Source Text) (file : Option Text) (first : ℕ) (waits : Bool) (filled : Option BoardWiring) (transfers : List Transfer) (settings : List (List ℕ)) (start final : Dialogue) (r : Read run batch from file filled transfers settings) (none : start.told ≡ []) where
+module _ (run : Run) (batch : Text) (from : Source Text) (file : Option Text) (first : ℕ) (names : Names) (waits : Bool) (filled : Option BoardWiring) (transfers : List Transfer) (settings : List (List ℕ)) (start final : Dialogue) (r : Read run batch from file names filled transfers settings) (none : start.told ≡ []) where
   -- what was told before the last setting that stood
-  told_before : (halt : Halt) (k : ℕ) (carried : Option (List Passing)) → (went : EndsWith (TellsLine waits) halt (rack_for filled transfers) transfers settings first k (Some []) start carried final) → went.telling.told ≡ lines_told settings first went.count
-  told_before halt k carried went = (have_stood filled transfers settings r.given waits first went.count start went.telling went.mid (omega (arith, went.at, went.within)) none went.before).lines
+  told_before : (halt : Halt) (k : ℕ) (carried : Option (List Passing)) → (went : EndsWith (TellsLine waits) halt (rack_for filled (is_wide_over names transfers)) transfers settings first k (Some []) start carried final) → went.telling.told ≡ lines_told settings first went.count
+  told_before halt k carried went = (have_stood filled (is_wide_over names transfers) transfers settings r.given waits first went.count start went.telling went.mid (omega (arith, went.at, went.within)) none went.before).lines
 
   -- it stood itself, and nothing more passed
-  last_stood : (names : Names) (was opens : Ways) (halt : Halt) (k : ℕ) (line : List ℕ) (carried : Option (List Passing)) (failed : ℕ) → (went : EndsWith (TellsLine waits) halt (rack_for filled transfers) transfers settings first k (Some []) start carried final)
+  last_stood : (was opens : Ways) (halt : Halt) (k : ℕ) (line : List ℕ) (carried : Option (List Passing)) (failed : ℕ) → (went : EndsWith (TellsLine waits) halt (rack_for filled (is_wide_over names transfers)) transfers settings first k (Some []) start carried final)
       → opens ≡ used names carried failed was → (line ≡ left_line k) ⊎ (line ≡ stopped_line k (codes "input")) → run.prints (lines_told settings first (went.count + 1) ++ line)
       → HasStopped run (record { names = names; before = was; after = opens }) batch from file first
-  last_stood names was opens halt k line carried failed went ways is prints =
-      let t = have_stood filled transfers settings r.given waits first went.count start went.telling went.mid (omega (arith, went.at, went.within)) none went.before in
-      let grown = one_more filled transfers settings r.given first went.count t.passed carried (omega (arith, went.at, went.within)) t.last (subst (λ (o : Option (List Passing)). Stood (rack_for filled transfers) transfers settings first went.count o carried) t.known went.stood) in
+  last_stood was opens halt k line carried failed went ways is prints =
+      let t = have_stood filled (is_wide_over names transfers) transfers settings r.given waits first went.count start went.telling went.mid (omega (arith, went.at, went.within)) none went.before in
+      let grown = one_more filled (is_wide_over names transfers) transfers settings r.given first went.count t.passed carried (omega (arith, went.at, went.within)) t.last (subst (λ (o : Option (List Passing)). Stood (rack_for filled (is_wide_over names transfers)) transfers settings first went.count o carried) t.known went.stood) in
       record {
         transfers = transfers;
         settings = settings;
@@ -443,19 +438,19 @@ module _ (run : Run) (batch : Text) (from : Source Text) (file : Option Text) (f
         schedule = r.schedule;
         wired = r.wired;
         opened = ways ∙ ap (λ (c : Option (List Passing)). used names c failed was) (grown.known ∙ ap Some (sym (append-nil grown.passed)));
-        stood = stood_more filled transfers settings first went.count t.passed grown.more grown.passed grown.parts t.stood (turned_all filled transfers settings r.given (first + went.count) (pairs_at transfers settings (first + went.count)) grown.passed refl (omega (arith, went.at, went.within)) grown.is);
+        stood = stood_more filled (is_wide_over names transfers) transfers settings first went.count t.passed grown.more grown.passed grown.parts t.stood (turned_all filled (is_wide_over names transfers) transfers settings r.given (first + went.count) (pairs_at transfers settings (first + went.count)) grown.passed refl (omega (arith, went.at, went.within)) grown.is);
         last = inr (k, omega (arith, went.at), went.within, omega (arith, went.at), refl, is);
         prints = prints;
       }
 
 module _ (run : Run) (batch : Text) (from : Source Text) (file : Option Text) (first : ℕ) (names : Names) (was opens : Ways) (waits : Bool) (filled : Option BoardWiring) (transfers : List Transfer) (settings : List (List ℕ)) (start final : Dialogue) (printed : Printed)
-    (r : Read run batch from file filled transfers settings) (none : start.told ≡ []) (prints : run.prints (final.told ++ printed.text)) where
-  stopped_at : (k : ℕ) (fault : SettingFault) → IsDrivenOver (TellsLine waits) (rack_for filled transfers) transfers settings first (Stopped k fault) names was opens start final → printed.text ≡ stopped_line k (fault_words fault)
+    (r : Read run batch from file names filled transfers settings) (none : start.told ≡ []) (prints : run.prints (final.told ++ printed.text)) where
+  stopped_at : (k : ℕ) (fault : SettingFault) → IsDrivenOver (TellsLine waits) (rack_for filled (is_wide_over names transfers)) transfers settings first (Stopped k fault) names was opens start final → printed.text ≡ stopped_line k (fault_words fault)
       → HasStopped run (record { names = names; before = was; after = opens }) batch from file first
   stopped_at k fault over line =
       let went = over.went in
-      let t = have_stood filled transfers settings r.given waits first went.count start final went.mid (omega (arith, went.at, went.within)) none went.before in
-      let f = break_front fault _ _ (settled_steps (wirings_of (rack_for filled transfers))) t.passed went.mid over.carried t.known went.vain.1 in
+      let t = have_stood filled (is_wide_over names transfers) transfers settings r.given waits first went.count start final went.mid (omega (arith, went.at, went.within)) none went.before in
+      let f = break_front fault _ _ (settled_steps (wirings_of (rack_for filled (is_wide_over names transfers)))) t.passed went.mid over.carried t.known went.vain.1 in
       record {
         transfers = transfers;
         settings = settings;
@@ -474,13 +469,13 @@ module _ (run : Run) (batch : Text) (from : Source Text) (file : Option Text) (f
         prints = subst (λ (x : List ℕ). run.prints (x ++ stopped_line k (fault_words fault))) t.lines (subst (λ (x : List ℕ). run.prints (final.told ++ x)) line prints);
       }
 
-  left_at : (halt : Halt) (k : ℕ) (line : List ℕ) (carried : Option (List Passing)) (failed : ℕ) → (halt ≡ Left) ⊎ (halt ≡ Unheard) → EndsWith (TellsLine waits) halt (rack_for filled transfers) transfers settings first k (Some []) start carried final
+  left_at : (halt : Halt) (k : ℕ) (line : List ℕ) (carried : Option (List Passing)) (failed : ℕ) → (halt ≡ Left) ⊎ (halt ≡ Unheard) → EndsWith (TellsLine waits) halt (rack_for filled (is_wide_over names transfers)) transfers settings first k (Some []) start carried final
       → opens ≡ used names carried failed was → printed.text ≡ line → (line ≡ left_line k) ⊎ (line ≡ stopped_line k (codes "input"))
       → HasStopped run (record { names = names; before = was; after = opens }) batch from file first
   left_at halt k line carried failed which went ways text is =
       let told : final.told ≡ lines_told settings first (went.count + 1) = ended_at halt waits went.telling k (numbers_in settings k) final which went.said
-      ∙ ap (λ (x : List ℕ). x ++ stage_line k (numbers_in settings k)) (told_before run batch from file first waits filled transfers settings start final r none halt k carried went) ∙ more_lines settings first went.count k went.at in
-      last_stood run batch from file first waits filled transfers settings start final r none names was opens halt k line carried failed went ways is (subst (λ (x : List ℕ). run.prints (x ++ line)) told (subst (λ (x : List ℕ). run.prints (final.told ++ x)) text prints))
+      ∙ ap (λ (x : List ℕ). x ++ stage_line k (numbers_in settings k)) (told_before run batch from file first names waits filled transfers settings start final r none halt k carried went) ∙ more_lines settings first went.count k went.at in
+      last_stood run batch from file first names waits filled transfers settings start final r none was opens halt k line carried failed went ways is (subst (λ (x : List ℕ). run.prints (x ++ line)) told (subst (λ (x : List ℕ). run.prints (final.told ++ x)) text prints))
 
 -- what is first wrong with the texts
 says : (from : Source (List ℕ)) (text : List ℕ) (batch : List Transfer) (settings : List (List ℕ)) → IsScheduleFrom from widest text batch settings → SaySchedule from text batch settings
@@ -502,16 +497,10 @@ wrong_on from text wiring first refusal (drives.no_setting board batch settings 
     let begun = not_begun first (length settings) other in no_setting board batch settings of (says from text batch settings is) ways begun.0 begun.1 same
 
 -- so many switches
-abbrev switches_by : Bool → List (Chip × Wiring)
-switches_by wide = if wide then (A, Forth) ∷ (B, Back) ∷ [] else (A, Both) ∷ []
-
-by_width : (wide : Bool) → switches_in (Usual (joined_by wide)) ≡ length (switches_by wide)
-by_width true = refl
-by_width false = refl
-
-many_switches : (filled : Option BoardWiring) (batch : List Transfer) → switches_in (rack_for filled batch) ≡ length (switches_of filled batch)
-many_switches (Some board) batch = refl
-many_switches None batch = by_width (is_wide batch)
+many_switches : (filled : Option BoardWiring) (wide : Bool) → switches_in (rack_for filled wide) ≡ length (switches_of filled wide)
+many_switches (Some board) wide = refl
+many_switches None true = refl
+many_switches None false = refl
 
 -- the refusal was all that was printed, and no port was opened
 refused_so : (run : Run) (ports : Ports) (batch port : Text) (port_b : Option Text) (from : Source Text) (file : Option Text) (first : ℕ) (goes_on : Bool) (workers : ℕ) (texts : Files (List ℕ)) (refusal : Refusal) (start final : Dialogue) (printed : Printed)
@@ -534,9 +523,9 @@ module _ (run : Run) (batch port : Text) (port_b : Option Text) (from : Source T
   abbrev Ended1 : Type 0
   Ended1 = HasStopped run (ports_of port port_b was opens) batch from file first ⊎ HasRefusedDrive run (ports_of port port_b was opens) (Drive batch port port_b from file first goes_on workers) from first
 
-  tried_so : (board : Option BoardText) (filled : Option BoardWiring) (transfers : List Transfer) (settings : List (List ℕ)) → Read run batch from file filled transfers settings
-      → ((refusal : Refusal) → IsUnopened (record { port = port; port_b = port_b }) (switches_in (rack_for filled transfers)) refusal → AreNoWays (source_in from (text_in texts.other)) (text_in texts.list) texts.wiring (ports_of port port_b was opens) refusal)
-      → IsTried (TellsLine (not goes_on)) (rack_for filled transfers) transfers settings first (record { port = port; port_b = port_b }) was opens start final printed → Ended1
+  tried_so : (board : Option BoardText) (filled : Option BoardWiring) (transfers : List Transfer) (settings : List (List ℕ)) → Read run batch from file (record { port = port; port_b = port_b }) filled transfers settings
+      → ((refusal : Refusal) → IsUnopened (record { port = port; port_b = port_b }) (switches_in (rack_for filled (is_wide_over (record { port = port; port_b = port_b }) transfers))) refusal → AreNoWays (source_in from (text_in texts.other)) (text_in texts.list) texts.wiring (ports_of port port_b was opens) refusal)
+      → IsTried (TellsLine (not goes_on)) (rack_for filled (is_wide_over (record { port = port; port_b = port_b }) transfers)) transfers settings first (record { port = port; port_b = port_b }) was opens start final printed → Ended1
   tried_so board filled transfers settings r no_ways (drives.driven (Completed all) many over ends) = absurd (done_is printed.status ends.1 status)
   tried_so board filled transfers settings r no_ways (drives.driven (Stopped k fault) many over ends) =
       inl (stopped_at run batch from file first (record { port = port; port_b = port_b }) was opens (not goes_on) filled transfers settings start final printed r none prints k fault over ends.0)
@@ -550,8 +539,8 @@ module _ (run : Run) (batch port : Text) (port_b : Option Text) (from : Source T
 
   stops_so : IsDriveAnswer (TellsLine (not goes_on)) (source_in from (text_in texts.other)) (text_in texts.list) texts.wiring first (record { port = port; port_b = port_b }) was opens start final printed → Ended1
   stops_so (drives.tried board filled transfers settings of is ways fills begins tries) =
-      tried_so board filled transfers settings (read_so run batch from file (text_in texts.list) texts.other board filled transfers settings (given_text run.holds batch texts.list held.list) held.other (board_held run file texts.wiring board held.wiring of) is ways fills)
-      (λ refusal why. (board, filled, transfers, settings, of, fills, says (source_in from (text_in texts.other)) (text_in texts.list) transfers settings is, subst (λ (n : ℕ). IsUnopened (record { port = port; port_b = port_b }) n refusal) (many_switches filled transfers) why)) tries
+      tried_so board filled transfers settings (read_so run batch from file (record { port = port; port_b = port_b }) (text_in texts.list) texts.other board filled transfers settings (given_text run.holds batch texts.list held.list) held.other (board_held run file texts.wiring board held.wiring of) is ways fills)
+      (λ refusal why. (board, filled, transfers, settings, of, fills, says (source_in from (text_in texts.other)) (text_in texts.list) transfers settings is, subst (λ (n : ℕ). IsUnopened (record { port = port; port_b = port_b }) n refusal) (many_switches filled (is_wide_over (record { port = port; port_b = port_b }) transfers)) why)) tries
   stops_so (drives.wrong refusal wrong refuses same left) =
       inr (refused_so run (ports_of port port_b was opens) batch port port_b from file first goes_on workers texts refusal start final printed held none same prints refuses.1 left (inl (wrong_on _ (text_in texts.list) texts.wiring first refusal wrong)))
 
@@ -589,8 +578,8 @@ module _ (named : Named) (known : Knows) (after : Ways) (words : List Text) (pri
       let over = failed.8.1 in
       let start : Dialogue = record { told = []; left = is.1 } in
       let final : Dialogue = record { told = t.told; left = is.3.0 } in
-      let read = read_so run batch from wiring (text_in is.0.list) is.0.other failed.0 failed.1 failed.2 failed.3 (given_text run.holds batch is.0.list held.list) held.other (board_held run wiring is.0.wiring failed.0 held.wiring failed.4) failed.5 failed.6 failed.7 in
-      let lines = told_before run batch from wiring first (not goes_on) failed.1 failed.2 failed.3 start final read refl Untold failed.8.0 over.carried over.went in
+      let read = read_so run batch from wiring (record { port = port; port_b = port_b }) (text_in is.0.list) is.0.other failed.0 failed.1 failed.2 failed.3 (given_text run.holds batch is.0.list held.list) held.other (board_held run wiring is.0.wiring failed.0 held.wiring failed.4) failed.5 failed.6 failed.7 in
+      let lines = told_before run batch from wiring first (record { port = port; port_b = port_b }) (not goes_on) failed.1 failed.2 failed.3 start final read refl Untold failed.8.0 over.carried over.went in
       let said = over.went.said in
       let line = stage_line failed.8.0 (numbers_in failed.3 failed.8.0) in
       let more = said.1 ++ left_line failed.8.0 in
@@ -598,7 +587,7 @@ module _ (named : Named) (known : Knows) (after : Ways) (words : List Text) (pri
       ap (λ (x : List ℕ). x ++ more) (said.3 ∙ ap (λ (x : List ℕ). x ++ said.0) lines) ∙ append_assoc (lines_told failed.3 first over.went.count) said.0 more
       ∙ ap (λ (x : List ℕ). lines_told failed.3 first over.went.count ++ x) (sym (append_assoc said.0 said.1 (left_line failed.8.0)) ∙ ap (λ (x : List ℕ). x ++ left_line failed.8.0) (sym said.2))
       ∙ sym (append_assoc (lines_told failed.3 first over.went.count) line (left_line failed.8.0)) ∙ ap (λ (x : List ℕ). x ++ left_line failed.8.0) (more_lines failed.3 first over.went.count failed.8.0 over.went.at) in
-      last_stood run batch from wiring first (not goes_on) failed.1 failed.2 failed.3 start final read refl (record { port = port; port_b = port_b }) known.ports after Untold failed.8.0 (left_line failed.8.0) over.carried over.failed over.went over.ways (inl refl) (subst prints whole (t.prints more))
+      last_stood run batch from wiring first (record { port = port; port_b = port_b }) (not goes_on) failed.1 failed.2 failed.3 start final read refl known.ports after Untold failed.8.0 (left_line failed.8.0) over.carried over.failed over.went over.ways (inl refl) (subst prints whole (t.prints more))
 
 pub keeps_stops : (named : Named) (known : Knows) (after : Ways) (words : List Text) (prints : List ℕ → Type 0) (status : ℕ) → JobsCome named known after (the_run named known words prints status) → KeepsStops (the_run named known words prints status) known.ports after
 keeps_stops named known after words prints status come batch port port_b from wiring first goes_on workers asks refused = elim (come (record { job = Drive batch port port_b from wiring first goes_on workers; is_quiet = asks.0 }) asks.1) [

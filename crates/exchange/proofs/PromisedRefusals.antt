@@ -1,5 +1,5 @@
 -- The promise at status 1.
-use Rattle.std.proofs.Common.{◌≡◌, ◌∙◌, ℕ, List, Option, Some, None, inl, inr, ◌⊎◌, refl, sym, ap, subst, arith}
+use Rattle.std.proofs.Common.{◌≡◌, ◌∙◌, ℕ, Bool, List, Option, Some, None, inl, inr, ◌⊎◌, refl, sym, ap, subst, arith}
 use Rattle.batch.proofs.OneReading as batch_reading
 use Rattle.batch.proofs.Shapes.{one_shape, widest_shape}
 use Rattle.batch.specs.Extent.{Extent, IsShape, widest}
@@ -55,15 +55,15 @@ record Refused (IsWrong : Refusal → Type 0) (printed : Printed) : Type 0 where
   wrong : IsWrong refusal
   line : IsRefused (refusal_words refusal) printed
 
-switched : (from : Source (List ℕ)) (text : List ℕ) (wiring : Option (List ℕ)) (board : Option Board) (printed : Printed) → IsBoardOf wiring board → IsSwitched from board text printed → printed.status ≡ REFUSED → Refused (IsFirstWrongOn from text wiring 0) printed
-switched from text wiring board printed of (switching.switched filled transfers settings is ways fills tells) status = absurd (done_is printed.status tells.1 status)
-switched from text wiring board printed of (switching.lacking refusal lacks line) status = record { refusal = refusal; wrong = lacking board of lacks; line = line }
-switched from text wiring board printed of (switching.wrong refusal wrong has line) status = record { refusal = refusal; wrong = texts_wrong board of wrong has; line = line }
+switched : (from : Source (List ℕ)) (has_two : Bool) (text : List ℕ) (wiring : Option (List ℕ)) (board : Option Board) (printed : Printed) → IsBoardOf wiring board → IsSwitched from has_two board text printed → printed.status ≡ REFUSED → Refused (IsFirstWrongOn from text wiring 0) printed
+switched from has_two text wiring board printed of (switching.switched filled transfers settings is ways fills tells) status = absurd (done_is printed.status tells.1 status)
+switched from has_two text wiring board printed of (switching.lacking refusal lacks line) status = record { refusal = refusal; wrong = lacking board of lacks; line = line }
+switched from has_two text wiring board printed of (switching.wrong refusal wrong has line) status = record { refusal = refusal; wrong = texts_wrong board of wrong has; line = line }
 
-switched_on : (from : Source (List ℕ)) (text : List ℕ) (wiring : Option (List ℕ)) (printed : Printed) → IsOn (λ board. IsSwitched from board text) wiring printed → printed.status ≡ REFUSED → Refused (IsFirstWrongOn from text wiring 0) printed
-switched_on from text None printed is status = switched from text None None printed tt is status
-switched_on from text (Some wiring) printed (switching.wired board denotes is) status = switched from text (Some wiring) (Some board) printed denotes is status
-switched_on from text (Some wiring) printed (switching.miswired fault first line) status = record { refusal = of_wiring fault; wrong = wiring_wrong fault first refl; line = line }
+switched_on : (from : Source (List ℕ)) (has_two : Bool) (text : List ℕ) (wiring : Option (List ℕ)) (printed : Printed) → IsOn (λ board. IsSwitched from has_two board text) wiring printed → printed.status ≡ REFUSED → Refused (IsFirstWrongOn from text wiring 0) printed
+switched_on from has_two text None printed is status = switched from has_two text None None printed tt is status
+switched_on from has_two text (Some wiring) printed (switching.wired board denotes is) status = switched from has_two text (Some wiring) (Some board) printed denotes is status
+switched_on from has_two text (Some wiring) printed (switching.miswired fault first line) status = record { refusal = of_wiring fault; wrong = wiring_wrong fault first refl; line = line }
 
 undrawn_so : (text schedule : List ℕ) (chosen : Option (List ℕ)) (refusal : Refusal) → IsFirstUndrawn widest text schedule chosen refusal → IsFirstWrongDrawn text schedule chosen refusal
 undrawn_so text schedule chosen refusal (drawings.no_range bad is) = no_range bad is
@@ -79,7 +79,7 @@ wrong_of (Draw batch schedule chosen) texts printed alone (least, drawn d so_man
 wrong_of (Draw batch schedule chosen) texts printed alone (least, undrawn refusal wrong line) status = record { refusal = refusal; wrong = undrawn_so (text_in texts.list) (text_in texts.other) chosen refusal wrong; line = line }
 wrong_of (Prices batch schedule) texts printed alone (priced transfers settings read says done) status = absurd (done_is printed.status done status)
 wrong_of (Prices batch schedule) texts printed alone (unpriced refusal wrong line) status = record { refusal = refusal; wrong = wrong; line = line }
-wrong_of (SwitchJob batch scheduled wiring workers) texts printed alone is status = switched_on (source_in scheduled (text_in texts.other)) (text_in texts.list) texts.wiring printed is status
+wrong_of (SwitchJob batch scheduled wiring has_two workers) texts printed alone is status = switched_on (source_in scheduled (text_in texts.other)) has_two (text_in texts.list) texts.wiring printed is status
 wrong_of (Orders batch scheduled only workers) texts printed alone (ordering.ordered transfers settings is (ordering.told apart told done)) status = absurd (done_is printed.status done status)
 wrong_of (Orders batch scheduled only workers) texts printed alone (ordering.ordered transfers settings is (ordering.overlap i j first line)) status =
     record { refusal = Overlap i j; wrong = inr (transfers, i, j, from_right (source_in scheduled (text_in texts.other)) widest (text_in texts.list) transfers settings is, first, refl); line = line }
@@ -132,7 +132,7 @@ not_right (Plan file planning workers) texts refusal wrong right = batch_reading
 not_right (Check batch schedule) texts refusal wrong right = checks_right (text_in texts.list) (text_in texts.other) right.0 right.1 refusal right.2 right.3 wrong
 not_right (Draw batch schedule chosen) texts refusal wrong right = drawings_right (text_in texts.list) (text_in texts.other) chosen refusal right wrong
 not_right (Prices batch schedule) texts refusal wrong right = read_right widest widest_shape (text_in texts.list) (text_in texts.other) right.0 right.1 refusal right.2 wrong
-not_right (SwitchJob batch scheduled wiring workers) texts refusal wrong right = switches_right (source_in scheduled (text_in texts.other)) (text_in texts.list) texts.wiring refusal right wrong
+not_right (SwitchJob batch scheduled wiring has_two workers) texts refusal wrong right = switches_right (source_in scheduled (text_in texts.other)) (text_in texts.list) texts.wiring refusal right wrong
 not_right (Orders batch scheduled only workers) texts refusal wrong right = orders_right (source_in scheduled (text_in texts.other)) (text_in texts.list) right.0 refusal right.1 right.2 wrong
 not_right (Direct moves) texts refusal wrong right = moves_reading.apart (text_in texts.list) right.0 wrong.0 right.1 wrong.1
 not_right (Apply shape batch image workers) texts refusal wrong right = runs_right _ shape (text_in texts.list) (Some (text_in texts.other)) refusal right wrong
@@ -146,7 +146,7 @@ of_texts (Plan file planning workers) alone = tt
 of_texts (Check batch schedule) alone = tt
 of_texts (Draw batch schedule chosen) alone = tt
 of_texts (Prices batch schedule) alone = tt
-of_texts (SwitchJob batch scheduled wiring workers) alone = tt
+of_texts (SwitchJob batch scheduled wiring has_two workers) alone = tt
 of_texts (Orders batch scheduled only workers) alone = tt
 of_texts (Direct moves) alone = tt
 of_texts (Apply shape batch image workers) alone = tt

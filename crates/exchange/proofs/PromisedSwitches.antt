@@ -1,6 +1,6 @@
 -- The promises of `switch` and `orders`.
-use Rattle.std.proofs.Common.{◌≡◌, ◌<◌, ◌∙◌, ℕ, zero, suc, Bool, true, false, List, [], ◌∷◌, length, Option, Some, None, refl, sym, subst, arith}
-use Rattle.std.specs.Prelude.{IfSome, if◌then◌else◌, ⊤}
+use Rattle.std.proofs.Common.{◌≡◌, ◌<◌, ◌∙◌, ℕ, zero, suc, Bool, true, false, List, [], length, Option, Some, None, refl, sym, subst, arith}
+use Rattle.std.specs.Prelude.{◌||◌, IfSome, ⊤}
 use Rattle.std.specs.List.{AllByRecursion}
 use Rattle.batch.specs.Batches.{IsBatch}
 use Rattle.batch.specs.Extent.{widest}
@@ -9,18 +9,18 @@ use Rattle.board_wiring.specs.Boards.{IsFilled, modules_of}
 use Rattle.board_wiring.specs.Lacks.{HasWaysOn}
 use Rattle.board_wiring.specs.Text.{Denotes as DenotesWiring}
 use Rattle.board_wiring.specs.declared.board.Board.{Board as BoardText}
-use Rattle.board_wiring.proofs.ReadBoards.{joins_all}
 use Rattle.clap.specs.Words.{Text}
 use Rattle.command_words.specs.Jobs.{schedule_in}
 use Rattle.command_words.specs.declared.jobs.Job.TheVariants.{Orders, Switch as SwitchJob}
 use Rattle.crossbar.specs.Pairs.{ArePairs, room_of}
 use Rattle.crossbar.specs.Switch.{enquiries}
-use Rattle.crossbar.specs.Wired.{links_of}
 use Rattle.crossbar.specs.declared.board.BoardWiring.{BoardWiring}
 use Rattle.crossbar.specs.declared.chip.Wiring.{Wiring}
 use Rattle.crossbar.specs.declared.pair.Pair.{Pair}
 use Rattle.crossbar.specs.declared.chip.Wiring.TheVariants.{Back, Board, Both, Forth}
 use Rattle.rack_answers.proofs.HeldSettings.{held_is_settled}
+use Rattle.rack_answers.proofs.ReadBatches.{all_joined}
+use Rattle.rack_answers.specs.Boards.{joined_on}
 use Rattle.exchange.proofs.AskedJobs.{Answers, never_done, text_done}
 use Rattle.exchange.proofs.HeldFiles.{given_text}
 use Rattle.exchange.proofs.PromisedRuns.{denoted, scheduled}
@@ -44,7 +44,6 @@ use Rattle.rack_answers.specs.Orders.{IsOrdered}
 use Rattle.rack_answers.specs.Switching as switching
 use Rattle.rack_answers.specs.Switching.{IsOn, IsOnBoard, IsSwitched}
 use Rattle.switch_settings.proofs.PairCommands.{change_commands, setting_commands, turning_commands}
-use Rattle.switch_settings.proofs.Racks.{has_modules}
 use Rattle.switch_settings.proofs.Turning.{ordered_pairs, settings_turn}
 use Rattle.switch_settings.specs.Racks.{HasModulesOf, is_wide}
 use Rattle.switch_settings.specs.Sending.{pairs_at, sent_for, standing_before, turning}
@@ -80,13 +79,10 @@ module _ (batch : List Transfer) (settings : List (List ℕ)) (fits : IsBatch ba
     held = λ k lt same. held_is_settled batch settings k wiring fits is lt same;
   }
 
-turned_usual : (batch : List Transfer) (settings : List (List ℕ)) → IsBatch batch → IsScheduleOf batch settings → (wide : Bool) → is_wide batch ≡ wide → AllByRecursion (λ one. Turn one batch settings (sent_for one batch settings)) (if wide then Forth ∷ Back ∷ [] else Both ∷ [])
-turned_usual batch settings fits is true wide = (turns batch settings fits is Forth (has_modules batch true fits wide), (turns batch settings fits is Back (has_modules batch true fits wide), tt))
-turned_usual batch settings fits is false wide = (turns batch settings fits is Both (has_modules batch false fits wide), tt)
-
-turned : (batch : List Transfer) (settings : List (List ℕ)) (board : Option BoardWiring) → IsBatch batch → IsScheduleOf batch settings → IfSome board (λ w. HasModulesOf (length (links_of w)) batch) → AllByRecursion (λ one. Turn one batch settings (sent_for one batch settings)) (wirings board batch)
-turned batch settings None fits is has = turned_usual batch settings fits is (is_wide batch) refl
-turned batch settings (Some w) fits is has = (turns batch settings fits is (Board w) has, tt)
+turned : (batch : List Transfer) (settings : List (List ℕ)) (board : Option BoardWiring) (wide : Bool) → IsBatch batch → IsScheduleOf batch settings → HasModulesOf (joined_on board wide) batch → AllByRecursion (λ one. Turn one batch settings (sent_for one batch settings)) (wirings board wide)
+turned batch settings None true fits is has = (turns batch settings fits is Forth has, (turns batch settings fits is Back has, tt))
+turned batch settings None false fits is has = (turns batch settings fits is Both has, tt)
+turned batch settings (Some w) wide fits is has = (turns batch settings fits is (Board w) has, tt)
 
 -- ---- boards
 
@@ -107,11 +103,12 @@ wired_so run (Some file) (Some board) batch (Some w) held ways filled = record {
 
 -- ---- `switch`
 
-switched : (run : Run) (batch : Text) (from : Source Text) (file : Option Text) (text : List ℕ) (other : Option (List ℕ)) (board : Option BoardText) (printed : Printed)
+switched : (run : Run) (batch : Text) (from : Source Text) (file : Option Text) (has_two : Bool) (text : List ℕ) (other : Option (List ℕ)) (board : Option BoardText) (printed : Printed)
     → run.holds batch text → HoldsGiven run.holds (schedule_in from) other → HoldsBoard run file board → run.prints printed.text → printed.status ≡ DONE
-    → IsSwitched (source_in from (text_in other)) board text printed → HasSwitched run batch from file
-switched run batch from file text other board printed held held_schedule held_board prints status (switching.switched wiring transfers settings is ways filled tells) =
+    → IsSwitched (source_in from (text_in other)) has_two board text printed → HasSwitched run batch from file has_two
+switched run batch from file has_two text other board printed held held_schedule held_board prints status (switching.switched wiring transfers settings is ways filled tells) =
     let reads = denoted from other widest text transfers settings is in
+    let fits : IsBatch transfers = record { few = reads.few; within = reads.within } in
     let schedule = scheduled run from other widest text transfers settings held_schedule is in
     record {
       transfers = transfers;
@@ -121,31 +118,31 @@ switched run batch from file text other board printed held held_schedule held_bo
       held = record { text = text; held = held; denotes = reads };
       schedule = schedule;
       wired = wired_so run file board transfers wiring held_board ways filled;
-      turned = turned transfers settings wiring (record { few = reads.few; within = reads.within }) (schedule_of run from transfers settings schedule) (joins_all board wiring transfers filled ways);
+      turned = turned transfers settings wiring (has_two || is_wide transfers) fits (schedule_of run from transfers settings schedule) (all_joined board wiring has_two transfers fits filled ways);
       prints = subst run.prints tells.0 prints;
     }
-switched run batch from file text other board printed held held_schedule held_board prints status (switching.lacking refusal lacks line) = absurd (never_done printed.status line.status status)
-switched run batch from file text other board printed held held_schedule held_board prints status (switching.wrong refusal wrong has line) = absurd (never_done printed.status line.status status)
+switched run batch from file has_two text other board printed held held_schedule held_board prints status (switching.lacking refusal lacks line) = absurd (never_done printed.status line.status status)
+switched run batch from file has_two text other board printed held held_schedule held_board prints status (switching.wrong refusal wrong has line) = absurd (never_done printed.status line.status status)
 
-switched_board : (run : Run) (batch : Text) (from : Source Text) (file : Text) (text wiring : List ℕ) (other : Option (List ℕ)) (printed : Printed)
+switched_board : (run : Run) (batch : Text) (from : Source Text) (file : Text) (has_two : Bool) (text wiring : List ℕ) (other : Option (List ℕ)) (printed : Printed)
     → run.holds batch text → HoldsGiven run.holds (schedule_in from) other → run.holds file wiring → run.prints printed.text → printed.status ≡ DONE
-    → IsOnBoard (λ board. IsSwitched (source_in from (text_in other)) (Some board) text) wiring printed → HasSwitched run batch from (Some file)
-switched_board run batch from file text wiring other printed held held_schedule held_wiring prints status (switching.wired board denotes is) =
-    switched run batch from (Some file) text other (Some board) printed held held_schedule (wiring, held_wiring, denotes) prints status is
-switched_board run batch from file text wiring other printed held held_schedule held_wiring prints status (switching.miswired fault wrong line) = absurd (never_done printed.status line.status status)
+    → IsOnBoard (λ board. IsSwitched (source_in from (text_in other)) has_two (Some board) text) wiring printed → HasSwitched run batch from (Some file) has_two
+switched_board run batch from file has_two text wiring other printed held held_schedule held_wiring prints status (switching.wired board denotes is) =
+    switched run batch from (Some file) has_two text other (Some board) printed held held_schedule (wiring, held_wiring, denotes) prints status is
+switched_board run batch from file has_two text wiring other printed held held_schedule held_wiring prints status (switching.miswired fault wrong line) = absurd (never_done printed.status line.status status)
 
-switched_on : (run : Run) (batch : Text) (from : Source Text) (file : Option Text) (text : List ℕ) (other wiring : Option (List ℕ)) (printed : Printed)
+switched_on : (run : Run) (batch : Text) (from : Source Text) (file : Option Text) (has_two : Bool) (text : List ℕ) (other wiring : Option (List ℕ)) (printed : Printed)
     → run.holds batch text → HoldsGiven run.holds (schedule_in from) other → HoldsGiven run.holds file wiring → run.prints printed.text → printed.status ≡ DONE
-    → IsOn (λ board. IsSwitched (source_in from (text_in other)) board text) wiring printed → HasSwitched run batch from file
-switched_on run batch from None text other None printed held held_schedule held_wiring prints status is = switched run batch from None text other None printed held held_schedule tt prints status is
-switched_on run batch from None text other (Some wiring) printed held held_schedule held_wiring prints status is = absurd held_wiring
-switched_on run batch from (Some file) text other None printed held held_schedule held_wiring prints status is = absurd held_wiring
-switched_on run batch from (Some file) text other (Some wiring) printed held held_schedule held_wiring prints status is = switched_board run batch from file text wiring other printed held held_schedule held_wiring prints status is
+    → IsOn (λ board. IsSwitched (source_in from (text_in other)) has_two board text) wiring printed → HasSwitched run batch from file has_two
+switched_on run batch from None has_two text other None printed held held_schedule held_wiring prints status is = switched run batch from None has_two text other None printed held held_schedule tt prints status is
+switched_on run batch from None has_two text other (Some wiring) printed held held_schedule held_wiring prints status is = absurd held_wiring
+switched_on run batch from (Some file) has_two text other None printed held held_schedule held_wiring prints status is = absurd held_wiring
+switched_on run batch from (Some file) has_two text other (Some wiring) printed held held_schedule held_wiring prints status is = switched_board run batch from file has_two text wiring other printed held held_schedule held_wiring prints status is
 
 pub keeps_switches : (run : Run) → Answers run → KeepsSwitches run
-keeps_switches run all batch from wiring workers done =
-    let is = text_done run (SwitchJob batch from wiring workers) tt all done in
-    switched_on run batch from wiring (text_in is.files.list) is.files.other is.files.wiring is.printed (given_text run.holds batch is.files.list is.held.list) is.held.other is.held.wiring is.prints (sym is.status ∙ done.1) is.answer
+keeps_switches run all batch from wiring has_two workers done =
+    let is = text_done run (SwitchJob batch from wiring has_two workers) tt all done in
+    switched_on run batch from wiring has_two (text_in is.files.list) is.files.other is.files.wiring is.printed (given_text run.holds batch is.files.list is.held.list) is.held.other is.held.wiring is.prints (sym is.status ∙ done.1) is.answer
 
 -- ---- `orders`
 

@@ -62,7 +62,7 @@ IsWarnedOf (Draw batch schedule settings) files =
     (drawn : Printed) × IsDrawn widest (text_in files.list) (text_in files.other) settings drawn
     × IsTooWide drawn.text
 IsWarnedOf (Plan batch planning workers) files = HasOverlap (text_in files.list)
-IsWarnedOf (Switch batch source wiring workers) files = HasOverlap (text_in files.list)
+IsWarnedOf (Switch batch source wiring has_two workers) files = HasOverlap (text_in files.list)
 IsWarnedOf (Drive batch port port_b source wiring first goes_on workers) files =
     HasOverlap (text_in files.list)
 IsWarnedOf job files = ⊥

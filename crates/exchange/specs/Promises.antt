@@ -2,7 +2,7 @@
 -- and ends with status 0, with 1, or with 3. The clause of the function `answer` is
 -- `KeepsPromises`, which stands last. It is proved of the contract of `respond`, which nobody has to
 -- read to know what it says.
-use Rattle.std.specs.Prelude.{false, true, ◌≡◌, ◌≢◌, ◌<◌, ◌≤◌, ◌+◌, ℕ, zero, suc, Bool, List, [], ◌∷◌, ◌++◌, ◌⊎◌, All, Option, Some, None, IfSome, MatchOption, ⊤, codes, if◌then◌else◌, is_some, length, map, option_map, slice_get, slice_index_or, sum_by}
+use Rattle.std.specs.Prelude.{false, true, ◌||◌, ◌≡◌, ◌≢◌, ◌<◌, ◌≤◌, ◌+◌, ℕ, zero, suc, Bool, List, [], ◌∷◌, ◌++◌, ◌⊎◌, All, Option, Some, None, IfSome, MatchOption, ⊤, codes, if◌then◌else◌, is_some, length, map, option_map, slice_get, slice_index_or, sum_by}
 use Rattle.std.specs.Fmt.{decimal}
 use Rattle.std.specs.Io.KnownBytes.{Appends}
 use Rattle.std.specs.List.{AllByRecursion, flat_map, list_any, range_with_len}
@@ -91,6 +91,7 @@ use Rattle.crossbar.specs.Traffic.{bytes_to, conversed}
 use Rattle.crossbar.specs.declared.chip.Chip.{Chip}
 use Rattle.crossbar.specs.declared.chip.Chip.TheVariants.{A, B}
 use Rattle.crossbar.specs.declared.traffic.Passing.{Passing}
+use Rattle.drive_answers.specs.Answers.{is_wide_over}
 use Rattle.drive_answers.specs.Endings.{completed_line, fault_words, left_line, stopped_line}
 use Rattle.drive_answers.specs.Ways.{IsUnopened, Names, Ways, used}
 use Rattle.switch_driver.specs.Laws.{JoinsAs}
@@ -349,11 +350,10 @@ IsWired run None batch board = board ≡ None
 IsWired run (Some file) batch None = ⊥
 IsWired run (Some file) batch (Some board) = IsBoard run file batch board
 
--- the switches of such a rack: that of a board; or two, where the batch names a module that one
--- doesn't join; or one
-abbrev pub wirings : Option BoardWiring → List Transfer → List Wiring
-wirings (Some board) batch = Board board ∷ []
-wirings None batch = if is_wide batch then Forth ∷ Back ∷ [] else Both ∷ []
+-- the switches of such a rack: that of a board, or two, or one
+abbrev pub wirings : Option BoardWiring → (wide : Bool) → List Wiring
+wirings (Some board) wide = Board board ∷ []
+wirings None wide = if wide then Forth ∷ Back ∷ [] else Both ∷ []
 
 -- The commands are those of a C004, and none of them asks for a reply. Whatever the switch was,
 -- behind those for the settings up to each it joins just the pairs of links that this one needs,
@@ -370,9 +370,10 @@ pub record Turn (wiring : Wiring) (batch : List Transfer) (settings : List (List
       → commands (k + 1) ≡ Settle ∷ []
 
 -- The file held a batch. Printed were, for each setting of a schedule and nothing else, the bytes
--- of such commands for each switch.
+-- of such commands for each switch. They are two where that was said, or where the batch names a
+-- module that one doesn't join.
 pub record HasSwitched (run : Run) (batch : Text) (scheduled : Source Text) (wiring : Option Text)
-    : Type 0 where
+    (has_two : Bool) : Type 0 where
   pub transfers : List Transfer
   pub settings : List (List ℕ)
   pub board : Option BoardWiring
@@ -381,9 +382,9 @@ pub record HasSwitched (run : Run) (batch : Text) (scheduled : Source Text) (wir
   pub schedule : IsScheduled run scheduled transfers settings
   pub wired : IsWired run wiring transfers board
   pub turned : AllByRecursion (λ one. Turn one transfers settings (sent one))
-      (wirings board transfers)
+      (wirings board (has_two || is_wide transfers))
   pub prints : run.prints (flat_map
-      (λ k. lines_on board (is_wide transfers) k (λ one. sent one k))
+      (λ k. lines_on board (has_two || is_wide transfers) k (λ one. sent one k))
       (range_with_len 0 (length settings)))
 
 -- Modules that obey all these orders, setting by setting, in whatever order words pass within one,
@@ -431,10 +432,9 @@ ports_of port port_b before after =
     record { names = record { port = port; port_b = port_b }; before = before; after = after }
 
 -- the switches of a rack, and what is wired to each
-abbrev pub switches_of : Option BoardWiring → List Transfer → List (Chip × Wiring)
-switches_of (Some board) batch = (A, Board board) ∷ []
-switches_of None batch =
-    if is_wide batch then (A, Forth) ∷ (B, Back) ∷ [] else (A, Both) ∷ []
+abbrev pub switches_of : Option BoardWiring → (wide : Bool) → List (Chip × Wiring)
+switches_of (Some board) wide = (A, Board board) ∷ []
+switches_of None wide = if wide then (A, Forth) ∷ (B, Back) ∷ [] else (A, Both) ∷ []
 
 -- In what passed the switch was asked all its outputs, and they answered what is wanted. Then it
 -- was sent nothing but the end of the sequence. Whatever it was when it was asked, if it answered
@@ -455,22 +455,23 @@ pub record HasAnswered (chip : Chip) (wanted : Switch) (passed : List Passing) :
       → JoinsAs (after_all (all_enquiries ++ Settle ∷ []) switch) wanted
 
 -- behind what passed each switch of the rack has answered as the setting calls for
-abbrev pub Stands : Option BoardWiring → List Transfer → List (List ℕ) → ℕ → List Passing → Type 0
-Stands board batch settings k passed =
+abbrev pub Stands : Option BoardWiring → (wide : Bool) → List Transfer → List (List ℕ) → ℕ
+    → List Passing → Type 0
+Stands board wide batch settings k passed =
     AllByRecursion
     (λ one. HasAnswered one.0
     (switch_of one.1 (setting_pairs batch (numbers_in settings k))) passed)
-    (switches_of board batch)
+    (switches_of board wide)
 
 -- So many settings stood, from the first one on. Each stood behind all that had passed for the ones
 -- before it, and maybe more.
-abbrev pub StoodInTurn : Option BoardWiring → List Transfer → List (List ℕ) → (first count : ℕ)
-    → List Passing → Type 0
-StoodInTurn board batch settings first zero passed = passed ≡ []
-StoodInTurn board batch settings first (suc n) passed =
+abbrev pub StoodInTurn : Option BoardWiring → (wide : Bool) → List Transfer → List (List ℕ)
+    → (first count : ℕ) → List Passing → Type 0
+StoodInTurn board wide batch settings first zero passed = passed ≡ []
+StoodInTurn board wide batch settings first (suc n) passed =
     (earlier more : List Passing) × (passed ≡ earlier ++ more)
-    × StoodInTurn board batch settings first n earlier
-    × Stands board batch settings (first + n) passed
+    × StoodInTurn board wide batch settings first n earlier
+    × Stands board wide batch settings (first + n) passed
 
 -- the lines of so many settings, from the first one on
 abbrev pub lines_told : List (List ℕ) → (first count : ℕ) → List ℕ
@@ -479,7 +480,8 @@ lines_told settings first (suc n) =
     lines_told settings first n ++ stage_line (first + n) (numbers_in settings (first + n))
 
 -- The file held a batch. The ports of these names were opened, once, and this passed over them.
--- Behind it all settings of a schedule stood, from the first one on, each with its line.
+-- Behind it all settings of a schedule stood, from the first one on, each with its line. A rack
+-- that is wired as usual has two switches where there are two ports, or where the batch needs two.
 pub record HasDriven (run : Run) (ports : Ports) (batch : Text) (scheduled : Source Text)
     (wiring : Option Text) (first : ℕ) : Type 0 where
   pub transfers : List Transfer
@@ -492,7 +494,8 @@ pub record HasDriven (run : Run) (ports : Ports) (batch : Text) (scheduled : Sou
   pub wired : IsWired run wiring transfers board
   pub opened : ports.after ≡ used ports.names (Some passed) 0 ports.before
   pub all : first + count ≡ length settings
-  pub stood : StoodInTurn board transfers settings first count passed
+  pub stood : StoodInTurn board (is_wide_over ports.names transfers) transfers settings first count
+      passed
   pub prints : run.prints (lines_told settings first count ++ completed_line (length settings))
 
 -- the texts say a schedule of this batch: a plan of it, or the user's own
@@ -545,7 +548,8 @@ pub record HasStopped (run : Run) (ports : Ports) (batch : Text) (scheduled : So
   pub schedule : IsScheduled run scheduled transfers settings
   pub wired : IsWired run wiring transfers board
   pub opened : ports.after ≡ used ports.names (Some (earlier ++ more)) failed ports.before
-  pub stood : StoodInTurn board transfers settings first count earlier
+  pub stood : StoodInTurn board (is_wide_over ports.names transfers) transfers settings first count
+      earlier
   pub last : IsLastLine first (first + count) (length settings) more line
   pub prints : run.prints (lines_told settings first count ++ line)
 
@@ -556,7 +560,7 @@ AreNoWays from text wiring ports refusal =
     (board : Option BoardText) × (filled : Option BoardWiring) × (batch : List Transfer)
     × (settings : List (List ℕ)) × IsBoardOf wiring board × IsFilled board filled
     × SaySchedule from text batch settings
-    × IsUnopened ports.names (length (switches_of filled batch)) refusal
+    × IsUnopened ports.names (length (switches_of filled (is_wide_over ports.names batch))) refusal
 
 -- Printed was the one line of a refusal, of what is first wrong with the texts, or with the ports.
 -- Nothing passed over these.
@@ -1052,7 +1056,7 @@ IsFirstWrongIn (Draw batch schedule chosen) texts refusal =
     IsFirstWrongDrawn (text_in texts.list) (text_in texts.other) chosen refusal
 IsFirstWrongIn (Prices batch schedule) texts refusal =
     IsInvalid widest (text_in texts.list) (text_in texts.other) refusal
-IsFirstWrongIn (SwitchJob batch scheduled wiring workers) texts refusal =
+IsFirstWrongIn (SwitchJob batch scheduled wiring has_two workers) texts refusal =
     IsFirstWrongOn (source_in scheduled (text_in texts.other)) (text_in texts.list)
     texts.wiring 0 refusal
 IsFirstWrongIn (Orders batch scheduled only workers) texts refusal =
@@ -1108,7 +1112,7 @@ AreRightTexts (Draw batch schedule chosen) texts =
 AreRightTexts (Prices batch schedule) texts =
     (transfers : List Transfer) × (settings : List (List ℕ))
     × IsScheduleRead widest (text_in texts.list) (text_in texts.other) transfers settings
-AreRightTexts (SwitchJob batch scheduled wiring workers) texts =
+AreRightTexts (SwitchJob batch scheduled wiring has_two workers) texts =
     CanBeSwitched (source_in scheduled (text_in texts.other)) (text_in texts.list) texts.wiring
 AreRightTexts (Orders batch scheduled only workers) texts =
     (transfers : List Transfer)
@@ -1190,7 +1194,7 @@ pub record SomeAsk : Type 0 where
   pub prices : Ask (codes "draw" ∷ codes "b" ∷ codes "s" ∷ codes "--prices" ∷ [])
       (Prices (codes "b") (codes "s"))
   pub switch : Ask (codes "switch" ∷ codes "b" ∷ [])
-      (SwitchJob (codes "b") (source.Plan Plain) None 1)
+      (SwitchJob (codes "b") (source.Plan Plain) None false 1)
   pub orders : Ask (codes "orders" ∷ codes "b" ∷ []) (Orders (codes "b") (source.Plan Plain) None 1)
   pub drive : Ask (codes "drive" ∷ codes "b" ∷ codes "p" ∷ [])
       (Drive (codes "b") (codes "p") None (source.Plan Plain) None 0 false 1)
@@ -1256,7 +1260,8 @@ IsDone w (Plan file planning workers) = HasPlanned w.run file planning
 IsDone w (Check batch schedule) = HasChecked w.run batch schedule
 IsDone w (Draw batch schedule chosen) = HasDrawn w.run batch schedule chosen
 IsDone w (Prices batch schedule) = HasPriced w.run batch schedule
-IsDone w (SwitchJob batch scheduled wiring workers) = HasSwitched w.run batch scheduled wiring
+IsDone w (SwitchJob batch scheduled wiring has_two workers) =
+    HasSwitched w.run batch scheduled wiring has_two
 IsDone w (Orders batch scheduled only workers) = HasOrdered w.run batch scheduled only
 IsDone w (Direct moves) = HasDirected w.run moves
 IsDone w (Apply shape batch image workers) = HasApplied w.run shape batch image

@@ -81,8 +81,8 @@ IsTextAnswer (Draw batch schedule settings) files end =
     IsDrawn widest (text_in files.list) (text_in files.other) settings end
 IsTextAnswer (Prices batch schedule) files end =
     IsPriced widest (text_in files.list) (text_in files.other) end
-IsTextAnswer (Switch batch source wiring workers) files end =
-    IsOn (λ board. IsSwitched (source_in source (text_in files.other)) board
+IsTextAnswer (Switch batch source wiring has_two workers) files end =
+    IsOn (λ board. IsSwitched (source_in source (text_in files.other)) has_two board
     (text_in files.list)) files.wiring end
 IsTextAnswer (Orders batch source of_module workers) files end =
     IsOrdered (source_in source (text_in files.other)) of_module (text_in files.list) end

@@ -379,12 +379,13 @@ fn answer_texts<R: AllocGlobal + Threads + Sync>(
         Job::Prices { .. } => Ok(Found::alone(answer_prices(alloc, list, other)?)),
         Job::Switch {
             source,
+            has_two,
             workers,
             ..
         } => {
             let source = source_with(source, other);
             let wiring = slice_of(&contents.wiring);
-            let answer = answer_switch(rt, alloc, wiring, list, source, *workers)?;
+            let answer = answer_switch(rt, alloc, *has_two, wiring, list, source, *workers)?;
             Ok(Found::alone(answer))
         }
         Job::Orders {

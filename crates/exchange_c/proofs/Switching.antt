@@ -1,5 +1,5 @@
 -- What is answered, by where the schedule comes from.
-use Rattle.std.proofs.Common.{◌≡◌, [], ◌∷◌, ℕ, List, Result, IfOk, Some, subst}
+use Rattle.std.proofs.Common.{◌≡◌, [], ◌∷◌, ℕ, List, Result, IfOk, Some, false, subst}
 use Rattle.std.specs.Borrow.{Bor}
 use Rattle.plan_answers.specs.Answers.{IsOnly}
 use Rattle.plan_answers.specs.Refusals.{Printed}
@@ -18,5 +18,5 @@ answered_by r Is (byte ∷ bytes) (Text lent) same is one =
     the_one r (Is (Text (byte ∷ bytes))) (subst (λ s. IfOk r (Is s)) same is) (subst (λ s. IfOk r (IsOnly (Is s))) same (one tt))
 
 -- and of `switch` on a wiring
-pub switched_on : {E : Type 0} (r : Result Printed E) (wiring batch schedule : List ℕ) (source : Source (List ℕ)) → source ≡ source_for schedule → IfOk r (IsOn (λ board. IsSwitched source board batch) (Some wiring)) → IfOk r (IsSwitchedOn wiring batch schedule)
-switched_on r wiring batch schedule source same is = subst (λ (s : Source (List ℕ)). IfOk r (IsOn (λ board. IsSwitched s board batch) (Some wiring))) same is
+pub switched_on : {E : Type 0} (r : Result Printed E) (wiring batch schedule : List ℕ) (source : Source (List ℕ)) → source ≡ source_for schedule → IfOk r (IsOn (λ board. IsSwitched source false board batch) (Some wiring)) → IfOk r (IsSwitchedOn wiring batch schedule)
+switched_on r wiring batch schedule source same is = subst (λ (s : Source (List ℕ)). IfOk r (IsOn (λ board. IsSwitched s false board batch) (Some wiring))) same is

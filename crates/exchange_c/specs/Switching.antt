@@ -1,5 +1,5 @@
 -- What the calls of `switch` and of `orders` answer: both take a schedule, or none.
-use Rattle.std.specs.Prelude.{ℕ, List, [], ◌∷◌, Some, None}
+use Rattle.std.specs.Prelude.{ℕ, List, [], ◌∷◌, Some, None, false}
 use Rattle.plan_answers.specs.Refusals.{Printed}
 use Rattle.plan_answers.specs.declared.source.Planning.TheVariants.{Plain}
 use Rattle.plan_answers.specs.declared.source.Source.{Source}
@@ -20,7 +20,7 @@ IsBy Is (byte ∷ bytes) = IsTheOne (Is (Text (byte ∷ bytes)))
 
 -- what `switch` answers so
 abbrev pub IsSwitchedBy : List ℕ → List ℕ → Printed → Type 0
-IsSwitchedBy batch schedule = IsBy (λ source. IsSwitched source None batch) schedule
+IsSwitchedBy batch schedule = IsBy (λ source. IsSwitched source false None batch) schedule
 
 -- what `orders` answers so, of all modules
 abbrev pub IsOrderedBy : List ℕ → List ℕ → Printed → Type 0
@@ -29,4 +29,4 @@ IsOrderedBy batch schedule = IsBy (λ source. IsOrdered source None batch) sched
 -- what `switch` answers on a wiring
 abbrev pub IsSwitchedOn : List ℕ → List ℕ → List ℕ → Printed → Type 0
 IsSwitchedOn wiring batch schedule =
-    IsOn (λ board. IsSwitched (source_for schedule) board batch) (Some wiring)
+    IsOn (λ board. IsSwitched (source_for schedule) false board batch) (Some wiring)

@@ -142,7 +142,15 @@ pub extern "C" fn exchange_switch(
     ensures { Leaves (IsSwitchedBy batch.now schedule.now) out.old out.new count.new result }
 {
     let source = source_of(schedule);
-    let answer = answer_switch(&NoThreads, alloc, None, batch, source, WorkerCount::ONE);
+    let answer = answer_switch(
+        &NoThreads,
+        alloc,
+        false,
+        None,
+        batch,
+        source,
+        WorkerCount::ONE,
+    );
     leave(answer, out, count)
 }
 
@@ -164,6 +172,7 @@ pub extern "C" fn exchange_switch_wired(
     let answer = answer_switch(
         &NoThreads,
         alloc,
+        false,
         Some(wiring),
         batch,
         source,

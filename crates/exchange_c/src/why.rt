@@ -84,13 +84,29 @@ impl Asked {
         match self {
             Asked::Plan => answer_plan(rt, alloc, first, Planning::Plain, workers),
             Asked::Check => answer_check(alloc, first, second),
-            Asked::Switch => answer_switch(rt, alloc, None, first, source_of(second), workers),
+            Asked::Switch => answer_switch(
+                rt,
+                alloc,
+                false,
+                None,
+                first,
+                source_of(second),
+                workers,
+            ),
             Asked::Apply => answer_apply(alloc, first, second, third),
             Asked::Draw => answer_draw(alloc, first, second, None),
             Asked::Changes => answer_changes(alloc, first, second),
             Asked::Direct => answer_direct(alloc, first),
             Asked::SwitchWired => {
-                answer_switch(rt, alloc, Some(third), first, source_of(second), workers)
+                answer_switch(
+                    rt,
+                    alloc,
+                    false,
+                    Some(third),
+                    first,
+                    source_of(second),
+                    workers,
+                )
             }
             Asked::Orders => answer_orders(rt, alloc, first, source_of(second), None, workers),
         }

@@ -5,7 +5,6 @@ use Rattle.std.proofs.lemmas.List.{take_more, flat_map_more}
 use Rattle.batch.specs.declared.transfer.Transfer.{Transfer}
 use Rattle.crossbar.specs.declared.board.BoardWiring.{BoardWiring}
 use Rattle.crossbar.specs.declared.pair.Pair.{Pair}
-use Rattle.switch_settings.specs.Racks.{is_wide}
 use Rattle.switch_settings.specs.Sending.{pairs_at, sent_for, standing_before, turning}
 use Rattle.switch_settings.proofs.Schedules.{settings_sent}
 use Rattle.line_words.specs.HexWords.{hex2}
@@ -19,11 +18,11 @@ more_bytes before bytes i below =
     flat_map_more (λ byte. codes " " ++ hex2 byte) before (take i bytes) (get_or bytes i 0) ∙ ap (λ (x : List ℕ). before ++ bytes_text x) (sym (take_more bytes i 0 below))
 
 -- one more setting
-pub more_lines : (board : Option BoardWiring) (batch : List Transfer) (settings : List (List ℕ)) (n : ℕ) (wide : Bool) (known : Option (List Pair)) (pairs : List Pair) (before after : List ℕ) → wide ≡ is_wide batch → known ≡ standing_before batch settings n → pairs ≡ pairs_at batch settings n
-    → before ≡ flat_map (turning_lines board batch settings) (range_with_len 0 n) → after ≡ before ++ lines_on board wide n (λ wiring. turning wiring known pairs) → after ≡ flat_map (turning_lines board batch settings) (range_with_len 0 (n + 1))
-more_lines board batch settings n wide known pairs before after w s p so_far more =
-    let lines : lines_on board wide n (λ wiring. turning wiring known pairs) ≡ turning_lines board batch settings n = rw (w, s, p) refl in
-    more ∙ ap₂ (λ (x y : List ℕ). x ++ y) so_far lines ∙ more_parts (turning_lines board batch settings) [] n
+pub more_lines : (board : Option BoardWiring) (wide : Bool) (batch : List Transfer) (settings : List (List ℕ)) (n : ℕ) (known : Option (List Pair)) (pairs : List Pair) (before after : List ℕ) → known ≡ standing_before batch settings n → pairs ≡ pairs_at batch settings n
+    → before ≡ flat_map (turning_lines board wide batch settings) (range_with_len 0 n) → after ≡ before ++ lines_on board wide n (λ wiring. turning wiring known pairs) → after ≡ flat_map (turning_lines board wide batch settings) (range_with_len 0 (n + 1))
+more_lines board wide batch settings n known pairs before after s p so_far more =
+    let lines : lines_on board wide n (λ wiring. turning wiring known pairs) ≡ turning_lines board wide batch settings n = rw (s, p) refl in
+    more ∙ ap₂ (λ (x y : List ℕ). x ++ y) so_far lines ∙ more_parts (turning_lines board wide batch settings) [] n
 
 -- what a run sends is what is told
 pub told_is_sent : ToldIsSent

@@ -35,7 +35,7 @@ ToldIsSent =
     (old new : List Passing) → IsAsWide modules batch
     → LeavesTraffic modules batch settings (Completed done words) (Some old) (Some new)
     → (more : List Passing) × (new ≡ old ++ more)
-    × TellsSent (is_wide batch) (length settings) (settings_bytes_text None batch settings) more
+    × TellsSent (is_wide batch) (length settings) (settings_bytes_text None (is_wide batch) batch settings) more
 
 -- for a setting that joins the same pairs of modules as the one before, each switch is sent the end
 -- of a sequence alone

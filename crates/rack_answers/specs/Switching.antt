@@ -1,6 +1,6 @@
 -- What `switch` answers: what the switches of a rack are sent for a schedule, setting by setting.
 -- The texts are this project's choice.
-use Rattle.std.specs.Prelude.{◌≡◌, ℕ, ◌++◌, Bool, List, [], Option, Some, None, if◌then◌else◌, codes, length}
+use Rattle.std.specs.Prelude.{◌≡◌, ◌||◌, ℕ, ◌++◌, Bool, List, [], Option, Some, None, if◌then◌else◌, codes, length}
 use Rattle.std.specs.Fmt.{decimal}
 use Rattle.std.specs.List.{flat_map, range_with_len}
 use Rattle.batch.specs.Extent.{widest}
@@ -59,34 +59,39 @@ lines_on (Some board) wide setting sent = switch_line setting [] (sent (OnBoard 
 -- ---- any schedule
 
 -- the lines of a setting: what turns the switches to its pairs
-abbrev pub turning_lines : Option BoardWiring → List Transfer → List (List ℕ) → ℕ → List ℕ
-turning_lines board batch settings k =
-    lines_on board (is_wide batch) k (λ wiring. sent_for wiring batch settings k)
+abbrev pub turning_lines : Option BoardWiring → (wide : Bool) → List Transfer → List (List ℕ) → ℕ
+    → List ℕ
+turning_lines board wide batch settings k =
+    lines_on board wide k (λ wiring. sent_for wiring batch settings k)
 
 -- the lines of all settings, in their order
-abbrev pub settings_bytes_text : Option BoardWiring → List Transfer → List (List ℕ) → List ℕ
-settings_bytes_text board batch settings =
-    flat_map (turning_lines board batch settings) (range_with_len 0 (length settings))
+abbrev pub settings_bytes_text : Option BoardWiring → (wide : Bool) → List Transfer
+    → List (List ℕ) → List ℕ
+settings_bytes_text board wide batch settings =
+    flat_map (turning_lines board wide batch settings) (range_with_len 0 (length settings))
 
 -- those lines, under their status
-abbrev pub TellsSwitch : Option BoardWiring → List Transfer → List (List ℕ) → Printed → Type 0
-TellsSwitch board batch settings printed =
-    (printed.text ≡ settings_bytes_text board batch settings) × (printed.status ≡ DONE)
+abbrev pub TellsSwitch : Option BoardWiring → (wide : Bool) → List Transfer → List (List ℕ)
+    → Printed → Type 0
+TellsSwitch board wide batch settings printed =
+    (printed.text ≡ settings_bytes_text board wide batch settings) × (printed.status ≡ DONE)
 
 -- Those of a schedule from this source, or a refusal, each under its status. Of a board all links
 -- that the batch needs are there, and the lines are those of its wiring, whatever free links stand
--- in it for what is left out. What isn't there is refused behind faults of the batch's text, and
--- before those of a schedule.
-pub data IsSwitched (source : Source (List ℕ)) (board : Option Board) (batch : List ℕ)
-    (printed : Printed) : Type 0 where
+-- in it for what is left out. Another rack has two switches if that is said, or if the batch needs
+-- them. What isn't there is refused behind faults of the batch's text, and before those of a
+-- schedule.
+pub data IsSwitched (source : Source (List ℕ)) (has_two : Bool) (board : Option Board)
+    (batch : List ℕ) (printed : Printed) : Type 0 where
   switched : (wiring : Option BoardWiring) (transfers : List Transfer) (settings : List (List ℕ))
       → IsScheduleFrom source widest batch transfers settings
       → HasWaysOn board transfers → IsFilled board wiring
-      → TellsSwitch wiring transfers settings printed → IsSwitched source board batch printed
+      → TellsSwitch wiring (has_two || is_wide transfers) transfers settings printed
+      → IsSwitched source has_two board batch printed
   lacking : (refusal : Refusal) → IsLackOf board batch refusal
-      → IsRefused (refusal_words refusal) printed → IsSwitched source board batch printed
+      → IsRefused (refusal_words refusal) printed → IsSwitched source has_two board batch printed
   wrong : (refusal : Refusal) → IsWrongFrom source widest batch refusal → LacksNothing board batch
-      → IsRefused (refusal_words refusal) printed → IsSwitched source board batch printed
+      → IsRefused (refusal_words refusal) printed → IsSwitched source has_two board batch printed
 
 -- ---- the text of a wiring
 

@@ -1,13 +1,15 @@
 //! The command `switch`.
 
-ghost use Rattle.std.specs.Prelude.{◌≡◌, IfOk, IfSome, OnOk, None};
+ghost use Rattle.std.specs.Prelude.{◌≡◌, ◌||◌, IfOk, IfSome, OnOk, None};
+ghost use Rattle.batch.specs.Batches.{IsBatch};
 ghost use Rattle.crossbar.specs.Pairs.{ArePairs, room_of};
 ghost use Rattle.link_graph.specs.Schedules.{IsScheduleOf};
 ghost use Rattle.plan_answers.specs.Answers.{IsOnly};
 ghost use Rattle.plan_answers.specs.Lent.{bytes_of};
 ghost use Rattle.plan_answers.specs.Schedules.{IsText, said_by};
+ghost use Rattle.switch_settings.specs.Racks.{HasModulesOf, is_wide as needs_two};
 ghost use Rattle.switch_settings.specs.Sending.{turning};
-ghost use Rattle.rack_answers.specs.Boards.{WiresAll, joined_on};
+ghost use Rattle.rack_answers.specs.Boards.{joined_on};
 ghost use Rattle.rack_answers.specs.Reports.{Adds};
 ghost use Rattle.rack_answers.specs.Switching.{bytes_text, setting_head as head_of, switch_line, lines_on, TellsSwitch, IsOn, IsSwitched};
 
@@ -94,18 +96,27 @@ fn push_setting(
     }
 }
 
+/// Whether a rack that is wired as usual has two switches: that is said, or the batch names a
+/// module that one doesn't join.
+fn has_switch_b(has_two: bool, batch: &Batch) -> bool
+    ensures { result ≡ (has_two || needs_two batch.now) }
+{
+    has_two || is_wide(batch.as_slice())
+}
+
 /// The answer that tells what the switches are sent for a schedule of the batch.
 fn switch_answer(
     alloc: Global,
     board: &Option<BoardWiring>,
+    wide: bool,
     batch: &Batch,
     schedule: &Schedule,
 ) -> Result<Answer, AllocError>
+    requires batch { IsBatch batch.now }
     requires schedule { IsScheduleOf batch.now schedule.now }
-    requires wired { WiresAll board.now batch.now }
-    ensures { IfOk result (TellsSwitch board.now batch.now schedule.now) }
+    requires modules { HasModulesOf (joined_on board.now wide) batch.now }
+    ensures { IfOk result (TellsSwitch board.now wide batch.now schedule.now) }
 {
-    let wide = is_wide(batch.as_slice());
     let mut text = Vec::new(alloc);
     let mut standing = None;
     for number in 0..schedule.settings() {
@@ -120,12 +131,13 @@ fn switch_answer(
 fn switch_on<R: Planner>(
     rt: &R,
     alloc: Global,
+    has_two: bool,
     board: &Option<Board>,
     batch: &[u8],
     source: Source<&[u8]>,
     workers: WorkerCount,
 ) -> Result<Answer, AllocError>
-    ensures { IfOk result (IsSwitched (said_by source.entry) board.now batch.now) }
+    ensures { IfOk result (IsSwitched (said_by source.entry) has_two board.now batch.now) }
 {
     if let Some(lack) = read_lack(alloc, board, batch)? {
         return Answer::refused(alloc, lack);
@@ -133,7 +145,8 @@ fn switch_on<R: Planner>(
     match Scheduled::read(rt, alloc, Shape::WIDEST, batch, source, workers) {
         Ok(scheduled) => {
             let (batch, schedule) = (scheduled.batch(), scheduled.schedule());
-            switch_answer(alloc, &wiring_of(board), batch, schedule)
+            let wide = has_switch_b(has_two, batch);
+            switch_answer(alloc, &wiring_of(board), wide, batch, schedule)
         }
         Err(refusal) => Answer::refused(alloc, refusal),
     }
@@ -142,34 +155,36 @@ fn switch_on<R: Planner>(
 /// The answer of `exchange switch`: what a run of a schedule of the batch that the text denotes
 /// sends over the configuration link, setting by setting, but for its enquiries; or the refusal of
 /// what is first wrong, as [`Scheduled::read`](plan_answers::Scheduled::read) looks at it. The rack
-/// of that run is as wide as the batch wants it; others go by the modules of their racks.
+/// of that run has two switches where that is said, or where the batch names a module above 15.
 ///
 /// A line is `setting S`, with the bytes behind it as pairs of hexadecimal digits: those of the
 /// first setting set a switch, whatever it was, and those of each later one change the switch of
-/// the setting before. Where the batch names a module above 15, a setting has two lines, `setting S
-/// a ..` for the switch of the way forth and `setting S b ..` for that of the way back. The batch
-/// is read against the widest shape. So many workers make a plain plan.
+/// the setting before. Where there are two switches, a setting has two lines, `setting S a ..` for
+/// the switch of the way forth and `setting S b ..` for that of the way back. The batch is read
+/// against the widest shape. So many workers make a plain plan.
 ///
 /// Where there is a text of a board's wiring, the links are those of this wiring, and all goes to
-/// the board's one switch. That text is looked at first. Behind the batch it is looked for its
-/// first transfer that names a module that the board hasn't, or needs a link that it hasn't.
+/// the board's one switch, whatever is said. That text is looked at first. Behind the batch it is
+/// looked for its first transfer that names a module that the board hasn't, or needs a link that it
+/// hasn't.
 pub fn answer_switch<R: Planner>(
     rt: &R,
     alloc: Global,
+    has_two: bool,
     wiring: Option<&[u8]>,
     batch: &[u8],
     source: Source<&[u8]>,
     workers: WorkerCount,
 ) -> Result<Answer, AllocError>
     ensures switched { IfOk result
-        (IsOn (λ board. IsSwitched (said_by source.entry) board batch.now)
+        (IsOn (λ board. IsSwitched (said_by source.entry) has_two board batch.now)
         (bytes_of wiring.entry)) }
     // Of a schedule's text and the usual wiring no other answer is right.
     ensures one { IsText source.entry → bytes_of wiring.entry ≡ None →
-        IfOk result (IsOnly (IsSwitched (said_by source.entry) None batch.now)) }
+        IfOk result (IsOnly (IsSwitched (said_by source.entry) has_two None batch.now)) }
 {
     match read_board(wiring) {
-        Ok(board) => switch_on(rt, alloc, &board, batch, source, workers),
+        Ok(board) => switch_on(rt, alloc, has_two, &board, batch, source, workers),
         Err(fault) => Answer::refused(alloc, fault.into()),
     }
 }

@@ -42,8 +42,7 @@ impl<'a> Note<'a> {
             Refusal::Overlap(..) => &[Line(List, Second), Text(": transfers "), Number(First),
                 Text(" and "), Number(Second), Text(" both write "), Piece::Block, Text(" (lines "),
                 OnLine(First), Text(" and "), OnLine(Second), Text(")")],
-            Refusal::Ports(1) => &[Name(List),
-                Text(": no module above 15 is named, so there is one switch: name PORT alone")],
+            Refusal::Ports(1) => &[Text("a board has one switch: name PORT alone")],
             Refusal::Ports(_) => &[Name(List),
                 Text(": a module above 15 is named, so there are two switches: name PORT and PORT_B")],
             Refusal::Threads => &[

@@ -9,7 +9,7 @@ use Rattle.plan_answers.specs.Lent.{bytes_of}
 use Rattle.plan_answers.specs.Refusals.{Refuses}
 use Rattle.plan_answers.specs.Schedules.{said_by}
 use Rattle.refusals.specs.declared.refusal.Refusal.TheVariants.{NoSetting}
-use Rattle.drive_answers.specs.Answers.{rack_for, IsStart, IsTried, lacking, no_setting, tried, wrong, wiring_wrong, texts_wrong}
+use Rattle.drive_answers.specs.Answers.{is_wide_over, rack_for, IsStart, IsTried, lacking, no_setting, tried, wrong, wiring_wrong, texts_wrong}
 use Rattle.drive_answers.specs.Ways.{names_of}
 use Rattle.drive_answers.specs.declared.drive_end.DriveEnd.{DriveEnd}
 use Rattle.drive_answers.proofs.Over.{failed}
@@ -65,7 +65,7 @@ returns-else-not-is_start-clause-answer g c =
     let names = names_of c.args.names in
     let was = g.Q.Ports.ways c.args.ports.now in
     let opens = g.Q.Ports.ways c.drive_over.new.ports in
-    IfOk-weaker c.drive_over.result (λ (end : DriveEnd). IsTried g.S.Stage.hears (rack_for c.wiring_of.result its.batch) its.batch its.settings first names was opens c.args.stage.now c.drive_over.new.stage end.answer) _
+    IfOk-weaker c.drive_over.result (λ (end : DriveEnd). IsTried g.S.Stage.hears (rack_for c.wiring_of.result (is_wide_over names its.batch)) its.batch its.settings first names was opens c.args.stage.now c.drive_over.new.stage end.answer) _
     (λ end driven. tried board c.wiring_of.result its.batch its.settings (board_of c.args.wiring board c.in-Ok.ensures.board) from has c.wiring_of.ensures start driven) is
 
 pub returns-else-not-is_start-clause-fault : goal.returns-else-not-is_start-clause-fault

@@ -1,4 +1,4 @@
-use Rattle.std.proofs.Common.{Option, List, ℕ}
+use Rattle.std.proofs.Common.{Bool, Option, List, ℕ}
 use Rattle.std.proofs.lemmas.Result.{IfOk-weaker}
 use Rattle.board_wiring.specs.Sources.{of_wiring}
 use Rattle.board_wiring.specs.declared.board.Board.{Board}
@@ -11,22 +11,22 @@ use Rattle.rack_answers.proofs.OnBoards.{on_board, on_fault}
 use Rattle.rack_answers.proofs.OneSwitching.{one_usual}
 use Rattle.rack_answers.proofs.switching.answer_switch.Goals as goal
 
-abbrev By : Source (List ℕ) → List ℕ → Option Board → Printed → Type 0
-By source batch board = IsSwitched source board batch
+abbrev By : Source (List ℕ) → Bool → List ℕ → Option Board → Printed → Type 0
+By source has_two batch board = IsSwitched source has_two board batch
 
 pub returns-in-Ok-clause-switched : goal.returns-in-Ok-clause-switched
 returns-in-Ok-clause-switched g c =
-    let Is = By (said_by c.args.source) c.args.batch.now in
+    let Is = By (said_by c.args.source) c.args.has_two c.args.batch.now in
     IfOk-weaker c.switch_on.result (Is c.in-Ok.board) (IsOn Is (bytes_of c.args.wiring)) (λ p is. on_board Is c.args.wiring c.in-Ok.board p c.in-Ok.ensures.board is) c.switch_on.ensures
 
 pub returns-in-Ok-clause-one : goal.returns-in-Ok-clause-one
-returns-in-Ok-clause-one g c = λ text usual. one_usual c.switch_on.result c.args.source (bytes_of c.args.wiring) c.args.batch.now text usual (returns-in-Ok-clause-switched g c)
+returns-in-Ok-clause-one g c = λ text usual. one_usual c.switch_on.result c.args.source c.args.has_two (bytes_of c.args.wiring) c.args.batch.now text usual (returns-in-Ok-clause-switched g c)
 
 pub returns-in-Err-clause-switched : goal.returns-in-Err-clause-switched
 returns-in-Err-clause-switched g c =
-    let Is = By (said_by c.args.source) c.args.batch.now in
+    let Is = By (said_by c.args.source) c.args.has_two c.args.batch.now in
     let refuses = rw c.into.ensures at c.refused.ensures in
     IfOk-weaker c.refused.result (Refuses (of_wiring c.in-Err.fault)) (IsOn Is (bytes_of c.args.wiring)) (λ p is. on_fault Is c.args.wiring c.in-Err.fault p c.in-Err.ensures.fault is.1) refuses
 
 pub returns-in-Err-clause-one : goal.returns-in-Err-clause-one
-returns-in-Err-clause-one g c = λ text usual. one_usual c.refused.result c.args.source (bytes_of c.args.wiring) c.args.batch.now text usual (returns-in-Err-clause-switched g c)
+returns-in-Err-clause-one g c = λ text usual. one_usual c.refused.result c.args.source c.args.has_two (bytes_of c.args.wiring) c.args.batch.now text usual (returns-in-Err-clause-switched g c)

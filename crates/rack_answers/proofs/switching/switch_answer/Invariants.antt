@@ -8,7 +8,7 @@ use Rattle.rack_answers.proofs.switching.switch_answer.Given as goal
 
 abbrev pub invariant-loop-number : goal.invariant-loop-number
 invariant-loop-number l = record {
-  text : l.text.items ≡ flat_map (turning_lines l.board l.batch l.schedule) (range_with_len 0 l.number);
+  text : l.text.items ≡ flat_map (turning_lines l.board l.wide l.batch l.schedule) (range_with_len 0 l.number);
   standing : l.standing ≡ standing_before l.batch l.schedule l.number;
   pairs : IfSome l.standing (λ old. ArePairs (joined_on l.board l.wide) old);
 }

@@ -1,4 +1,4 @@
-use Rattle.std.proofs.Common.{None, refl}
+use Rattle.std.proofs.Common.{None, false, refl}
 use Rattle.batch.specs.Extent.{widest}
 use Rattle.plan_answers.specs.Answers.{IsChecked}
 use Rattle.plan_answers.specs.Counting.{IsCountedWith}
@@ -17,7 +17,7 @@ returns-in-Check c =
 
 pub returns-in-Switch : goal.returns-in-Switch
 returns-in-Switch c =
-    rw c.in-Switch.is (answered_by c.answer_switch.result (λ source. IsSwitched source None c.args.given.first.now) c.args.given.second.now c.source_of.result c.source_of.ensures c.answer_switch.ensures.switched (λ text. c.answer_switch.ensures.one text refl))
+    rw c.in-Switch.is (answered_by c.answer_switch.result (λ source. IsSwitched source false None c.args.given.first.now) c.args.given.second.now c.source_of.result c.source_of.ensures c.answer_switch.ensures.switched (λ text. c.answer_switch.ensures.one text refl))
 
 pub returns-in-Apply : goal.returns-in-Apply
 returns-in-Apply c =
