@@ -173,19 +173,21 @@ fn is_full_for_settling<R: AllocGlobal + Eprint + Threads + Sync>(
 
 /// Whether each call is that has no batch and no plan.
 fn is_full_for_others<R: Eprint + Threads + Sync>(rt: &R, book: &mut Book) -> bool {
-    is_full_for(rt, book, Call::Fetch(1))
-        && is_full_for(rt, book, Call::Run(1))
-        && is_full_for(rt, book, Call::Show(1))
-        && is_full_for(rt, book, Call::Discard(1))
-        && is_full_for(rt, book, Call::Peek(1, FIRST))
-        && is_full_for(rt, book, Call::Poke(1, FIRST, 7))
+    let fetches = is_full_for(rt, book, Call::Fetch(1));
+    let runs = is_full_for(rt, book, Call::Run(1));
+    let shows = is_full_for(rt, book, Call::Show(1));
+    let discards = is_full_for(rt, book, Call::Discard(1));
+    let peeks = is_full_for(rt, book, Call::Peek(1, FIRST));
+    let pokes = is_full_for(rt, book, Call::Poke(1, FIRST, 7));
+    fetches && runs && shows && discards && peeks && pokes
 }
 
 /// `Book::apply` of one call of each kind at a full history.
 fn apply_full<R: AllocGlobal + Eprint + Threads + Sync>(rt: &R, book: &mut Book) -> Option<Met> {
     fill(rt, book, MAX_ENTRIES);
-    let is_right = is_full_for_submission(rt, book)?
-        && is_full_for_settling(rt, book)?
-        && is_full_for_others(rt, book);
-    Some(Met::row_if(is_right && is_at(book, MAX_ENTRIES)))
+    let submits = is_full_for_submission(rt, book)?;
+    let settles = is_full_for_settling(rt, book)?;
+    let others = is_full_for_others(rt, book);
+    let is_left = is_at(book, MAX_ENTRIES);
+    Some(Met::row_if(submits && settles && others && is_left))
 }

@@ -1,6 +1,6 @@
 //! The calls that make halves and tables of a graph.
 
-ghost use Rattle.std.specs.Prelude.{◌<◌, length, IsTrue};
+ghost use Rattle.std.specs.Prelude.{◌<◌, ◌≡◌, length, IsTrue};
 ghost use Rattle.link_graph.specs.Uses.{AreApart};
 
 use crate::marks::{begin, end};
@@ -86,15 +86,24 @@ fn halve<R: AllocGlobal + Eprint>(rt: &R, graph: &LinkGraph) -> Met
     }
 }
 
+/// Whether a transfer can be placed.
+fn takes(table: &mut Table<'_>, transfer: usize) -> bool
+    requires { transfer < length table.old.batch }
+    ensures { table.new.batch ≡ table.old.batch }
+{
+    table.insert(transfer).is_ok()
+}
+
 /// Whether four transfers can be placed one after the other, and four insertions are counted then.
 fn takes_four(mut table: Table<'_>) -> bool
     requires { 3 < length table.batch }
 {
-    table.insert(0).is_ok()
-        && table.insert(1).is_ok()
-        && table.insert(2).is_ok()
-        && table.insert(3).is_ok()
-        && table.inserted() == 4
+    let zero = takes(&mut table, 0);
+    let one = takes(&mut table, 1);
+    let two = takes(&mut table, 2);
+    let three = takes(&mut table, 3);
+    let inserted = table.inserted();
+    zero && one && two && three && inserted == 4
 }
 
 /// `Table::new` on row table-of-four.

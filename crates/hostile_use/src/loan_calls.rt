@@ -110,7 +110,11 @@ fn open_book<R: AllocGlobal + Eprint>(rt: &R, rack: Rack) -> Met {
     let opened = Book::new(rt.alloc(), rack);
     end(rt);
     match opened {
-        Ok(book) => Met::row_if(is_whole(rt.alloc(), book.rack()) && book.history().is_empty()),
+        Ok(book) => {
+            let is_whole = is_whole(rt.alloc(), book.rack());
+            let is_empty = book.history().is_empty();
+            Met::row_if(is_whole && is_empty)
+        }
         Err((rack, _)) => Met::no_memory_if(is_whole(rt.alloc(), &rack)),
     }
 }
@@ -136,7 +140,9 @@ fn open_exchange<L: ExchangeName, R: AllocGlobal + Eprint>(
     match made {
         Ok((_exchange, seats)) => Met::row_if(seats.len() == 2),
         Err((_blank, rack, plant, SharedFault::NoMemory)) => {
-            Met::no_memory_if(is_whole(rt.alloc(), &rack) && plant.workers.get() == 2)
+            let is_whole = is_whole(rt.alloc(), &rack);
+            let workers = plant.workers.get();
+            Met::no_memory_if(is_whole && workers == 2)
         }
         Err(_) => Met::Other,
     }

@@ -57,9 +57,10 @@ fn works(rack: &mut Rack) -> bool {
         module: 1,
         block: 0,
     };
-    rack.read(1, FIRST) == Ok(0x0001_0000)
-        && rack.write(1, FIRST, 7) == Ok(())
-        && rack.block(place) == Some([7, 0x0001_0001].as_slice())
+    let read = rack.read(1, FIRST);
+    let written = rack.write(1, FIRST, 7);
+    let block = rack.block(place);
+    read == Ok(0x0001_0000) && written == Ok(()) && block == Some([7, 0x0001_0001].as_slice())
 }
 
 /// Looks at a batch and works on a rack, between the marks.

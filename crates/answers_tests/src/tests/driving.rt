@@ -211,19 +211,18 @@ impl<'a> Desk<'a> {
     fn make(&self, step: Step) -> bool {
         let wanted = self.next();
         self.at.fetch_add(1, Ordering::SeqCst);
-        if wanted.is_some() && wanted != Some(step) {
+        let is_next = wanted == Some(step);
+        if wanted.is_some() && !is_next {
             self.is_wrong.store(true, Ordering::SeqCst);
         }
-        wanted == Some(step)
+        is_next
     }
 
     /// Whether all came in turn, up to the script's end, and no more than one step was tried there.
     fn is_followed(&self) -> bool {
-        let beyond = self
-            .at
-            .load(Ordering::SeqCst)
-            .checked_sub(self.script.len());
-        matches!(beyond, Some(0 | 1)) && !self.is_wrong.load(Ordering::SeqCst)
+        let is_wrong = self.is_wrong.load(Ordering::SeqCst);
+        let tried = self.at.load(Ordering::SeqCst);
+        matches!(tried.checked_sub(self.script.len()), Some(0 | 1)) && !is_wrong
     }
 }
 
@@ -337,18 +336,7 @@ impl Stage for DeskStage<'_> {
     }
 }
 
-/// The answer where the desk follows its script, and the stage says this.
-fn answer_at<R: AllocGlobal + Threads + Sync>(
-    rt: &R,
-    desk: &Desk<'_>,
-    says: [Result<(), Halt>; 3],
-    is_refused: bool,
-    wiring: Option<&[u8]>,
-) -> Result<DriveEnd, DriveFault> {
-    answer_from(rt, desk, 0, says, is_refused, wiring)
-}
-
-/// The same from this setting on.
+/// The answer from this setting on, where the desk follows its script, and the stage says this.
 fn answer_from<R: AllocGlobal + Threads + Sync>(
     rt: &R,
     desk: &Desk<'_>,
@@ -381,6 +369,24 @@ fn is_line(end: &Result<DriveEnd, DriveFault>, line: &[u8], status: u8) -> bool 
 
 const ON: [Result<(), Halt>; 3] = [Ok(()), Ok(()), Ok(())];
 
+/// Whether a drive from this setting on follows these steps, where the stage says this, and its
+/// answer is this line, under this status.
+fn goes_so<R: AllocGlobal + Threads + Sync>(
+    rt: &R,
+    steps: &[Step],
+    first: usize,
+    says: [Result<(), Halt>; 3],
+    wiring: Option<&[u8]>,
+    line: &[u8],
+    status: u8,
+) -> bool {
+    let desk = Desk::of(steps);
+    let answer = answer_from(rt, &desk, first, says, false, wiring);
+    let is_line = is_line(&answer, line, status);
+    let is_followed = desk.is_followed();
+    is_line && is_followed
+}
+
 /// How many settings are told in these steps.
 fn told_in(steps: &[Step]) -> usize {
     steps
@@ -397,16 +403,13 @@ fn stops_behind<R: AllocGlobal + Threads + Sync>(
     count: usize,
 ) -> Result<bool, AllocError> {
     let alloc = rt.alloc();
-    let count = count.min(steps.len());
-    let front = &steps[..count];
-    let desk = Desk::of(front);
-    let answer = answer_at(rt, &desk, ON, false, None);
+    let front = &steps[..count.min(steps.len())];
     let setting = told_in(front);
     let line = match steps.get(count) {
         Some(Step::Told(_)) => format!(in alloc; "left setting {setting}\n")?,
         _ => format!(in alloc; "stopped setting {setting} port\n")?,
     };
-    Ok(desk.is_followed() && is_line(&answer, line.as_bytes(), REFUSED))
+    Ok(goes_so(rt, front, 0, ON, None, line.as_bytes(), REFUSED))
 }
 
 /// Whether a reply of this output in the second setting that names an input which nothing is on
@@ -420,20 +423,25 @@ fn is_caught<R: AllocGlobal + Threads + Sync>(
     let steps = steps_of(alloc, rack, Some((output, 0x93)))?;
     // Behind the second setting's seven bytes, and the enquiries up to this one, with their replies.
     let count = WAKING + FIRST + 7 + 3 * (output as usize + 1);
-    let desk = Desk::of(steps.as_slice().get(..count).unwrap_or(&[]));
-    let answer = answer_at(rt, &desk, ON, false, rack.wiring);
+    let front = steps.as_slice().get(..count).unwrap_or(&[]);
     let line = format!(in alloc; "stopped setting 1 switch {output}\n")?;
-    Ok(desk.is_followed() && is_line(&answer, line.as_bytes(), REFUSED))
+    Ok(goes_so(rt, front, 0, ON, rack.wiring, line.as_bytes(), REFUSED))
+}
+
+/// Whether all three settings of a rack are driven in turn.
+fn is_in_turn<R: AllocGlobal + Threads + Sync>(
+    rt: &R,
+    rack: &Rack<'_>,
+) -> Result<bool, AllocError> {
+    let steps = steps_of(rt.alloc(), rack, None)?;
+    let line = b"driven settings 3\n";
+    Ok(goes_so(rt, steps.as_slice(), 0, ON, rack.wiring, line, DONE))
 }
 
 #[test]
 fn in_turn(rt: HostRuntime) {
     for rack in &[USUAL, BOARD] {
-        let steps = steps_of(rt.alloc(), rack, None).expect(&rt, "memory");
-        let desk = Desk::of(steps.as_slice());
-        let answer = answer_at(&rt, &desk, ON, false, rack.wiring);
-        assert!(rt; is_line(&answer, b"driven settings 3\n", DONE));
-        assert!(rt; desk.is_followed());
+        assert!(rt; is_in_turn(&rt, rack) == Ok(true));
     }
 }
 
@@ -442,46 +450,62 @@ fn in_turn(rt: HostRuntime) {
 fn cut_off(rt: HostRuntime) {
     let steps = steps_of(rt.alloc(), &USUAL, None).expect(&rt, "memory");
     for count in 0..steps.len() {
-        let stops = stops_behind(&rt, steps.as_slice(), count);
-        assert!(rt; stops.expect(&rt, "memory"));
+        assert!(rt;
+            stops_behind(&rt, steps.as_slice(), count) == Ok(true),
+            "{count}"
+        );
     }
 }
 
 #[test]
 fn lied_to(rt: HostRuntime) {
     for output in 0..OUTPUTS {
-        assert!(rt; is_caught(&rt, &USUAL, output).expect(&rt, "memory"));
-        assert!(rt; is_caught(&rt, &BOARD, output).expect(&rt, "memory"));
+        assert!(rt; is_caught(&rt, &USUAL, output) == Ok(true), "{output}");
+        assert!(rt; is_caught(&rt, &BOARD, output) == Ok(true), "{output}");
     }
+}
+
+/// Whether a drive is left at its second setting.
+fn is_left<R: AllocGlobal + Threads + Sync>(rt: &R) -> Result<bool, AllocError> {
+    let steps = steps_of(rt.alloc(), &USUAL, None)?;
+    let front = steps.as_slice().get(..WAKING + FIRST + 105).unwrap_or(&[]);
+    let says = [Ok(()), Err(Halt::Left), Ok(())];
+    Ok(goes_so(rt, front, 0, says, None, b"left setting 1\n", REFUSED))
 }
 
 #[test]
 fn left(rt: HostRuntime) {
-    let steps = steps_of(rt.alloc(), &USUAL, None).expect(&rt, "memory");
-    let desk = Desk::of(steps.as_slice().get(..WAKING + FIRST + 105).unwrap_or(&[]));
-    let says = [Ok(()), Err(Halt::Left), Ok(())];
-    let answer = answer_at(&rt, &desk, says, false, None);
-    assert!(rt; is_line(&answer, b"left setting 1\n", REFUSED));
-    assert!(rt; desk.is_followed());
+    assert!(rt; is_left(&rt) == Ok(true));
+}
+
+/// Whether a drive ends whose first setting couldn't be told.
+fn is_untold<R: AllocGlobal + Threads + Sync>(rt: &R) -> Result<bool, AllocError> {
+    let steps = steps_of(rt.alloc(), &USUAL, None)?;
+    let desk = Desk::of(steps.as_slice().get(..WAKING + FIRST).unwrap_or(&[]));
+    let says = [Err(Halt::Untold), Ok(()), Ok(())];
+    let answer = answer_from(rt, &desk, 0, says, false, None);
+    let is_followed = desk.is_followed();
+    Ok(is_followed && matches!(answer, Err(DriveFault::Untold)))
 }
 
 #[test]
 fn untold(rt: HostRuntime) {
-    let steps = steps_of(rt.alloc(), &USUAL, None).expect(&rt, "memory");
-    let desk = Desk::of(steps.as_slice().get(..WAKING + FIRST).unwrap_or(&[]));
-    let says = [Err(Halt::Untold), Ok(()), Ok(())];
-    let answer = answer_at(&rt, &desk, says, false, None);
-    assert!(rt; matches!(answer, Err(DriveFault::Untold)));
-    assert!(rt; desk.is_followed());
+    assert!(rt; is_untold(&rt) == Ok(true));
 }
 
-/// A port that can't be had is asked for once, and nothing is sent.
+/// Whether a port that can't be had is asked for once, and nothing is sent.
+fn is_refused<R: AllocGlobal + Threads + Sync>(rt: &R) -> bool {
+    let desk = Desk::of(&[]);
+    let answer = answer_from(rt, &desk, 0, ON, true, None);
+    let is_line = is_line(&answer, b"refused port a\n", REFUSED);
+    let opened = desk.opened.load(Ordering::SeqCst);
+    let is_followed = desk.is_followed();
+    is_line && is_followed && opened == 1
+}
+
 #[test]
 fn refused(rt: HostRuntime) {
-    let desk = Desk::of(&[]);
-    let answer = answer_at(&rt, &desk, ON, true, None);
-    assert!(rt; is_line(&answer, b"refused port a\n", REFUSED));
-    assert!(rt; desk.opened.load(Ordering::SeqCst) == 1 && desk.is_followed());
+    assert!(rt; is_refused(&rt));
 }
 
 /// Old answers, as many as a line may have and still be told, and one more.
@@ -501,31 +525,32 @@ fn comes_up_behind<R: AllocGlobal + Threads + Sync>(
 ) -> Result<bool, AllocError> {
     let mut steps = woken_behind(rt.alloc(), count)?;
     push_bytes(&mut steps, &[0x04, 0x01])?;
-    let desk = Desk::of(steps.as_slice());
-    let answer = answer_at(rt, &desk, ON, false, None);
-    Ok(desk.is_followed() && is_line(&answer, b"stopped setting 0 port\n", REFUSED))
+    let line = b"stopped setting 0 port\n";
+    Ok(goes_so(rt, steps.as_slice(), 0, ON, None, line, REFUSED))
 }
 
 /// Up to 31 answers that stood in the line are read as the switch comes up.
 #[test]
 fn comes_up(rt: HostRuntime) {
     for count in 0..32 {
-        let goes_on = comes_up_behind(&rt, count).expect(&rt, "memory");
-        assert!(rt; goes_on);
+        assert!(rt; comes_up_behind(&rt, count) == Ok(true), "{count}");
     }
+}
+
+/// What happens where the last byte that is read behind an enquiry is 05: an echo would say so.
+fn strange_steps(alloc: Global) -> Result<Vec<Step>, AllocError> {
+    let mut steps = woken_behind(alloc, 32)?;
+    steps.truncate(WAKING - 1);
+    steps.push(Step::Heard(0x05))?;
+    Ok(steps)
 }
 
 /// What comes as no switch would answer isn't taken.
 #[test]
 fn comes_up_to_a_stranger(rt: HostRuntime) {
-    let mut steps = woken_behind(rt.alloc(), 32).expect(&rt, "memory");
-    // The last byte that is read behind an enquiry is 05: an echo would say so.
-    steps.truncate(WAKING - 1);
-    steps.push(Step::Heard(0x05)).expect(&rt, "memory");
-    let desk = Desk::of(steps.as_slice());
-    let answer = answer_at(&rt, &desk, ON, false, None);
-    assert!(rt; is_line(&answer, b"stopped setting 0 port\n", REFUSED));
-    assert!(rt; desk.is_followed());
+    let steps = strange_steps(rt.alloc()).expect(&rt, "memory");
+    let line = b"stopped setting 0 port\n";
+    assert!(rt; goes_so(&rt, steps.as_slice(), 0, ON, None, line, REFUSED));
 }
 
 /// What happens from the second setting on, where that is the first to be driven: it is set as from
@@ -545,12 +570,8 @@ fn later_steps(alloc: Global) -> Result<Vec<Step>, AllocError> {
 #[test]
 fn taken_up(rt: HostRuntime) {
     let steps = later_steps(rt.alloc()).expect(&rt, "memory");
-    let desk = Desk::of(steps.as_slice());
-    let answer = answer_from(&rt, &desk, 1, ON, false, None);
-    assert!(rt; is_line(&answer, b"driven settings 3\n", DONE));
-    assert!(rt; desk.is_followed());
-    let none = Desk::of(&[]);
-    let answer = answer_from(&rt, &none, 3, ON, false, None);
-    assert!(rt; is_line(&answer, b"refused no setting 3\n", REFUSED));
-    assert!(rt; none.is_followed());
+    let line = b"driven settings 3\n";
+    assert!(rt; goes_so(&rt, steps.as_slice(), 1, ON, None, line, DONE));
+    let line = b"refused no setting 3\n";
+    assert!(rt; goes_so(&rt, &[], 3, ON, None, line, REFUSED));
 }

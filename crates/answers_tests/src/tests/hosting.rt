@@ -7,14 +7,17 @@ ghost use Rattle.session_answers.specs.HostAnswers.{seen_end, AreHosted};
 ghost use Rattle.answers_tests.specs.Known.{known_clients};
 
 use crate::tests::books::{FailsOnce, is_left, small_book};
-use batch_book::{Book, History, Silent};
+use batch_book::{Book, History};
+use book_record::stream_on;
 use client_session::ServeFault;
 use exchange_limits::WorkerCount;
+use plan_answers::Answer;
 use refusals::Refusal;
-use session_answers::{AllThere, ClientStreams, Ending, Hosted, host_on};
+use session_answers::{AllThere, ClientStreams, Closing, Ending, Hosted, host_on};
 use std::alloc::Global;
 use std::io;
 use std::io::ErrorKind;
+use std::marker::Brand;
 use std::sync::Wait;
 use std::thread::Threads;
 
@@ -90,6 +93,22 @@ fn was_told(ending: &Ending<Vec<u8>>, told: &str) -> bool {
     }
 }
 
+/// Whether two sessions ended by themselves, and their clients were told this.
+fn were_told(endings: &[Ending<Vec<u8>>], told: [&str; 2]) -> bool {
+    match endings {
+        [one, other] => {
+            let is_told = was_told(one, told[0]);
+            was_told(other, told[1]) && is_told
+        }
+        _ => false,
+    }
+}
+
+/// Whether the answer is this text, under this status.
+fn is_answer(answer: &Answer, text: &str, status: u8) -> bool {
+    answer.status() == status && answer.text() == text.as_bytes()
+}
+
 /// Whether each of two clients is told its own replies, the answer has both, and the rack has what
 /// both wrote.
 fn are_hosted<R: Threads + Wait + Sync>(rt: &R, alloc: Global) -> bool {
@@ -97,17 +116,18 @@ fn are_hosted<R: Threads + Wait + Sync>(rt: &R, alloc: Global) -> bool {
         b"poke 0 80000800 000000aa\npeek 0 80000800\n",
         b"poke 0 80000804 000000bb\nbye\n",
     ];
-    let Some(book) = small_book(alloc, Silent::new()) else {
+    let Some(book) = small_book(alloc) else {
         return false;
     };
     match host_known(rt, alloc, book, &said) {
         Ok(Hosted { closing, endings }) => {
-            endings.len() == 2
-                && was_told(&endings[0], "poked\nword 000000aa\n")
-                && was_told(&endings[1], "poked\nbye\n")
-                && closing.answer.text() == b"session 0 client\nsession 1 client\n".as_slice()
-                && closing.answer.status() == 0
-                && is_left(&closing.book, &[0xaa, 0, 0, 0, 0xbb, 0, 0, 0])
+            let are_told = were_told(
+                endings.as_slice(),
+                ["poked\nword 000000aa\n", "poked\nbye\n"],
+            );
+            let is_answer = is_answer(&closing.answer, "session 0 client\nsession 1 client\n", 0);
+            let is_left = is_left(&closing.book, &[0xaa, 0, 0, 0, 0xbb, 0, 0, 0]);
+            are_told && is_answer && is_left
         }
         Err(_) => false,
     }
@@ -126,12 +146,19 @@ fn was_lost(ending: &Ending<Vec<u8>>) -> bool {
     }
 }
 
-/// Whether a session was told nothing.
-fn was_told_nothing(ending: &Ending<Vec<u8>>) -> bool {
+/// Whether a session ended so, and was told nothing.
+fn was_lost_untold(ending: &Ending<Vec<u8>>) -> bool {
     match ending {
-        Ending::Served { receipt, .. } => receipt.is_empty(),
+        Ending::Served { fault, receipt } => {
+            receipt.is_empty() && *fault == Some(ServeFault::Record)
+        }
         Ending::Unopened => false,
     }
+}
+
+/// Whether each of three sessions ended so.
+fn are_lost(endings: &[Ending<Vec<u8>>]) -> bool {
+    endings.len() == 3 && endings.iter().all(was_lost_untold)
 }
 
 /// What three clients say, each in one read, and are to hear.
@@ -139,25 +166,39 @@ const SAID: [&[u8]; 3] = [b"peek 0 80000800\npeek 0 80000800\nbye\n"; 3];
 
 const HEARD: &str = "word 00000000\nword 00000000\nbye\n";
 
+/// How the sessions of clients who say this end over a record one writing of which fails behind so
+/// many, the answer, and whether the record is whole then.
+fn host_recorded<R: Threads + Wait + Sync>(
+    rt: &R,
+    alloc: Global,
+    said: &[&[u8]],
+    good: usize,
+) -> Option<(Vec<Ending<Vec<u8>>>, Answer, bool)>
+    requires some { 1 ≤ length said.now }
+    requires few { length said.now ≤ MAX_SESSIONS }
+{
+    let book = small_book(alloc)?;
+    let book = stream_on::<FailsOnce, Brand>(alloc, book, FailsOnce { good }, false);
+    match host_known(rt, alloc, book, said) {
+        Ok(Hosted { closing, endings }) => {
+            let Closing { answer, book } = closing;
+            Some((endings, answer, book.log().is_whole()))
+        }
+        Err(_) => None,
+    }
+}
+
 /// Whether each of three clients is told nothing, and each session ends since its calls couldn't be
-/// recorded, where the first flush of all fails.
+/// recorded, where the first writing of all fails.
 fn ends_all<R: Threads + Wait + Sync>(rt: &R, alloc: Global) -> bool {
-    let Some(book) = small_book(alloc, FailsOnce::behind(0)) else {
+    let text = "session 0 client\nended record\nsession 1 client\nended record\n\
+        session 2 client\nended record\n";
+    let Some((endings, answer, is_whole)) = host_recorded(rt, alloc, &SAID, 0) else {
         return false;
     };
-    match host_known(rt, alloc, book, &SAID) {
-        Ok(Hosted { closing, endings }) => {
-            let text = "session 0 client\nended record\nsession 1 client\nended record\n\
-                session 2 client\nended record\n";
-            endings.len() == 3
-                && endings.iter().all(was_lost)
-                && endings.iter().all(was_told_nothing)
-                && closing.answer.text() == text.as_bytes()
-                && closing.answer.status() == 1
-                && !closing.book.log().is_whole()
-        }
-        Err(_) => false,
-    }
+    let are_lost = are_lost(endings.as_slice());
+    let is_answer = is_answer(&answer, text, 1);
+    are_lost && is_answer && !is_whole
 }
 
 #[test]
@@ -167,27 +208,49 @@ fn a_broken_record_ends_all_sessions(rt: HostRuntime) {
 
 /// Whether a client was told all, and its session ended by itself; or nothing, and its record broke.
 fn was_told_all_or_nothing(ending: &Ending<Vec<u8>>) -> bool {
-    was_told(ending, HEARD) || (was_lost(ending) && was_told_nothing(ending))
+    was_told(ending, HEARD) || was_lost_untold(ending)
+}
+
+/// Whether each of three clients was told all or nothing, and one was told all. A record is whole
+/// just where no session was lost.
+fn are_told_whole(endings: &[Ending<Vec<u8>>], is_whole: bool) -> bool {
+    let are_right = endings.iter().all(was_told_all_or_nothing);
+    let is_one_told = endings.iter().any(|ending| was_told(ending, HEARD));
+    let is_one_lost = endings.iter().any(was_lost);
+    endings.len() == 3 && are_right && is_one_told && is_whole != is_one_lost
 }
 
 /// Whether each of three clients is told all or nothing, and one is told all, where the second
-/// flush of all fails. One flush may have had the entries of all.
+/// writing of all fails. One writing may have had the entries of all.
 fn tells_some<R: Threads + Wait + Sync>(rt: &R, alloc: Global) -> bool {
-    let Some(book) = small_book(alloc, FailsOnce::behind(1)) else {
-        return false;
-    };
-    match host_known(rt, alloc, book, &SAID) {
-        Ok(Hosted { closing, endings }) => {
-            endings.len() == 3
-                && endings.iter().all(was_told_all_or_nothing)
-                && endings.iter().any(|ending| was_told(ending, HEARD))
-                && closing.book.log().is_whole() != endings.iter().any(was_lost)
-        }
-        Err(_) => false,
+    match host_recorded(rt, alloc, &SAID, 1) {
+        Some((endings, _, is_whole)) => are_told_whole(endings.as_slice(), is_whole),
+        None => false,
     }
 }
 
 #[test]
-fn what_a_flush_had_is_told_whole(rt: HostRuntime) {
+fn what_a_writing_had_is_told_whole(rt: HostRuntime) {
     assert!(rt; tells_some(&rt, rt.alloc()));
+}
+
+/// What many clients say, a line each.
+const LINES: [&[u8]; 16] = [b"peek 0 80000800\n"; 16];
+
+/// Whether each of many clients is told its word, where none writes behind the last.
+fn wakes_all<R: Threads + Wait + Sync>(rt: &R, alloc: Global) -> bool {
+    match host_recorded(rt, alloc, &LINES, usize::MAX) {
+        Some((endings, _, is_whole)) => {
+            let are_told = endings
+                .iter()
+                .all(|ending| was_told(ending, "word 00000000\n"));
+            are_told && is_whole
+        }
+        None => false,
+    }
+}
+
+#[test]
+fn all_who_wait_for_the_last_writing_are_woken(rt: HostRuntime) {
+    assert!(rt; wakes_all(&rt, rt.alloc()));
 }

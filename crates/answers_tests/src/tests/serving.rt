@@ -7,41 +7,31 @@ use std::alloc::Global;
 /// Whether this is put behind what a session was told, where the fault ended it.
 fn is_end(alloc: Global, told: &str, fault: Option<ServeFault>, end: &str) -> bool {
     let mut text = Vec::new(alloc);
-    push_end(&mut text, told.as_bytes(), fault).is_ok() && text.as_slice() == end.as_bytes()
+    let is_put = push_end(&mut text, told.as_bytes(), fault).is_ok();
+    is_put && text.as_slice() == end.as_bytes()
 }
 
-/// The line of each fault begins a line.
+/// What a session was told, the fault that ended it, and what is put behind: the line of each fault
+/// begins a line.
+const ENDS: [(&str, Option<ServeFault>, &str); 9] = [
+    ("bye\n", None, ""),
+    ("", Some(ServeFault::Read), "ended read\n"),
+    ("bye\n", Some(ServeFault::Write), "ended write\n"),
+    ("word 0000", Some(ServeFault::Write), "\nended write\n"),
+    (
+        "poked\n",
+        Some(ServeFault::LineTooLong),
+        "ended line too long\n",
+    ),
+    ("poked\n", Some(ServeFault::Cut), "ended cut\n"),
+    ("poked\n", Some(ServeFault::Turns), "ended turns\n"),
+    ("poked\n", Some(ServeFault::NoMemory), "ended no memory\n"),
+    ("poked\n", Some(ServeFault::Record), "ended record\n"),
+];
+
 #[test]
 fn ends_are_framed(rt: HostRuntime) {
-    let alloc = rt.alloc();
-    assert!(rt; is_end(alloc, "bye\n", None, ""));
-    assert!(rt; is_end(alloc, "", Some(ServeFault::Read), "ended read\n"));
-    assert!(rt; is_end(alloc, "bye\n", Some(ServeFault::Write), "ended write\n"));
-    assert!(rt;
-        is_end(
-            alloc,
-            "word 0000",
-            Some(ServeFault::Write),
-            "\nended write\n"
-        )
-    );
-    assert!(rt;
-        is_end(
-            alloc,
-            "poked\n",
-            Some(ServeFault::LineTooLong),
-            "ended line too long\n"
-        )
-    );
-    assert!(rt; is_end(alloc, "poked\n", Some(ServeFault::Cut), "ended cut\n"));
-    assert!(rt; is_end(alloc, "poked\n", Some(ServeFault::Turns), "ended turns\n"));
-    assert!(rt;
-        is_end(
-            alloc,
-            "poked\n",
-            Some(ServeFault::NoMemory),
-            "ended no memory\n"
-        )
-    );
-    assert!(rt; is_end(alloc, "poked\n", Some(ServeFault::Record), "ended record\n"));
+    for (told, fault, end) in ENDS {
+        assert!(rt; is_end(rt.alloc(), told, fault, end), "{end}");
+    }
 }

@@ -2,15 +2,17 @@
 
 use crate::tests::books::{FailsOnce, small_book};
 use batch_book::History;
+use book_record::stream_on;
 use client_session::NoListener;
 use session_answers::{Closing, talk_on};
 use std::alloc::Global;
 use std::io::Read;
+use std::marker::Brand;
 use std::sync::Wait;
 use std::thread::Threads;
 
-/// Whether a session that says all this, over a record one flush of which fails behind so many, is
-/// told just that, and ends since its record broke.
+/// Whether a session that says all this, over a record one writing of which fails behind so many,
+/// is told just that, and ends since its record broke.
 fn breaks_off<R: Threads + Wait + Sync, I: Read>(
     rt: &R,
     alloc: Global,
@@ -19,21 +21,22 @@ fn breaks_off<R: Threads + Wait + Sync, I: Read>(
     hears: &str,
 ) -> bool {
     let mut told = Vec::new(alloc);
-    let Some(book) = small_book(alloc, FailsOnce::behind(good)) else {
+    let Some(book) = small_book(alloc) else {
         return false;
     };
+    let book = stream_on::<FailsOnce, Brand>(alloc, book, FailsOnce { good }, false);
     match talk_on(rt, alloc, book, said, &mut told, &mut NoListener) {
         Ok(Closing { answer, book }) => {
-            told.as_slice() == hears.as_bytes()
-                && answer.text() == b"ended record\n".as_slice()
-                && answer.status() == 1
-                && !book.log().is_whole()
+            let is_told = told.as_slice() == hears.as_bytes();
+            let is_answer = answer.text() == b"ended record\n".as_slice();
+            let is_whole = book.log().is_whole();
+            is_told && is_answer && answer.status() == 1 && !is_whole
         }
         Err(_) => false,
     }
 }
 
-/// Three lines, one at a read. The third flush fails: nothing is told of the third call.
+/// Three lines, one at a read. The third writing fails: nothing is told of the third call.
 #[test]
 fn a_broken_record_ends_the_session(rt: HostRuntime) {
     let mut said = b"poke 0 80000800 000000aa\n"
@@ -43,7 +46,7 @@ fn a_broken_record_ends_the_session(rt: HostRuntime) {
     assert!(rt; breaks_off(&rt, rt.alloc(), &mut said, 2, "poked\nword 000000aa\n"));
 }
 
-/// The lines of a read are answered together, so nothing is told where their flush fails, though
+/// The lines of a read are answered together, so nothing is told where their writing fails, though
 /// the next would go well. What an earlier read had was told.
 #[test]
 fn a_broken_record_tells_nothing_of_a_group(rt: HostRuntime) {

@@ -1,11 +1,23 @@
-ghost use Rattle.std.specs.Prelude.{◌≡◌, ◌<◌, length, IsTrue, IfOk, IfSome};
+ghost use Rattle.std.specs.Prelude.{◌≡◌, ℕ, List, ◌<◌, length, Option, IsTrue, IfOk, IfSome};
+ghost use Rattle.batch.specs.declared.transfer.Transfer.{Transfer};
+ghost use Rattle.link_graph.specs.declared.link.Link.{Link};
+ghost use Rattle.link_graph.specs.Counts.{uses};
 ghost use Rattle.link_graph.specs.Uses.{AreApart};
+ghost use Rattle.alternating_path.specs.Counts.{placed_uses};
+ghost use Rattle.planning_tests.specs.Counts.{placed_transfers};
 
 use super::prints::prints;
 use super::texts::{FIRST_FIT_LOSES, THREE_TRANSFERS, graph};
 use alternating_path::{Coloured, InsertFault, Table};
 use link_graph::{LINKS, LinkGraph};
 use std::alloc::{AllocError, Global};
+use step_count::Steps;
+
+/// How many placed transfers use a link is how many of those that have a colour use it.
+fn the_definitions_count_placed_users()
+    ensures { (batch : List Transfer) (colour : List (Option ℕ)) (link : Link) →
+        placed_uses batch colour link ≡ uses (placed_transfers batch colour) link }
+{}
 
 /// Setting `k`, where there is one.
 fn setting(coloured: &Coloured, k: usize) -> &[usize] {
@@ -109,7 +121,7 @@ fn has_class_more(alloc: Global, graph: &LinkGraph) -> Result<bool, AllocError>
     if table.colour_of(1).is_some() || table.colour_of(3).is_some() {
         return Ok(false);
     }
-    let table = table.with_class(&[1, 3])?;
+    let table = table.with_class(&[1, 3], &mut Steps::none())?;
     Ok(gives_row(table, 0))
 }
 

@@ -4,6 +4,7 @@ use super::texts::{EVEN_PAIRS, FIRST_FIT_LOSES, graph};
 use euler_split::{Scratch, split, split_evenly, times_even};
 use link_graph::LinkGraph;
 use std::alloc::Global;
+use step_count::Steps;
 
 /// Whether these are the halves `0 2` and `1 3`, in either order.
 fn are_halves(one: &[usize], other: &[usize]) -> bool {
@@ -40,11 +41,12 @@ fn graph_of_eight(alloc: Global) -> Option<LinkGraph>
 fn times_of_some(graph: &LinkGraph) -> [usize; 4]
     requires { length graph.now ≡ 8 }
 {
+    let mut steps = Steps::none();
     [
-        times_even(graph, &[0, 1, 2, 3, 4, 5, 6, 7]),
-        times_even(graph, &[0, 3]),
-        times_even(graph, &[0, 1, 2]),
-        times_even(graph, &[]),
+        times_even(graph, &[0, 1, 2, 3, 4, 5, 6, 7], &mut steps),
+        times_even(graph, &[0, 3], &mut steps),
+        times_even(graph, &[0, 1, 2], &mut steps),
+        times_even(graph, &[], &mut steps),
     ]
 }
 
@@ -67,11 +69,12 @@ fn dealt(alloc: Global, graph: &LinkGraph) -> Option<[usize; 4]>
     requires { length graph.now ≡ 8 }
 {
     let mut members = [0, 1, 2, 3, 4, 5, 6, 7];
-    if times_even(graph, &members) == 0 {
+    let mut steps = Steps::none();
+    if times_even(graph, &members, &mut steps) == 0 {
         return None;
     }
-    let mut scratch = Scratch::new(alloc, members.len()).ok()?;
-    let middle = split_evenly(graph, &mut members, &mut scratch);
+    let mut scratch = Scratch::new(alloc, members.len(), &mut steps).ok()?;
+    let middle = split_evenly(graph, &mut members, &mut scratch, &mut steps);
     let (left, right) = members.split_at(middle);
     Some([
         left.len(),

@@ -1,5 +1,8 @@
-ghost use Rattle.std.specs.Prelude.{◌≡◌, [], ◌∷◌, codes, Some, None, IfOk};
+ghost use Rattle.std.specs.Prelude.{◌≡◌, ℕ, List, [], ◌∷◌, length, codes, Some, None, IfOk};
+ghost use Rattle.batch.specs.declared.transfer.Transfer.{Transfer};
 ghost use Rattle.batch.specs.Rows.{three_transfers};
+ghost use Rattle.link_graph.specs.declared.link.Link.{Link};
+ghost use Rattle.link_graph.specs.Counts.{uses, AreUsers};
 ghost use Rattle.link_graph.specs.Uses.{IsMatching};
 ghost use Rattle.link_graph.specs.Certificates.{naming};
 ghost use Rattle.link_graph.specs.Rows.{two_settings, two_named, two_settings_text, certified_text, empty_text};
@@ -24,6 +27,12 @@ fn the_definitions_refuse_settings()
     ensures link_0 { IsMatching three_transfers (0 ∷ 1 ∷ []) → ⊥ }
     ensures link_3 { IsMatching three_transfers (1 ∷ 2 ∷ []) → ⊥ }
     ensures repeated { IsMatching three_transfers (0 ∷ 0 ∷ []) → ⊥ }
+{}
+
+/// How many transfers use a link is the number of those that use it, listed once each.
+fn the_definitions_count_users()
+    ensures { (batch : List Transfer) (link : Link) (users : List ℕ) →
+        AreUsers batch link users → length users ≡ uses batch link }
 {}
 
 /// Link 0 of module 0.

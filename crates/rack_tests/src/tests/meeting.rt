@@ -44,9 +44,10 @@ impl Meeting {
 
     /// Whether both sides came, and neither gave up.
     pub fn is_met(&self) -> bool {
-        self.first.load(Ordering::SeqCst)
-            && self.second.load(Ordering::SeqCst)
-            && !self.gave_up.load(Ordering::SeqCst)
+        let first = self.first.load(Ordering::SeqCst);
+        let second = self.second.load(Ordering::SeqCst);
+        let gave_up = self.gave_up.load(Ordering::SeqCst);
+        first && second && !gave_up
     }
 }
 

@@ -112,7 +112,9 @@ fn ask<R: Threads + Sync, N: StreamName + Send>(
         let made = book.try_apply(rt, session, call, &mut plant, &mut Told::new(&times));
         let flushed = book.flush();
         let end = end_of(entries).saturating_add(count.load(Ordering::SeqCst));
-        if made.is_ok() && flushed.is_ok() && end == end_of(entry + 1) {
+        let (is_made, is_flushed) = (made.is_ok(), flushed.is_ok());
+        let is_there = end == end_of(entry + 1);
+        if is_made && is_flushed && is_there {
             told = told.saturating_add(1);
         }
     }
@@ -131,7 +133,8 @@ fn stops_at<R: AllocGlobal + Threads + Sync>(rt: &R, room: usize, once: bool) ->
         return false;
     };
     let (told, taken) = ask::<R, Brand>(rt, alloc, book, 0, room, once);
-    told == whole_in(room) && Some(taken.as_slice()) == RECORD.get(..room)
+    let is_taken = Some(taken.as_slice()) == RECORD.get(..room);
+    is_taken && told == whole_in(room)
 }
 
 #[test]
@@ -164,7 +167,8 @@ fn is_gone_on_from<R: AllocGlobal + Threads + Sync>(rt: &R, bytes: usize) -> boo
     let end = end_of(entries);
     let is_read = remade.entries == entries && Some(remade.rest) == text.get(end..);
     let (told, taken) = ask::<R, Brand>(rt, alloc, remade.book, entries, usize::MAX, false);
-    is_read && told.saturating_add(entries) == 3 && Some(taken.as_slice()) == RECORD.get(end..97)
+    let is_taken = Some(taken.as_slice()) == RECORD.get(end..97);
+    is_read && is_taken && told.saturating_add(entries) == 3
 }
 
 #[test]

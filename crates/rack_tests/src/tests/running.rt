@@ -80,7 +80,11 @@ impl End<'_> {
                     cause,
                     moved,
                 },
-            ) => setting == number && cause == wanted && moved.as_slice() == *words,
+            ) => {
+                let is_there = setting == number;
+                let is_moved = moved.as_slice() == *words;
+                is_there && is_moved && cause == wanted
+            }
             (End::Refused(wanted), Outcome::Refused(refusal)) => refusal == wanted,
             _ => false,
         }
@@ -136,9 +140,10 @@ fn ends_on<R: AllocGlobal + Threads + Sync, P: ConfigPort, W: WireMaker + Sync, 
     let mut told = Told::new(times);
     let (batch, schedule) = (planned.batch(), planned.schedule());
     let (rack, outcome) = run(rt, rt.alloc(), rack, plant, batch, schedule, &mut told);
-    case.end.is_of(&outcome)
-        && has_blocks(&rack, case.blocks)
-        && told.is_just(case.end.times_told())
+    let is_ended = case.end.is_of(&outcome);
+    let has_words = has_blocks(&rack, case.blocks);
+    let is_told = told.is_just(case.end.times_told());
+    is_ended && has_words && is_told
 }
 
 /// The same of the case's rack, where its plan is there.

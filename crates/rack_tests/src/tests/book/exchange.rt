@@ -95,9 +95,10 @@ const LIMITS: [Row; 3] = [
 
 /// Whether a closed exchange has as many entries in its history as there may be, and the first word
 /// is still 0.
-fn is_full(closed: &Closed<MemoryPort, PlainWires, OpenGate>) -> bool {
+fn is_full(closed: Closed<MemoryPort, PlainWires, OpenGate>) -> bool {
     let word = closed.book.rack().read(0, FIRST);
-    closed.book.history().len() == 65536 && word == Ok(0)
+    let entries = closed.book.history().len();
+    entries == 65536 && word == Ok(0)
 }
 
 /// Whether so many peeks are answered, and then a poke isn't, since the history is full.
@@ -113,7 +114,7 @@ fn fills<L: ExchangeName, R: AllocGlobal + Threads + Wait + Sync>(
     let poked = pair.ask(rt, Ask::Poke(0, FIRST, 1));
     match close(rt.alloc(), pair) {
         Some(closed) => {
-            let is_full = is_full(&closed);
+            let is_full = is_full(closed);
             let is_refused = poked == Said::Refused(BookRefusal::HistoryFull);
             zeros == peeks && is_refused && is_full
         }

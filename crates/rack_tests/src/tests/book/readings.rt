@@ -57,7 +57,9 @@ impl Hold {
 
     /// Whether it was read, and nobody gave up.
     pub fn is_kept(&self) -> bool {
-        self.seen.load(Ordering::SeqCst) && !self.gave_up.load(Ordering::SeqCst)
+        let gave_up = self.gave_up.load(Ordering::SeqCst);
+        let seen = self.seen.load(Ordering::SeqCst);
+        seen && !gave_up
     }
 }
 
@@ -188,7 +190,8 @@ fn is_read<L: ExchangeName + Send + Sync, R: AllocGlobal + Threads + Wait + Sync
         return false;
     };
     let (has_run, read) = run_and_look(rt, pair, &hold, run);
-    has_run && read == run.last && hold.is_kept()
+    let is_kept = hold.is_kept();
+    has_run && read == run.last && is_kept
 }
 
 /// The same on a marked rack of three modules.

@@ -7,7 +7,7 @@ ghost use Rattle.progress_word.specs.declared.limits.TheConstants.{ALL_PARTS};
 use super::readings::{HeldLines, Hold, TURNS};
 use crate::tests::common::{marked, with_wires};
 use crate::tests::office::{Ask, FIRST, PUSH, Said, answer};
-use batch_book::{Book, ExchangeBlank, ExchangeName, History, Reading, Seat, Shared, Silent};
+use batch_book::{Book, Call, ExchangeBlank, ExchangeName, History, Reading, Seat, Shared, Silent};
 use book_record::{Streamed, stream_on};
 use crossbar::MemoryPort;
 use peek_poke::WireMaker;
@@ -149,7 +149,8 @@ enum Case {
 enum Held {
     /// In a run. The other's last entry waits, and is the first that is written.
     Running,
-    /// In the second writing. The other's last entry stands by then.
+    /// In the second writing. The other's last entry stands by then, and its next call comes back
+    /// meanwhile.
     Writing,
 }
 
@@ -250,7 +251,8 @@ impl<L: ExchangeName, W: WireMaker + Sync, H: History> Two<L, W, H> {
                 Peek(0) | Settle(0) => goes_well(rt, &self.shared, &mut self.first, *step),
                 _ => goes_well(rt, &self.shared, &mut self.second, *step),
             };
-            if well != *is_well || writes.load(Ordering::SeqCst) != *count {
+            let written = writes.load(Ordering::SeqCst);
+            if well != *is_well || written != *count {
                 return false;
             }
         }
@@ -271,9 +273,10 @@ where
     requires { L.parts ≡ ALL_PARTS }
 {
     let mut two = two;
-    two.go_so(rt, row, writes)
-        && is_closed(rt.alloc(), two)
-        && writes.load(Ordering::SeqCst) == row.closed
+    let goes_so = two.go_so(rt, row, writes);
+    let is_closed = is_closed(rt.alloc(), two);
+    let written = writes.load(Ordering::SeqCst);
+    goes_so && is_closed && written == row.closed
 }
 
 /// Whether the seat's batch is run, and the seat is settled then.
@@ -286,7 +289,8 @@ fn is_run<L: ExchangeName, W: WireMaker + Sync, H: History, R: AllocGlobal + Thr
 {
     let mut seat = seat;
     let said = answer(rt, shared, &mut seat, Ask::Run(1));
-    said == Said::Ran(1, 1, 1) && shared.settle(rt, &mut seat).is_ok()
+    let is_settled = shared.settle(rt, &mut seat).is_ok();
+    is_settled && said == Said::Ran(1, 1, 1)
 }
 
 /// What the seat does before the step in which it is held.
@@ -330,6 +334,38 @@ fn is_done<
     }
 }
 
+/// Whether the other seat is held.
+fn is_held<L: ExchangeName, W: WireMaker + Sync, H: History>(
+    shared: &Exchange<L, W, H>,
+    seat: &mut Seat<L>,
+    held: Held,
+    writes: &AtomicUsize,
+) -> bool
+    requires { seat.old.exchange ≡ Some shared.now.word }
+    ensures { seat.new.exchange ≡ seat.old.exchange }
+{
+    match held {
+        Held::Running => shared.progress(seat) == (Reading { run: 1, done: 0 }),
+        Held::Writing => writes.load(Ordering::SeqCst) == 2,
+    }
+}
+
+/// Whether a call comes back while the other seat writes.
+fn is_answered<L: ExchangeName, W: WireMaker + Sync, H: History, R: Threads + Wait + Sync>(
+    rt: &R,
+    shared: &Exchange<L, W, H>,
+    seat: &mut Seat<L>,
+    held: Held,
+) -> bool
+    requires { seat.old.exchange ≡ Some shared.now.word }
+    ensures { seat.new.exchange ≡ seat.old.exchange }
+{
+    match held {
+        Held::Running => true,
+        Held::Writing => shared.try_call(rt, seat, Call::Peek(0, FIRST)).is_ok(),
+    }
+}
+
 /// Whether a seat is settled once the other one is held. Then that one goes on.
 fn is_settled_then<L: ExchangeName, W: WireMaker + Sync, H: History, R: Threads + Wait + Sync>(
     rt: &R,
@@ -343,15 +379,12 @@ fn is_settled_then<L: ExchangeName, W: WireMaker + Sync, H: History, R: Threads 
 {
     let mut seat = seat;
     for _ in 0..TURNS {
-        let is_held = match held {
-            Held::Running => shared.progress(&mut seat) == (Reading { run: 1, done: 0 }),
-            Held::Writing => writes.load(Ordering::SeqCst) == 2,
-        };
-        if is_held {
+        if is_held(shared, &mut seat, held, writes) {
             let is_settled = shared.settle(rt, &mut seat).is_ok();
-            let is_so = writes.load(Ordering::SeqCst) == held.writes();
+            let is_answered = is_answered(rt, shared, &mut seat, held);
+            let written = writes.load(Ordering::SeqCst);
             hold.seen.store(true, Ordering::SeqCst);
-            return is_settled && is_so;
+            return is_settled && is_answered && written == held.writes();
         }
         yield_now();
     }
@@ -359,8 +392,8 @@ fn is_settled_then<L: ExchangeName, W: WireMaker + Sync, H: History, R: Threads 
 }
 
 /// The second seat peeks a word. The first one hands its batch in, and runs it; or it peeks, is
-/// settled, peeks, and is settled again. In the last step it is held, and the second one is settled
-/// meanwhile. Whether all goes well, by two writings.
+/// settled, peeks, and is settled again. In the last step it is held. The second one is settled
+/// meanwhile, and peeks while the first one writes. Whether all goes well, by two writings.
 fn is_settled_beside<
     L: ExchangeName + Send + Sync,
     W: WireMaker + Send + Sync + Drop,
@@ -388,7 +421,9 @@ where
             requires { second.exchange ≡ Some lent.now.word }
         { is_settled_then(rt, lent, second, held, hold, writes) },
     );
-    is_done && is_settled && hold.is_kept() && writes.load(Ordering::SeqCst) == 2
+    let is_kept = hold.is_kept();
+    let written = writes.load(Ordering::SeqCst);
+    is_done && is_settled && is_kept && written == 2
 }
 
 /// Whether a case is so of a new exchange over this book.
@@ -410,10 +445,12 @@ fn holds<L: ExchangeName + Send + Sync, R: AllocGlobal + Threads + Wait + Sync>(
         book,
         lines,
     );
-    match (opened, case) {
-        (Some(two), Case::Row(row)) => is_so(rt, two, &row, writes),
-        (Some(two), Case::Beside(held)) => is_settled_beside(rt, two, held, hold, writes),
-        (None, _) => false,
+    let Some(two) = opened else {
+        return false;
+    };
+    match case {
+        Case::Row(row) => is_so(rt, two, &row, writes),
+        Case::Beside(held) => is_settled_beside(rt, two, held, hold, writes),
     }
 }
 
@@ -466,6 +503,6 @@ fn a_seat_is_settled_while_a_run_is_held(rt: HostRuntime) {
 }
 
 #[test]
-fn a_seat_whose_entries_stand_waits_for_no_writing(rt: HostRuntime) {
+fn neither_a_call_nor_entries_that_stand_wait_for_a_writing(rt: HostRuntime) {
     assert!(rt; holds_of(&rt, Case::Beside(Held::Writing), None));
 }

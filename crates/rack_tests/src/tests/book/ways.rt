@@ -24,8 +24,10 @@ const ROWS: [Row; 3] = [
 ];
 
 /// Whether the workers of a plant have met, and it has two as yet.
-fn has_two(plant: &Plant<MemoryPort, PlainWires, Meeting>) -> bool {
-    plant.gate.is_met() && plant.workers.get() == 2
+fn has_two(plant: Plant<MemoryPort, PlainWires, Meeting>) -> bool {
+    let is_met = plant.gate.is_met();
+    let workers = plant.workers.get();
+    is_met && workers == 2
 }
 
 /// Whether an exchange runs the row by two workers, and gives the plant back with as many.
@@ -47,7 +49,10 @@ fn runs_by_two<L: ExchangeName, R: AllocGlobal + Threads + Wait + Sync>(
     };
     let wrong = pair.first_wrong(rt, &ROWS);
     match close(rt.alloc(), pair) {
-        Some(closed) => wrong.is_none() && has_two(&closed.plant),
+        Some(closed) => {
+            let has_two = has_two(closed.plant);
+            has_two && wrong.is_none()
+        }
         None => false,
     }
 }

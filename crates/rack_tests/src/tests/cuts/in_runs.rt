@@ -27,8 +27,9 @@ fn ends_rightly<R: AllocGlobal + Threads + Sync>(
         blocks: &blocks,
     };
     let mut plant = fault.plant(workers);
-    ends(rt, &mut plant, planned, &case, &AtomicUsize::new(0))
-        && fault.is_set_rightly(is_wide, &plant.port)
+    let is_ended = ends(rt, &mut plant, planned, &case, &AtomicUsize::new(0));
+    let is_set = fault.is_set_rightly(is_wide, &plant.port);
+    is_ended && is_set
 }
 
 /// Whether runs by one worker and by two do. Of answers, those by one.
@@ -39,8 +40,9 @@ fn is_right<R: AllocGlobal + Threads + Sync>(
     fault: Fault,
 ) -> bool {
     let is_answer = matches!(fault, Fault::Answer(_, _, _));
-    ends_rightly(rt, planned, is_wide, fault, WorkerCount::ONE)
-        && (is_answer || ends_rightly(rt, planned, is_wide, fault, two()))
+    let by_one = ends_rightly(rt, planned, is_wide, fault, WorkerCount::ONE);
+    let by_two = is_answer || ends_rightly(rt, planned, is_wide, fault, two());
+    by_one && by_two
 }
 
 /// The number of the first fault for which they don't, or how many there are.

@@ -139,19 +139,18 @@ fn session<L: ExchangeName, R: AllocGlobal + Threads + Wait + Sync>(
         &mut NoListener,
         WorkerCount::ONE,
     ));
-    (
-        seat,
-        has_ended && is_told(rt.alloc(), told.as_slice(), fault),
-    )
+    let is_told = is_told(rt.alloc(), told.as_slice(), fault);
+    (seat, has_ended && is_told)
 }
 
 /// Whether an exchange has just the entries of the session, the words that the run leaves, and
 /// those that it was opened with.
-fn is_left(closed: &Closed<FaultyPort, FuseWires, OpenGate>, fault: Fault) -> bool {
-    closed.book.history().len() == CALLS
-        && has_blocks(closed.book.rack(), &blocks_of(fault.words(false)))
-        && has_blocks(closed.book.opening(), &blocks_of([0, 0]))
-        && fault.is_set_rightly(false, &closed.plant.port)
+fn is_left(closed: Closed<FaultyPort, FuseWires, OpenGate>, fault: Fault) -> bool {
+    let entries = closed.book.history().len();
+    let has_words = has_blocks(closed.book.rack(), &blocks_of(fault.words(false)));
+    let has_opening = has_blocks(closed.book.opening(), &blocks_of([0, 0]));
+    let is_set = fault.is_set_rightly(false, &closed.plant.port);
+    entries == CALLS && has_words && has_opening && is_set
 }
 
 /// Whether the session is told what it should be from the one seat of an exchange, which is left as
@@ -171,7 +170,10 @@ fn is_right<L: ExchangeName, R: AllocGlobal + Threads + Wait + Sync>(
         return false;
     };
     match exchange.close(seats) {
-        Ok(closed) => is_told && is_left(&closed, fault),
+        Ok(closed) => {
+            let is_left = is_left(closed, fault);
+            is_told && is_left
+        }
         Err(_) => false,
     }
 }
@@ -216,10 +218,13 @@ const ANSWERS: [u8; 8] = [0x00, 0x7f, 0x80, 0x81, 0x91, 0x92, 0xa1, 0xff];
 /// Whether it is, by one worker and by two. Of answers some are tried, by one.
 fn is_right_for<R: AllocGlobal + Threads + Wait + Sync>(rt: &R, fault: Fault) -> bool {
     match fault {
-        Fault::Answer(_, _, reply) => {
-            !ANSWERS.contains(&reply) || runs_to(rt, fault, WorkerCount::ONE)
+        Fault::Answer(_, _, reply) if !ANSWERS.contains(&reply) => true,
+        Fault::Answer(_, _, _) => runs_to(rt, fault, WorkerCount::ONE),
+        _ => {
+            let by_one = runs_to(rt, fault, WorkerCount::ONE);
+            let by_two = runs_to(rt, fault, two());
+            by_one && by_two
         }
-        _ => runs_to(rt, fault, WorkerCount::ONE) && runs_to(rt, fault, two()),
     }
 }
 

@@ -36,9 +36,10 @@ impl Carried {
 
     /// Whether so many bytes were carried by so many wires, as expected.
     fn is_just(&self, bytes: usize, wires: usize) -> bool {
-        self.right.load(Ordering::SeqCst) == bytes
-            && self.wires.load(Ordering::SeqCst) == wires
-            && !self.is_wrong.load(Ordering::SeqCst)
+        let right = self.right.load(Ordering::SeqCst);
+        let made = self.wires.load(Ordering::SeqCst);
+        let is_wrong = self.is_wrong.load(Ordering::SeqCst);
+        right == bytes && made == wires && !is_wrong
     }
 }
 
@@ -114,7 +115,9 @@ fn carries<R: AllocGlobal + Threads + Sync>(
         carried: &carried,
     });
     let wires = expected.len();
-    ends_so(rt, &mut plant, case, &carried.told) && carried.is_just(wires.saturating_mul(18), wires)
+    let is_ended = ends_so(rt, &mut plant, case, &carried.told);
+    let is_carried = carried.is_just(wires.saturating_mul(18), wires);
+    is_ended && is_carried
 }
 
 /// Held blocks are peeked at 80010808 and 8001080c hex, in the hold window, and another block at

@@ -143,9 +143,9 @@ fn is_right<R: AllocGlobal + Threads + Sync>(rt: &R, row: &Row) -> bool {
         gate: OpenGate,
         workers: WorkerCount::ONE,
     };
-    ends_so(rt, &mut plant, &row.case, &AtomicUsize::new(0))
-        && !plant.port.is_wrong
-        && plant.port.calls == row.calls
+    let is_ended = ends_so(rt, &mut plant, &row.case, &AtomicUsize::new(0));
+    let (calls, is_wrong) = (plant.port.calls, plant.port.is_wrong);
+    is_ended && !is_wrong && calls == row.calls
 }
 
 /// The number of the first of some rows that isn't right, or how many they are.

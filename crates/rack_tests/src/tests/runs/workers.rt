@@ -22,7 +22,9 @@ fn two_pushes_meet<R: AllocGlobal + Threads + Sync>(rt: &R) -> bool {
         blocks: &[(1, 0, &[0, 1]), (2, 0, &[0x0001_0100, 0x0001_0101])],
     };
     let mut plant = with_gate(PlainWires, Meeting::new(), two());
-    ends_so(rt, &mut plant, &case, &AtomicUsize::new(0)) && plant.gate.is_met()
+    let is_ended = ends_so(rt, &mut plant, &case, &AtomicUsize::new(0));
+    let is_met = plant.gate.is_met();
+    is_ended && is_met
 }
 
 #[test]
@@ -72,9 +74,10 @@ impl Watch {
 
     /// Whether just so many wires began, and no wire was early or gave up.
     fn is_timely(&self, wires: usize) -> bool {
-        self.begun.load(Ordering::SeqCst) == wires
-            && !self.gave_up.load(Ordering::SeqCst)
-            && !self.early.load(Ordering::SeqCst)
+        let begun = self.begun.load(Ordering::SeqCst);
+        let gave_up = self.gave_up.load(Ordering::SeqCst);
+        let is_early = self.early.load(Ordering::SeqCst);
+        begun == wires && !gave_up && !is_early
     }
 
     /// Sees that the worker of a transfer has arrived, where each has its own.
@@ -97,7 +100,9 @@ impl Watch {
         self.begun.fetch_add(1, Ordering::SeqCst);
         let wanted = self.held.unwrap_or(0);
         for _ in 0..TURNS {
-            if self.begun.load(Ordering::SeqCst) >= wanted || self.gave_up.load(Ordering::SeqCst) {
+            let begun = self.begun.load(Ordering::SeqCst);
+            let gave_up = self.gave_up.load(Ordering::SeqCst);
+            if begun >= wanted || gave_up {
                 return;
             }
             yield_now();
@@ -206,9 +211,10 @@ fn is_seen<R: AllocGlobal + Threads + Sync>(
         blocks: &[(1, 1, &words)],
     };
     let mut plant = with_gate(WatchedLines { watch }, WatchedGate { watch }, workers);
-    ends_so(rt, &mut plant, &case, &AtomicUsize::new(0))
-        && watch.has_seen(row.arrivals)
-        && watch.is_timely(row.transfers)
+    let has_ended = ends_so(rt, &mut plant, &case, &AtomicUsize::new(0));
+    let has_seen = watch.has_seen(row.arrivals);
+    let is_timely = watch.is_timely(row.transfers);
+    has_ended && has_seen && is_timely
 }
 
 /// Whether that is so of a new watch.

@@ -42,14 +42,16 @@ impl<'a> Beside<'a> {
     /// and of no other. The session ended so.
     pub fn is_right(&self, fault: Option<ServeFault>) -> bool {
         let flushed = self.flushed.load(Ordering::SeqCst);
-        let is_told = match fault {
+        let is_told = self.is_told_of(flushed);
+        let is_answered = self.is_over || self.rest.is_empty();
+        let is_right = match fault {
             Some(ServeFault::Write) => {
                 !self.is_refused && self.heard == flushed.saturating_add(1)
             }
-            Some(_) => self.is_told_of(flushed),
-            None => self.is_told_of(flushed) && (self.is_over || self.rest.is_empty()),
+            Some(_) => is_told,
+            None => is_told && is_answered,
         };
-        !self.is_wrong && is_told
+        is_right && !self.is_wrong
     }
 
     /// Whether so many commands were heard, and the last was refused just where its reply is a
@@ -69,9 +71,8 @@ impl<'a> Listener for Beside<'a> {
     ghost may_tell = { λ _ _. ⊤ };
 
     fn heard(&mut self, text: &[u8]) {
-        if self.is_over || !self.is_told_of(self.flushed.load(Ordering::SeqCst)) {
-            self.is_wrong = true;
-        }
+        let is_told = self.is_told_of(self.flushed.load(Ordering::SeqCst));
+        self.is_wrong = self.is_wrong || self.is_over || !is_told;
         if self.rest.is_empty() {
             self.rest = self.says;
         }
@@ -87,9 +88,8 @@ impl<'a> Listener for Beside<'a> {
     fn refused(&mut self, refusal: Refusal) {
         let flushed = self.flushed.load(Ordering::SeqCst);
         let is_its = refusal.line().as_bytes().strip_suffix(b"\n") == reply_at(self.hears, flushed);
-        if self.is_refused || self.heard != flushed || !is_its {
-            self.is_wrong = true;
-        }
+        let is_next = self.heard == flushed;
+        self.is_wrong = self.is_wrong || self.is_refused || !is_next || !is_its;
         self.is_refused = true;
     }
 }

@@ -1,14 +1,12 @@
-//! Sessions over a history that lets entries wait: which lines are answered together, and that
-//! their entries are flushed before.
+//! Sessions over a record that lets entries wait: which lines are answered together, and that
+//! their entries are written before.
 
 ghost use Rattle.batch_book.specs.Naming.{IsNamed};
-ghost use Rattle.std.specs.Prelude.{◌≡◌, [], true, false};
+ghost use Rattle.std.specs.Prelude.{◌≡◌, []};
 
 use crate::tests::common::{with_wires, zeros};
-use batch_book::{
-    Book, Call, Entry, ExchangeBlank, ExchangeName, History, NoRecorder, NoneWait, PastEntries,
-    Shared, Unrecorded,
-};
+use batch_book::{Book, ExchangeBlank, ExchangeName, Shared, Silent};
+use book_record::{Streamed, stream_on};
 use client_session::{Listener, ServeFault, serve};
 use crossbar::MemoryPort;
 use exchange_limits::WorkerCount;
@@ -19,7 +17,6 @@ use std::alloc::{AllocError, Global};
 use std::io;
 use std::io::{Read, Write};
 use std::marker::Brand;
-use std::snapshot::Snapshot;
 use std::sync::Wait;
 use std::sync::atomic::{AtomicBool, AtomicUsize, Ordering};
 use std::test::Fail;
@@ -77,108 +74,38 @@ impl<'a> Course<'a> {
 
     /// Whether all has come to pass, and nothing else.
     fn is_over(&self) -> bool {
-        !self.is_wrong.load(Ordering::SeqCst)
-            && self.seen.load(Ordering::SeqCst) == self.wanted.len()
+        let is_wrong = self.is_wrong.load(Ordering::SeqCst);
+        let seen = self.seen.load(Ordering::SeqCst);
+        !is_wrong && seen == self.wanted.len()
     }
 }
 
-/// Entries that go nowhere, and wait until they are flushed. That fails where its course says so.
+/// The writer of a record, which sees how many entries it is given at once. It fails where its
+/// course says so.
 #[derive(Drop)]
-struct Waiting<'a> {
-    past: PastEntries,
-    flushed: Snapshot<PastEntries>,
-    waiting: usize,
-    is_whole: bool,
+struct Recorded<'a> {
     course: &'a Course<'a>,
 }
 
-impl<'a> Waiting<'a> {
-    fn new(course: &'a Course<'a>) -> Waiting<'a>
-        ensures empty { result.past ≡ [] }
-        ensures stands { result.flushed.value ≡ [] }
-        ensures whole { result.is_whole ≡ true }
-    {
-        let past = PastEntries::none();
-        let flushed = Snapshot::of(&past);
-        Waiting {
-            past,
-            flushed,
-            waiting: 0,
-            is_whole: true,
-            course,
+impl Write for Recorded<'_> {
+    fn write(&mut self, buf: &[u8]) -> io::Result<usize> {
+        let mut entries: usize = 0;
+        for line in buf.split(|byte| *byte == b'\n') {
+            // No other line of an entry begins with a number.
+            if line.starts_with(b"0 ") {
+                entries = entries.saturating_add(1);
+            }
         }
-    }
-}
-
-impl History for Waiting<'_> {
-    type Waiting = NoneWait;
-
-    type Recorder = NoRecorder;
-
-    ghost use Rattle.std.specs.Prelude.{true, false};
-
-    ghost pushed = { λ s. s.past };
-
-    ghost stands = { λ s. s.flushed.value };
-
-    ghost whole = { λ s. s.is_whole };
-
-    ghost limited = { false };
-
-    ghost loses = { true };
-
-    ghost waits = { true };
-
-    ghost lends = { false };
-
-    ghost drafted = { λ _ _ _. Unit {0} };
-
-    fn is_whole(&self) -> bool {
-        self.is_whole
-    }
-
-    fn groups() -> bool
-        ensures { true ≡ false → result ≡ false }
-    {
-        true
-    }
-
-    fn may_wait(&self) -> bool {
-        true
-    }
-
-    fn has_room(&self) -> bool {
-        true
-    }
-
-    fn draft(&mut self, _session: usize, _call: &Call) -> Result<(), AllocError> {
-        Ok(())
-    }
-
-    fn push(&mut self, entry: Entry) {
-        self.past.add(&entry);
-        self.waiting = self.waiting.saturating_add(1);
-    }
-
-    /// A flush that has failed is seen again where it is tried again.
-    fn flush(&mut self) -> Result<(), Unrecorded> {
-        if !self.is_whole || self.course.loses() {
-            self.is_whole = false;
-            self.course.see(Lost(self.waiting));
-            return Err(Unrecorded);
+        if self.course.loses() {
+            self.course.see(Lost(entries));
+            return Err(io::ErrorKind::Other.into());
         }
-        self.course.see(Flushed(self.waiting));
-        self.waiting = 0;
-        self.flushed = Snapshot::of(&self.past);
+        self.course.see(Flushed(entries));
+        Ok(buf.len())
+    }
+
+    fn flush(&mut self) -> io::Result<()> {
         Ok(())
-    }
-
-    fn lend(self) -> Result<(NoneWait, NoRecorder), Self> {
-        Err(self)
-    }
-
-    fn take_back(_waiting: NoneWait, _recorder: NoRecorder) -> Option<Self> {
-        None
     }
 }
 
@@ -256,14 +183,14 @@ struct Row<'a> {
 }
 
 /// The exchange of the tests.
-type Exchange<'a, L> = Shared<L, MemoryPort, PlainWires, OpenGate, Waiting<'a>>;
+type Exchange<'a, L> = Shared<L, MemoryPort, PlainWires, OpenGate, Streamed<Recorded<'a>, Brand>>;
 
 /// Whether the client of a row hears what it is to hear, at a new exchange over this book, and its
 /// session ends so.
 fn hears<'a, L: ExchangeName, R: AllocGlobal + Threads + Wait + Sync>(
     rt: &R,
     blank: ExchangeBlank,
-    book: Book<Waiting<'a>>,
+    book: Book<Streamed<Recorded<'a>, Brand>>,
     row: &Row<'a>,
     course: &'a Course<'a>,
 ) -> bool
@@ -299,7 +226,8 @@ fn hears<'a, L: ExchangeName, R: AllocGlobal + Threads + Wait + Sync>(
         Ok(_) => None,
         Err((_, fault)) => Some(fault),
     };
-    fault == row.fault && !hearer.is_wrong && hearer.rest.is_empty()
+    let has_ended = fault == row.fault;
+    has_ended && !hearer.is_wrong && hearer.rest.is_empty()
 }
 
 /// Whether a row is so on a rack of two modules of one word.
@@ -308,13 +236,17 @@ fn is_so<R: AllocGlobal + Threads + Wait + Sync>(rt: &R, row: &Row<'_>) -> bool 
         return false;
     };
     let course = Course::of(row.course);
-    let Ok(book) = Book::with(rt.alloc(), rack, Waiting::new(&course)) else {
+    let Ok(book) = Book::with(rt.alloc(), rack, Silent::new()) else {
         return false;
     };
     let Ok(blank) = ExchangeBlank::new(rt.alloc()) else {
         return false;
     };
-    hears::<Brand, R>(rt, blank, book, row, &course) && course.is_over()
+    let writer = Recorded { course: &course };
+    let book = stream_on::<Recorded<'_>, Brand>(rt.alloc(), book, writer, false);
+    let is_heard = hears::<Brand, R>(rt, blank, book, row, &course);
+    let is_over = course.is_over();
+    is_heard && is_over
 }
 
 const PEEK: &str = "peek 0 80000800\n";

@@ -10,7 +10,7 @@ use super::beside::Beside;
 use super::streams::{Listener, Script, Speaker};
 use crate::tests::common::{with_wires, zeros};
 use crate::tests::office::{Pair, close, open_pair};
-use batch_book::{ExchangeBlank, ExchangeName, Seat, Shared};
+use batch_book::{Closed, ExchangeBlank, ExchangeName, Seat, Shared};
 use byte_streams::FailureCount;
 use client_session::{CountedReader, NoListener, ServeFault, serve};
 use crossbar::MemoryPort;
@@ -75,17 +75,19 @@ fn play<L: ExchangeName, R: AllocGlobal + Threads + Wait + Sync>(
         &mut beside,
         WorkerCount::ONE,
     ));
-    let is_right = speaker.is_right()
-        && is_heard(&listener, script, fault)
-        && beside.is_right(fault);
-    (seat, is_right)
+    let is_read = speaker.is_right();
+    let is_heard = is_heard(&listener, script, fault);
+    let is_beside = beside.is_right(fault);
+    (seat, is_read && is_heard && is_beside)
 }
 
 /// Whether a client has heard what its script says, and its session has ended so, by this fault.
 fn is_heard(listener: &Listener<'_>, script: &Script, fault: Option<ServeFault>) -> bool {
-    listener.is_right()
-        && fault == script.fault
-        && (listener.is_flushed() || fault == Some(ServeFault::Write))
+    let is_right = listener.is_right();
+    let is_flushed = listener.is_flushed();
+    let has_ended = fault == script.fault;
+    let is_deaf = fault == Some(ServeFault::Write);
+    is_right && has_ended && (is_flushed || is_deaf)
 }
 
 /// Plays both scripts of a day, one after the other. Whether all is as they say.
@@ -193,7 +195,8 @@ fn hear<L: ExchangeName, R: AllocGlobal + Threads + Wait + Sync, I: Read + Drop>
         &mut NoListener,
         WorkerCount::ONE,
     ));
-    (seat, fault.is_none() && listener.is_right())
+    let is_right = listener.is_right();
+    (seat, fault.is_none() && is_right)
 }
 
 /// The scripts of two clients, one after the other.
@@ -204,6 +207,11 @@ pub struct Day {
     /// Whether both have the same seat.
     pub is_one_seat: bool,
     pub scripts: [Script; 2],
+}
+
+/// How many entries a closed exchange has in its history.
+fn entries_of(closed: Closed<MemoryPort, FuseWires, OpenGate>) -> usize {
+    closed.book.history().len()
 }
 
 /// Plays both scripts at an exchange that is closed then. Whether all is as they say, and the
@@ -221,7 +229,10 @@ fn is_played<L: ExchangeName, R: AllocGlobal + Threads + Wait + Sync>(
     let entries = one.entries.saturating_add(other.entries);
     let (office, is_right) = play_both(rt, office, day);
     match close(rt.alloc(), office) {
-        Some(closed) => is_right && closed.book.history().len() == entries,
+        Some(closed) => {
+            let count = entries_of(closed);
+            is_right && count == entries
+        }
         None => false,
     }
 }

@@ -126,7 +126,9 @@ fn hear<R: AllocGlobal + Threads + Wait + Sync>(
     let Ok(blank) = ExchangeBlank::new(rt.alloc()) else {
         return false;
     };
-    hear_on::<Brand, R>(rt, blank, rack, &talk, wanted) && !talk.gave_up.load(Ordering::SeqCst)
+    let is_heard = hear_on::<Brand, R>(rt, blank, rack, &talk, wanted);
+    let gave_up = talk.gave_up.load(Ordering::SeqCst);
+    is_heard && !gave_up
 }
 
 /// The second client reads before any run and behind each of three runs of the first, which have 0,
