@@ -1,8 +1,8 @@
 #!/usr/bin/env python3
-"""Looks whether a tool tried as much as tools/least.txt says: least.py TOOL SAID
+"""Looks whether a tool tried as much as tools/least.txt says, and found nothing wrong: least.py TOOL SAID
 
 SAID is a file of what the tool printed. A tool that lacks a program of this machine and says so
-tries less.
+tries less. One that says WRONG is wrong, whatever its status.
 """
 
 import os
@@ -27,14 +27,20 @@ def most_said(words, said):
     return max(map(int, re.findall(rf"(?m)(?:^|(?<=\D)){before}(\d+){after}", said)), default=0)
 
 
+def faults(tool, said):
+    """What is wrong with what a tool printed."""
+    wanted = [] if " is missing, so " in said else lines_of(tool)
+    yield from (f"fewer than {least} of: {words}" for least, words in wanted if most_said(words, said) < least)
+    if not lines_of(tool):
+        yield "no line of tools/least.txt is about it"
+    if "WRONG" in said:
+        yield "it says so"
+
+
 def main():
     tool, name = sys.argv[1:]
     with open(name, encoding="utf-8", errors="replace") as file:
-        said = file.read()
-    wanted = [] if " is missing, so " in said else lines_of(tool)
-    wrong = [f"fewer than {least} of: {words}" for least, words in wanted if most_said(words, said) < least]
-    if not lines_of(tool):
-        wrong.append("no line of tools/least.txt is about it")
+        wrong = [*faults(tool, file.read())]
     for it in wrong:
         print(f"{tool}: WRONG: {it}")
     sys.exit(1 if wrong else 0)

@@ -81,6 +81,13 @@ case ${1-} in
     cmp "$archive" "$again" || fail 1 "WRONG: two archives of one build differ"
     tar -C "$work/elsewhere" -xzf "$archive"
     use "$work/elsewhere"
+    # Of what isn't proved, or in no commit, none is made.
+    printf '#!/bin/sh\necho logic=open\n' >"$work/rt"
+    chmod +x "$work/rt"
+    ! (PATH=$work:$PATH && verdicts "${crates[0]}") 2>/dev/null || fail 1 "WRONG: a crate that isn't proved has a verdict"
+    git clone -q "$top" "$work/clone" && touch "$work/clone/changed"
+    ! PATH=$work:$PATH "$work/clone/tools/release.sh" "$work/first" 2>"$work/said" && grep -q "made of a commit" "$work/said" ||
+        fail 1 "WRONG: what is in no commit is released"
     echo "release: $(basename "$archive") is the same twice, and works where it wasn't made"
     ;;
 '' | -*) fail 2 "the words are: FOLDER, or --check" ;;

@@ -40,12 +40,14 @@ try() {
     echo "$*: $((SECONDS - began)) s"
 }
 
+! ends_well false >/dev/null || wrong+=(ends_well)
 if grep -nE '^[^#:]*:(.*[^[:alnum:]_])?(io|os|libc)([^[:alnum:]_]|$)' crates.txt; then
     echo "crates.txt: WRONG: a crate lists io, os or libc"
     wrong+=(crates.txt)
 fi
 ./exchange prove
 try tools/edits.py
+try tools/steps.py
 try tools/start/run.sh
 try tools/rows/run.py
 try tools/c/run.sh

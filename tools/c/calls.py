@@ -214,12 +214,13 @@ def are_same(asked, path, *words):
 def on_small_stacks(path):
     """The examples and the largest texts, on threads with as much stack as the page says, which may name calls that need another number."""
     with open(f"{TOP}/docs/EMULATORS.md", encoding="utf-8") as file:
-        most, named, more = re.search(r"and (\d+) kilobytes of stack(?:, (.*?) (\d+))?\.", " ".join(file.read().split())).groups()
-    asked = {most: [], more: []}
+        most, more = re.search(r"and (\d+) kilobytes of stack(.*?)\.", " ".join(file.read().split())).groups()
+    named = {name: size for size, names in re.findall(r", (\d+) in ([^,]*)", more) for name in re.findall(r"`exchange_(\w+)`", names)}
+    asked = {}
     for name, given in [*examples(), *largest()]:
-        asked[more if f"`exchange_{name}`" in (named or "") else most].append((name, given))
+        asked.setdefault(named.get(name, most), []).append((name, given))
     print(f"calls: {sum(map(len, asked.values()))} calls on small stacks")
-    return all([are_same(calls, path, "stack", size) for size, calls in asked.items() if calls])
+    return all([are_same(calls, path, "stack", size) for size, calls in asked.items()])
 
 
 def main():

@@ -57,6 +57,7 @@ cc "${checks[@]}" -o "$work/emulator" "$top/examples/emulator/emulator.c" "$libr
 "$work/emulator" "$program" >"$work/printed" && cmp "$work/printed" "$work/wanted" || failed+=" driven"
 ends 5 'refused no memory' 'echo refused no memory; exit 5'
 ends 1 'left setting 0' "exec '$program' \"\$@\" </dev/null"
+! "$work/emulator" "$(type -P true)" >"$work/printed" && [ "$(tail -n 1 "$work/printed")" = WRONG ] || failed+=" compared"
 stops TERM 143
 stops INT 130
 cc "${checks[@]}" -Wl,--wrap=malloc,--wrap=realloc -o "$work/try" "$here/try.c" "$library" "$kit"

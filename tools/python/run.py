@@ -107,10 +107,13 @@ def try_install(room):
     expect("all files are listed", sorted(files) == sorted(f"{rack}/{line}" for line in put), f"{files}\n{put}")
     expect("all files are told", all(f"  {line}\n" in told for line in put), told)
     before = tree(rack)
+    Path(rack, "lib/old").write_text("old")
+    with open(f"{rack}/share/exchange/installed", "a") as listed:
+        listed.write("lib/old\n")
     for first, is_said in (f"{rack}/bin", False), (os.path.dirname(EXCHANGE), True):
         told = install("install once more", 0, "rack/", cwd=room, env={**os.environ, "PATH": f"{first}:{os.environ['PATH']}"})
         expect("where another exchange is on the PATH, the new one is said", (f"export PATH={rack}/bin:" in told) == is_said, told)
-    expect("another install leaves the same", tree(rack) == before)
+    expect("another install leaves the same, and nothing of an earlier one", tree(rack) == before)
     try_versions(rack)
     with open(f"{rack}/share/exchange/installed", "a") as listed:
         listed.write("bin/../../rack/bin/exchange\n")
@@ -134,10 +137,12 @@ def try_install(room):
     expect("that is told", "is no folder that can be written to" in told and tree(mine) == before, told)
     os.chmod(mine, 0o755)
     install("install beside other files", 0, mine)
-    Path(mine, "lib/theirs").write_text("theirs")
+    theirs = next(Path(mine).rglob("exchange.py")).parent / "__pycache__" / "theirs.pyc"
+    theirs.parent.mkdir()
+    theirs.write_text("theirs")
     shutil.rmtree(f"{mine}/lib/pkgconfig")
     install("uninstall beside other files, what is there in part", 0, mine, script="uninstall")
-    left = {**before, f"{mine}/lib": None, f"{mine}/lib/theirs": b"theirs"}
+    left = {**before, **dict.fromkeys(map(str, list(theirs.parents)[: -len(Path(mine).parts)])), str(theirs): b"theirs"}
     expect("what was there before is left, and what others put there since", tree(mine) == left, tree(mine).keys() ^ left.keys())
     install("uninstall what isn't there", 1, mine, script="uninstall")
     install("no folder for the folder", 1, f"{room}/none/rack")
@@ -155,7 +160,8 @@ def try_versions(rack):
     }
     expect("all have one version", version and all(it == [version] for it in told.values()), (version, told))
     major = re.findall(r"\(SONAME\).*\[(.*)\]", run("readelf", "-d", f"{rack}/lib/libexchange.so")[1])
-    expect("the shared library has its first number", major == [f"libexchange.so.{version.partition('.')[0]}"], major)
+    links = [os.readlink(path) for path in Path(rack).rglob("*") if path.is_symlink()]
+    expect("the shared library has its first number, and a link leads to it", major == links == [f"libexchange.so.{version.partition('.')[0]}"], (major, links))
 
 
 # An `rt` that proves nothing.
@@ -337,6 +343,10 @@ print(exchange.apply("32x64x256", "batch 0\\n", image) == image)
 """
 
 
+# What the emulator of threads and queues says where no setting is set.
+SET_NOTHING = "56 transfers in 0 settings that stood\nWRONG\n"
+
+
 def try_python(module):
     """The module by itself, and the emulator."""
     env = {**os.environ, "PYTHONPATH": os.path.dirname(module)}
@@ -354,6 +364,7 @@ def try_python(module):
         ended = status, f"{last}\ndrive has ended with status {status}, so nothing is compared\n"
         expect(f"the same, with a drive that ends: {last}", (told := run(*links, drive, env=env)) == ended, told)
         drive.unlink()
+    expect("the same, with a drive that sets nothing", (told := run(*links, shutil.which("true"), env=env)) == (1, SET_NOTHING), told)
     stop_links(links, drive, env)
     expect_run("want of memory", "exchange_apply was given no memory\nTrue\n", sys.executable, "-c", WITHOUT_MEMORY, env=env)
     sys.path.insert(0, os.path.dirname(module))

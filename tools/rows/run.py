@@ -111,6 +111,7 @@ MADE = {
     "each-to-each": lambda: pushes((m, b, (m + way) % 4, b) for way in (1, 2, 3) for b in (0, 1) for m in range(4)),
     "three-into-one": lambda: pushes((m, b, 0, 5 * m + b) for m in (1, 2, 3) for b in range(5)),
     "two-to-the-next": lambda: pushes((m, b, (m + 1) % 32, b) for b in (0, 1) for m in range(32)),
+    "four-unequal": lambda: counted("01 6 02 3 13 2 20 3 23 1 32 2"),
     "five-unequal": lambda: counted("00 1 01 3 03 4 04 7 12 11 14 3 20 7 23 3 24 4 30 4 32 3 33 7 40 3 41 11"),
     "five-others": lambda: counted("00 1 01 6 02 4 04 7 10 4 11 7 12 6 20 7 24 4 30 6 31 4 33 7 42 7 43 4"),
     "six-unequal": lambda: counted("00 7 01 3 05 8 10 8 12 7 14 3 20 3 23 8 24 3 25 4 30 6 31 3 32 8 33 7 41 8 43 6 44 4 45 6 51 4 52 3 53 3 54 8"),

@@ -62,7 +62,7 @@ def main():
     may = allowed()
     clashes = [name for name in sorted(several) if not several[name] <= may.get(name, set())]
     for name in clashes:
-        print(f"{name} has more than one meaning: in {', '.join(sorted(several[name]))}")
+        print(f"names: WRONG: {name} has more than one meaning: in {', '.join(sorted(several[name]))}")
     for name in sorted(set(may) - set(several)):
         print(f"{name} has one meaning, and needs no line in names.txt")
     print(f"names: {len(found)} of definitions, {len(several)} of them with several meanings")

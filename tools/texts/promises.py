@@ -10,7 +10,8 @@ promise, where the lines of the grammar aren't counted, and one sentence on all 
 definitions that it shows has to stand in the file as it is.
 
 Each law, a public function of a crate's src/laws.rt, has to be called by code, or named by what its
-crate's lib.rt says of the crate, or by a page that names the crate in the same paragraph, row or point.
+crate's lib.rt says of the crate, as `laws::NAME`, or by a page that names the crate in the same
+paragraph, row or point.
 """
 
 import glob
@@ -119,7 +120,7 @@ def unused_laws():
         own = {other: text for other, text in code.items() if f"/{crate}/" in other or re.search(rf"\buse {crate}\b", text)}
         for name in re.findall(r"(?m)^pub fn (\w+)", code[path]):
             laws += 1
-            told = re.search(rf"(?m)^//!.*\b{name}\b", about) or any(
+            told = re.search(rf"(?m)^//!.*`laws::{name}`", about) or any(
                 f"`{name}`" in part and re.search(rf"\b{crate}\b", part) for part in parts
             )
             called = re.search(rf"(?m)^    (let \w+ = )?{name}\(", code[path]) or any(
@@ -162,7 +163,7 @@ def main():
     faults += [f"no page names this law, and no code calls it: {law}" for law in unused]
     print(f"promises: {laws} laws, each named or called, but for {len(unused)}")
     for fault in faults:
-        print(f"promises: {fault}")
+        print(f"promises: WRONG: {fault}")
     sys.exit(1 if faults or not start or not laws else 0)
 
 

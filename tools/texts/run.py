@@ -120,7 +120,7 @@ def try_links(name):
         if not found or line and int(line) not in found:
             wrong.append(f"{shown} isn't where {link} leads; it is in the lines {found}")
     for fault in wrong:
-        print(f"{name}: {fault}")
+        print(f"{name}: WRONG: {fault}")
     return len(links), len(wrong)
 
 
@@ -187,7 +187,7 @@ def try_command(shown, folder):
     printed = run.stdout.decode("utf-8", "replace").splitlines()
     if fits(shown.lines, printed):
         return True
-    print(f"{shown.place}: {shown.words}\n  is shown with")
+    print(f"{shown.place}: WRONG: {shown.words}\n  is shown with")
     print("".join(f"    {line}\n" for line in shown.lines), end="")
     print("  and prints")
     print("".join(f"    {line}\n" for line in printed[:40]), end="")
@@ -231,7 +231,7 @@ def try_help(command):
         example = "\n".join(line for line in lines if line.startswith("  "))
         is_well = heading.startswith("Example:") and f"./exchange {command}" in example and run_in(folder, example)[0] == 0
         if not is_well:
-            print(f"exchange {command} --help begins with an example that doesn't work: {example}")
+            print(f"WRONG: exchange {command} --help begins with an example that doesn't work: {example}")
         return is_well
 
 
@@ -242,7 +242,7 @@ def try_table(name):
         make_folder(folder)
         wrong = [(place, words) for place, words in examples if run_in(folder, words)[0] != 0]
     for place, words in wrong:
-        print(f"{place}: an example doesn't end well: {words}")
+        print(f"{place}: WRONG: an example doesn't end well: {words}")
     return len(examples), len(wrong)
 
 
