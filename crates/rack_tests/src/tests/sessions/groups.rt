@@ -5,7 +5,7 @@ ghost use Rattle.batch_book.specs.Naming.{IsNamed};
 ghost use Rattle.std.specs.Prelude.{◌≡◌, []};
 
 use crate::tests::common::{with_wires, zeros};
-use batch_book::{Book, ExchangeBlank, ExchangeName, Shared, Silent};
+use batch_book::{Book, ExchangeBlank, ExchangeName, History, Shared, Silent};
 use book_record::{Streamed, stream_on};
 use client_session::{Listener, ServeFault, serve};
 use crossbar::MemoryPort;
@@ -183,22 +183,25 @@ struct Row<'a> {
 }
 
 /// The exchange of the tests.
-type Exchange<'a, L> = Shared<L, MemoryPort, PlainWires, OpenGate, Streamed<Recorded<'a>, Brand>>;
+type Exchange<L, H> = Shared<L, MemoryPort, PlainWires, OpenGate, H>;
 
 /// Whether the client of a row hears what it is to hear, at a new exchange over this book, and its
 /// session ends so.
-fn hears<'a, L: ExchangeName, R: AllocGlobal + Threads + Wait + Sync>(
+fn hears<'a, L: ExchangeName, H: History + Drop, R: AllocGlobal + Threads + Wait + Sync>(
     rt: &R,
     blank: ExchangeBlank,
-    book: Book<Streamed<Recorded<'a>, Brand>>,
+    book: Book<H>,
     row: &Row<'a>,
     course: &'a Course<'a>,
 ) -> bool
+where
+    H::Recorder: Drop,
+    H::Waiting: Drop,
     requires named { IsNamed L.name L.parts L.table L.opening L.earlier blank book }
     requires empty { book.history ≡ [] }
 {
     let plant = with_wires(PlainWires);
-    let made = Exchange::<'a, L>::of_book(rt.alloc(), blank, book, plant, 1);
+    let made = Exchange::<L, H>::of_book(rt.alloc(), blank, book, plant, 1);
     let Ok((shared, mut seats)) = made else {
         return false;
     };
@@ -244,7 +247,7 @@ fn is_so<R: AllocGlobal + Threads + Wait + Sync>(rt: &R, row: &Row<'_>) -> bool 
     };
     let writer = Recorded { course: &course };
     let book = stream_on::<Recorded<'_>, Brand>(rt.alloc(), book, writer, false);
-    let is_heard = hears::<Brand, R>(rt, blank, book, row, &course);
+    let is_heard = hears::<Brand, Streamed<Recorded<'_>, Brand>, R>(rt, blank, book, row, &course);
     let is_over = course.is_over();
     is_heard && is_over
 }
