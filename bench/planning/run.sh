@@ -79,10 +79,10 @@ greatest_growth=5
 # About an eighth more than was counted last, and no more than 3. A steady plan is the best of up to five, so it may cost more than a plan:
 # of transfers at random, and of modules that send each other one block
 declare -A greatest_steady=(
-    [scrambled]=1.50 [scrambled-1024]=3.00 [one_link]=1.00 [one_link-1024]=1.06 [odd]=0.62 [star]=1.00 [two_by_two]=0.57 [part]=1.00
-    [wide]=2.00 [three_by_three]=0.37 [four_by_two]=0.45 [sixteen_by_three]=0.75 [thirty_two_by_two]=0.54 [all_to_all]=0.62
-    [in_rounds]=0.62 [halo]=0.92 [random_16]=1.50 [random_32]=2.00 [random_256]=2.35 [sixty_pairs]=1.35 [gather]=1.08 [butterfly]=0.68
-    [permutations]=0.82 [once_each]=1.55 [random_512]=2.15 [ten_modules]=1.10 [random_800]=2.30 [seven_steps]=1.20 [seven_others]=1.20
+    [scrambled]=1.25 [scrambled-1024]=2.06 [one_link]=1.05 [one_link-1024]=1.07 [odd]=0.54 [star]=1.06 [two_by_two]=0.52 [part]=1.05
+    [wide]=1.79 [three_by_three]=0.35 [four_by_two]=0.43 [sixteen_by_three]=0.74 [thirty_two_by_two]=0.45 [all_to_all]=0.56
+    [in_rounds]=0.54 [halo]=0.85 [random_16]=1.24 [random_32]=1.80 [random_256]=1.85 [sixty_pairs]=1.12 [gather]=1.06 [butterfly]=0.66
+    [permutations]=0.72 [once_each]=1.06 [random_512]=2.06 [ten_modules]=0.81 [random_800]=2.13 [seven_steps]=0.83 [seven_others]=0.81
 )
 greatest_steady_growth=4
 # A batch is read once more, and once more where two transfers write one block
