@@ -4,7 +4,7 @@ use Rattle.peek_poke.specs.declared.fault.AnswerFault.{AnswerFault}
 use Rattle.peek_poke.specs.declared.fault.AnswerFault.TheVariants.{Boot, Misaligned, Outside, Failed}
 use Rattle.peek_poke.specs.declared.message.Message.{Message}
 use Rattle.peek_poke.specs.declared.message.Message.TheVariants.{Poke, Peek}
-use Rattle.peek_poke.specs.declared.message.TheConstants.{PEEK, POKE_BYTES}
+use Rattle.peek_poke.specs.declared.message.TheConstants.{PEEK}
 use Rattle.peek_poke.specs.Effects.{Does, Feeds, IsCause}
 use Rattle.peek_poke.specs.Messages.{IsMessage, IsPartial, Pending, spell}
 use Rattle.peek_poke.proofs.OneText.{one_reading}
@@ -21,12 +21,6 @@ partial_front [] n p = subst IsPartial (sym (none n)) tt
 partial_front (c ∷ bytes) zero p = tt
 partial_front (c ∷ bytes) (suc n) (inl p) = inl (p.0, omega (arith, p.1, length-take n bytes))
 partial_front (c ∷ bytes) (suc n) (inr p) = inr (p.0, omega (arith, p.1, length-take n bytes))
-
--- less than a message has eight bytes at most
-pub partial_fits : (bytes : List ℕ) → IsPartial bytes → length bytes < POKE_BYTES
-partial_fits [] p = omega arith
-partial_fits (c ∷ bytes) (inl p) = omega (arith, p.1)
-partial_fits (c ∷ bytes) (inr p) = omega (arith, p.1)
 
 one : (m : Message) → IsMessage m → (k : ℕ) (d : Message) → k < 1 → IsMessage (get_or (m ∷ []) k d)
 one m h zero d l = h

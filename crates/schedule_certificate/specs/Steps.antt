@@ -1,4 +1,5 @@
--- How many steps a plan may take. A step is one look at a transfer, a link or a cell of a table.
+-- How many steps a plan may take. A step is one round of a loop that no
+-- constant bounds, or one word that is copied or filled there.
 use Rattle.std.specs.Prelude.{ℕ, ◌+◌, ◌-◌, ◌*◌, ◌^◌, ◌≤◌, List}
 use Rattle.batch.specs.declared.limits.TheConstants.{MAX_MODULES}
 use Rattle.batch.specs.declared.transfer.Transfer.{Transfer}

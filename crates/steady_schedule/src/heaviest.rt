@@ -197,7 +197,7 @@ fn join_way(matching: &mut Matching, ways: &Ways, last: usize)
 }
 
 /// Parts a link 0 whose pair has no worth.
-fn part_worthless(worths: &Worths, matching: &mut Matching, zero: usize)
+fn part_pair(worths: &Worths, matching: &mut Matching, zero: usize)
     requires { zero < MAX_MODULES }
 {
     let Some(three) = matching.zero[zero] else {
@@ -206,6 +206,15 @@ fn part_worthless(worths: &Worths, matching: &mut Matching, zero: usize)
     let three = three as usize;
     if worths[zero * MAX_MODULES + three] == 0 {
         part(&mut matching.zero, &mut matching.three, zero, three);
+    }
+}
+
+/// Parts the links whose pair has no worth.
+fn part_worthless(worths: &Worths, matching: &mut Matching, modules: usize)
+    requires { modules ≤ MAX_MODULES }
+{
+    for zero in 0..modules {
+        part_pair(worths, matching, zero);
     }
 }
 
@@ -222,8 +231,6 @@ pub(crate) fn heaviest(worths: &Worths, modules: usize, looks: &mut usize) -> Op
         prices.settle(&ways, &matching.three, zero, ways.excess[last]);
         join_way(&mut matching, &ways, last);
     }
-    for zero in 0..modules {
-        part_worthless(worths, &mut matching, zero);
-    }
+    part_worthless(worths, &mut matching, modules);
     Some(matching)
 }

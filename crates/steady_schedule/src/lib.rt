@@ -15,8 +15,8 @@
 //! of `specs/Plans.antt`). Mostly the switch changes far less often than its bound.
 //!
 //! Links are tried in up to four orders for such schedules. Where fewer steps may be enough, a fifth
-//! is made of other steps: each has the length by which the most pairs are used up, and the matching
-//! that uses up the most of them. The schedule with the fewest changes is taken; no contract says
+//! is made of other steps: of each the matching is sought by the length that uses up the most pairs
+//! and idle links, and held as long as it can be. The schedule with the fewest changes is taken; no contract says
 //! so. Of small batches drawn at random at least 93 in 100 have the fewest changes, and all of them
 //! together at most 2 in 100 more than the fewest (`bench/planning/told.py`).
 //!

@@ -23,6 +23,19 @@ pub(crate) struct Side {
     pub(crate) uses: [u32; MAX_MODULES],
 }
 
+impl Side {
+    /// How many steps so many settings have at least, by the links of this end: those in which a
+    /// link is joined to each of its partners, and one where it is idle. No contract says so.
+    fn least_steps(&self, settings: usize) -> usize {
+        let mut least = 0;
+        for module in 0..MAX_MODULES {
+            let idle = self.uses[module] as usize != settings;
+            least = least.max(self.near[module].count_ones() as usize + idle as usize);
+        }
+        least
+    }
+}
+
 /// How many transfers of each pair of links wait for a setting.
 #[derive(Clone, Copy)]
 pub(crate) struct Remaining {
@@ -111,17 +124,11 @@ impl Remaining {
         }
     }
 
-    /// How many steps so many settings have at least: those in which a link is joined to each of its
-    /// partners, and one where it is idle. No contract says so.
+    /// How many steps so many settings have at least. No contract says so.
     pub(crate) fn least_steps(&self, settings: usize) -> usize {
-        let mut least = 0;
-        for side in [&self.zero, &self.three] {
-            for module in 0..MAX_MODULES {
-                let idle = side.uses[module] as usize != settings;
-                least = least.max(side.near[module].count_ones() as usize + idle as usize);
-            }
-        }
-        least
+        self.zero
+            .least_steps(settings)
+            .max(self.three.least_steps(settings))
     }
 
     /// One transfer more waits.

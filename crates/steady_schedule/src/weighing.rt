@@ -1,4 +1,4 @@
-//! Steps that use up as many pairs as they can.
+//! Steps that use up as many pairs as are found.
 
 ghost use Rattle.std.specs.Prelude.{◌≡◌, ℕ, ◌-◌, ◌<◌, ◌≤◌, IfSome, IsSome, true};
 ghost use Rattle.batch.specs.declared.limits.TheConstants.{MAX_MODULES, MAX_TRANSFERS};
@@ -105,6 +105,8 @@ fn full_then(uses: &[u32; MAX_MODULES], left: usize, modules: usize) -> u32
 }
 
 /// What a pair that can be held is worth: `full` has the links that are full after it without them.
+/// Where a link may be idle just so long, leaving it idle uses that up: its pairs are worth so much
+/// less.
 fn worth(reach: &Reach, full: (u32, u32), before: &Matching, zero: usize, three: usize) -> u32
     requires zero { zero < MAX_MODULES }
     requires three { three < MAX_MODULES }

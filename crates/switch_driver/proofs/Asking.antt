@@ -1,5 +1,5 @@
 -- The outputs of a switch, asked one after another.
-use Rattle.std.proofs.Common.{◌≡◌, ◌<◌, ◌+◌, ◌-◌, ◌++◌, ◌∷◌, [], ℕ, zero, suc, Bool, true, false, IsTrue, List, length, map, get_or, replicate, Option, Some, None, inl, inr, refl, sym, ap, ◌∙◌, subst, arith, append-nil, append_assoc, length-append}
+use Rattle.std.proofs.Common.{◌≡◌, ◌<◌, ◌+◌, ◌-◌, ◌++◌, ◌∷◌, [], ℕ, zero, suc, List, length, map, get_or, replicate, Option, Some, None, inl, inr, refl, sym, ap, ◌∙◌, subst, arith, append_assoc, length-append}
 use Rattle.std.proofs.lemmas.Bool.{cases_lt}
 use Rattle.std.proofs.lemmas.List.{get_or_append_left, length-replicate, map-append}
 use Rattle.std.proofs.Math.Seq.{get_or-append_seam}
@@ -77,10 +77,6 @@ disagreed_at fault chip wiring pairs wanted n output replies reply old new e f l
     let at : fault ≡ Disagreed (seen chip (switch_of wiring pairs) n reply) = rw (e, f) at is in
     rw at (record { replies = all; all = omega (arith, many, length-append replies (reply ∷ [])); are = rw at at first; passed = passed })
 
-pub passes_none : (old : Option (List Passing)) → Passes old old []
-passes_none None = tt
-passes_none (Some old) = sym (append-nil old)
-
 -- ---- where the port fails
 
 pub range_parts : (a n m : ℕ) → range_with_len a (n + m) ≡ range_with_len a n ++ range_with_len (a + n) m
@@ -132,7 +128,3 @@ front_more chip n replies (Some old) (Some mid) (Some new) lt many p (more, note
     )
 
 -- ---- what is so of an honest port
-
-pub not_honest : (honest : Bool) → (IsTrue honest → ⊥) → honest ≡ false
-not_honest true none = absurd (none refl)
-not_honest false none = refl

@@ -1,6 +1,6 @@
 use Rattle.std.proofs.Common.{arith}
 use Rattle.steady_schedule.proofs.Matchings.{partner_low}
-use Rattle.steady_schedule.proofs.heaviest.part_worthless.Goals as goal
+use Rattle.steady_schedule.proofs.heaviest.part_pair.Goals as goal
 
 pub bounds-worths-zero : goal.bounds-worths-zero
 bounds-worths-zero c =
