@@ -29,6 +29,7 @@ import plain
 import records
 import sessions
 from program import EXCHANGE, ROOMS, TOP, ask
+from sealed import sealed
 
 LIBRARY = os.path.abspath(sys.argv[1])
 CALLS = f"{TOP}/crates/hostile_use/out/hostile_use"
@@ -45,14 +46,14 @@ REFUSALS = (
     "plan 1\nbatch 1\npush 0 0 1 0\nrun 1\nplan 1\nplan 1\nshow 1\nrun 1\nrun 1\ndrop 1\nshow 1\n"
     "peek 2 80000800\npeek 0 80000801\npeek 0 80000000\nhello\n"
 )
-RECORD = (
-    "record 2x2x2 00200001 0\n"
-    "0 poke 1 80000808 000000ff\npoked\n0 batch 1\npull 0 0 1 1\naccepted 1\n0 fetch 1\nfetched\n0 settle 1\nplanned 1 settings 1\n"
-    "0 run 1\nran 1 run 1 settings 1 words 2 bits 234\n0 peek 0 80000800\nword 000000ff\n1 show 1\nrefused unknown\n"
-    "1 peek 1 80000800\nword 00000000\nend\n"
-)
+RECORD = sealed(
+    b"record-2 2x2x2 00200001 0\n"
+    b"0 poke 1 80000808 000000ff\npoked\n0 batch 1\npull 0 0 1 1\naccepted 1\n0 fetch 1\nfetched\n0 settle 1\nplanned 1 settings 1\n"
+    b"0 run 1\nran 1 run 1 settings 1 words 2 bits 234\n0 peek 0 80000800\nword 000000ff\n1 show 1\nrefused unknown\n"
+    b"1 peek 1 80000800\nword 00000000\nend\n"
+).decode()
 # A record of a rack of 3x2x2 that begins with the image.
-WORDED = "record 3x2x2 48280469 0\n0 peek 0 80000800\nword 03020100\nend\n"
+WORDED = sealed(b"record-2 3x2x2 48280469 0\n0 peek 0 80000800\nword 03020100\nend\n").decode()
 KEPT = "poke 0 80000800 000000ff\nbatch 1\npush 0 0 1 0\nplan 1\nrun 1\n"
 PUSHES = TWO_PUSHES + "plan 1\nrun 1\nprogress\npeek 1 80000804\npeek 2 80000800\n"
 # An image of 3x2x2, and moves that are directed both ways.

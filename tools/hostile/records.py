@@ -1,6 +1,5 @@
 """Records of sessions, replayed a second time: plain Python, as plain.py, that shares no code with the product."""
 
-import copy
 import math
 import re
 import zlib
@@ -9,12 +8,15 @@ import notes
 import plain
 import spoil
 from plain import NUMBER, Refused
+from sealed import sum_line
 from sessions import HEX8, Exchange
 
-HEAD = re.compile(rb"record " + rb"x".join([NUMBER] * 3) + rb" " + HEX8 + rb" " + NUMBER)
+HEAD = re.compile(rb"record-2 " + rb"x".join([NUMBER] * 3) + rb" " + HEX8 + rb" " + NUMBER)
 CLIENT = re.compile(rb"client ([^\n]+)")
 CLIENTS = 16
-END = b"end\n"
+
+# The bytes that lines have, and a record that was torn off.
+LINED = re.compile(rb"[\n -~]*")
 SESSION = re.compile(NUMBER + rb" ")
 BATCH = re.compile(rb"batch " + NUMBER)
 SUBMITTED = re.compile(NUMBER + rb" batch " + NUMBER + rb"\n")
@@ -22,7 +24,8 @@ SUBMITTED = re.compile(NUMBER + rb" batch " + NUMBER + rb"\n")
 # What is wanted in the first line, and in that of a call, as the line on standard error says it.
 ENDED = f"{notes.RULES}, a line feed at its end"
 HEAD_WANTED = (
-    '"record MxKxW SUM N", where MxKxW is its shape, SUM the sum of its image, of eight digits, and N counts the lines "client NAME" after it'
+    '"record-2 MxKxW SUM N", where MxKxW is its shape, SUM the sum of its image, of eight digits, and N counts the lines "client NAME" after it, '
+    'and then "=SUM", the sum of these lines'
 )
 CALL_WANTED = (
     '"S CALL", where S is the number of a session, below the number of clients if the head names any, CALL is "batch N" and the batch\'s '
@@ -150,68 +153,41 @@ def wrong_in_batch(text, at):
     return number + 1, notes.of_form(b"", 2, *notes.KINDS["batch"][2][1])
 
 
-# The parts of lines: a word as it stands, a number below a limit, and a word of eight hexadecimal digits.
-ANY, WORD = 10**9, "word"
-FORMS = [[f" {word} ".encode(), ANY] for word in ("fetch", "settle", "run", "show", "drop")]
-FORMS += [[b" batch ", plain.TRANSFERS + 1], [b" peek ", ANY, b" ", WORD], [b" poke ", ANY, b" ", WORD, b" ", WORD]]
-PLACES = [plain.WIDEST[0], b" ", plain.WIDEST[1]]
-TRANSFERS = [[word, *PLACES, b" ", *PLACES] for word in (b"push ", b"pull ")]
-
-
-def is_front(text, parts):
-    """Whether a text is a front of a line of these parts, without its line feed, or the whole of it."""
-    for part in parts:
-        if part == WORD:
-            if not re.match(b"[0-9a-f]{8}", text):
-                return bool(re.fullmatch(b"[0-9a-f]*", text))
-            text = text[8:]
-        elif isinstance(part, int):
-            digits = re.match(b"0|[1-9][0-9]*|", text)[0]
-            if not digits:
-                return not text
-            if int(digits) >= part:
-                return False
-            text = text[len(digits) :]
-        elif not text.startswith(part):
-            return part.startswith(text)
-        else:
-            text = text[len(part) :]
-    return not text
-
-
-def is_transfer(line):
-    """Whether a line of a batch, without its line feed, is one of a transfer."""
-    try:
-        return bool(plain.read_batch(b"batch 1\n" + line + b"\n", plain.WIDEST))
-    except Refused:
-        return False
-
-
 def limit_of(names):
     """The numbers of a record's sessions are below this, whose head has these names."""
-    return len(names) or ANY
+    return len(names) or 10**9
 
 
-def call_has_begun(rest, limit):
-    """Whether a rest is a front of a session's number, which is below a limit, and a call, but not the whole of them."""
-    first, feed, more = rest.partition(b"\n")
-    if not feed:
-        return any(is_front(first, [limit, *form]) for form in FORMS)
-    head = SUBMITTED.match(rest)
-    if not head or int(head[1]) >= limit or int(head[2]) > plain.TRANSFERS:
-        return False
-    *lines, last = more.split(b"\n")
-    return len(lines) < int(head[2]) and all(is_transfer(line) for line in lines) and any(is_front(last, form) for form in TRANSFERS)
+def summed(number, lines):
+    """These lines of an entry of this number, and their sum."""
+    return lines + sum_line(number, lines)
+
+
+def end_of(count):
+    """The last lines of a record of so many entries."""
+    return summed(count, b"end %d\n" % count)
+
+
+def lines_at(text, at, number):
+    """The lines that stand there after so many entries, and where their sum ends. None: the record was torn off there."""
+    mark = text.find(b"=", at)
+    feed = text.find(b"\n", mark) if mark >= 0 else -1
+    if feed < 0 and LINED.fullmatch(text, at):
+        return None
+    if feed < 0 or text[mark : feed + 1] != sum_line(number, text[at:mark]):
+        wanted = f"entry {number} or the end, with the sum of that number and of its lines after it: something was changed, left out or added"
+        raise Misrecorded(f"sum {number}", text, at, wanted)
+    return text[at:mark], feed + 1
 
 
 def rack_line(shape, image, clients):
     """The first line of a record: of a rack of this shape that begins with these words, and of so many clients."""
-    return b"record %dx%dx%d %08x %d\n" % (*shape, zlib.adler32(image), clients)
+    return b"record-2 %dx%dx%d %08x %d\n" % (*shape, zlib.adler32(image), clients)
 
 
 def head_of(shape, image, names):
     """The head of a record: of a rack of this shape that begins with these words, and of clients of these names."""
-    return rack_line(shape, image, len(names)) + b"".join(b"client %b\n" % name.encode() for name in names)
+    return summed(0, rack_line(shape, image, len(names)) + b"".join(b"client %b\n" % name.encode() for name in names))
 
 
 def head_in(text):
@@ -231,7 +207,9 @@ def head_in(text):
         if not client or client[1] in names:
             raise Misrecorded("head", text, 0, HEAD_WANTED)
         names.append(client[1])
-    return shape, names, at
+    if not text.startswith(sum_line(0, text[:at]), at):
+        raise Misrecorded("head", text, 0, HEAD_WANTED)
+    return shape, names, at + len(sum_line(0, b""))
 
 
 class Misrecorded(Refused):
@@ -261,7 +239,7 @@ class OtherHead(Misrecorded):
 
 class Replay:
     """A record, replayed: its whole entries, each the session, the call's text and the reply, and the exchange that is left. `ends` are the places
-    where the head and each of them end, `rest` is what stands behind, and `ended` says whether that is the last line. A shape that is given has to
+    where the head and each of them end, `rest` is what stands behind, and `ended` says whether that is the end. A shape that is given has to
     be the record's. So many entries are replayed, where a number is given."""
 
     def __init__(self, text, shape=None, image=None, first=None):
@@ -271,22 +249,25 @@ class Replay:
         due = rack_line(self.shape, self.exchange.image(), len(self.names))
         if not text.startswith(due):
             raise OtherHead(text, due, image)
+        self.ended = False
         while first is None or len(self.entries) < first:
-            if END.startswith(text[at:]) or text.startswith(END, at) or call_has_begun(text[at:], limit_of(self.names)):
+            found = lines_at(text, at, len(self.entries))
+            if found is None:
                 break
-            end = self.entry(text, at, len(self.entries))
-            if end is None:
+            lines, end = found
+            self.ended = lines == b"end %d\n" % len(self.entries)
+            if self.ended and end < len(text):
+                raise Misrecorded("more", text, end, None)
+            if self.ended:
                 break
+            self.entry(text, at, lines)
             at = end
             self.ends.append(at)
         self.rest = text[at:]
-        self.ended = self.rest == END
-        if first is None and text.startswith(END, at) and not self.ended:
-            raise Misrecorded("more", text, at + len(END), None)
 
-    def entry(self, text, at, number):
-        """Replays the entry that stands there, and says where it ends. Where its reply is cut off, nothing is done, and it ends nowhere."""
-        found = entry_at(text, at)
+    def entry(self, text, at, lines):
+        """Replays the entry of these lines, which stand there."""
+        number, found = len(self.entries), entry_at(lines, 0)
         if not found or found[0] >= limit_of(self.names):
             fault = Misrecorded(f"call {number}", text, at, f"the call of entry {number}, {CALL_WANTED}")
             session = SESSION.match(text, at)
@@ -294,19 +275,13 @@ class Replay:
                 fault.line, fault.told = wrong_in_batch(text, at) or (fault.line, fault.told)
             raise fault
         session, answer, named, begin, end = found
-        before = None if b"\n" in text[end : end + 200] else copy.deepcopy(self.exchange)
         try:
             reply = answer(self.exchange, session, *named)
         except Refused as why:
             reply = f"refused {why}"
-        line = reply.encode() + b"\n"
-        if line != text[end:] and line.startswith(text[end:]):
-            self.exchange = before
-            return None
-        if not text.startswith(line, end):
-            raise Misrecorded(f"reply {number}", text, end, f"the reply of entry {number}, {notes.quoted(reply.encode())}")
-        self.entries.append((session, text[begin:end].decode(), reply))
-        return end + len(reply) + 1
+        if lines[end:] != reply.encode() + b"\n":
+            raise Misrecorded(f"reply {number}", text, at + end, f"the reply of entry {number}, {notes.quoted(reply.encode())}")
+        self.entries.append((session, lines[begin:end].decode(), reply))
 
 
 def answer_replay(text, shape=None, image=None):
@@ -347,32 +322,37 @@ def made(draw, shape, sessions, count):
             reply = answer(exchange, session, *named)
         except Refused as why:
             reply = f"refused {why}"
-        entries.append(b"%d %b%b\n" % (session, text, reply.encode()))
+        entries.append(summed(len(entries), b"%d %b%b\n" % (session, text, reply.encode())))
     return entries
 
 
 def spelled(shape, entries, clients, ended=True):
     """The record of these entries on a rack that begins with zeros, by so many clients with names, with its end or without it."""
     names = [f"client-{number}" for number in range(clients)]
-    return head_of(shape, Exchange(shape).image(), names) + b"".join(entries) + (END if ended else b"")
+    return head_of(shape, Exchange(shape).image(), names) + b"".join(entries) + (end_of(len(entries)) if ended else b"")
 
 
-def other_word(draw, entry):
-    """An entry, with another word in its reply."""
-    call, _, reply = entry[:-1].rpartition(b"\n")
+def other_word(draw, number, entry):
+    """An entry of this number, with another word in its reply, and the sum of that."""
+    call, _, reply = entry.partition(b"=")[0][:-1].rpartition(b"\n")
     words = reply.split(b" ")
     words[draw.randrange(len(words))] = str(draw.choice(spoil.EDGES)).encode() if draw.random() < 0.5 else draw.choice([b"word", b"poked", b"refused", b"ran"])
-    return call + b"\n" + b" ".join(words) + b"\n"
+    return summed(number, call + b"\n" + b" ".join(words) + b"\n")
+
+
+def summed_anew(entries):
+    """These entries, with sums of their numbers."""
+    return [summed(number, entry.partition(b"=")[0]) for number, entry in enumerate(entries)]
 
 
 def spoilt(draw, shape, entries):
     """A record of a rack of this shape to which something was done, or nothing: a word of a reply changed, two entries exchanged, one left out, one
-    twice, one of another session; any bytes of it; its end left out, or more; or the head of another rack. Its head may name clients, maybe fewer
-    than it has sessions."""
+    twice, one of another session, all of which mostly with right sums; any bytes of it; its end left out, or more; or the head of another rack. Its
+    head may name clients, maybe fewer than it has sessions."""
     entries, what, clients = list(entries), draw.randrange(10), draw.choice([0, 0, 2, 3])
     one, other = draw.randrange(len(entries)), draw.randrange(len(entries))
     if what == 0:
-        entries[one] = other_word(draw, entries[one])
+        entries[one] = other_word(draw, one, entries[one])
     elif what == 1:
         entries[one], entries[other] = entries[other], entries[one]
     elif what == 2:
@@ -388,4 +368,6 @@ def spoilt(draw, shape, entries):
         return text[: draw.randrange(len(text) + 1)]
     elif draw.random() < 0.5:
         shape = (shape[0] + 1, *shape[1:])
+    if draw.random() < 0.8:
+        entries = summed_anew(entries)
     return spelled(shape, entries, clients, draw.random() < 0.8)

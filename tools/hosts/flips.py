@@ -1,26 +1,28 @@
 #!/usr/bin/env python3
-"""Records in which one bit is wrong: flips.py [COUNT [STEP]], or flips.py self
+"""Records in which something is wrong: flips.py [self] [COUNT [STEP]]
 
-Each bit of COUNT records in turn, of 2 where it isn't said, is wrong; or each so manieth. A record has 60 entries, with batches near its end. `replay` is asked about
-each, and plain Python (tools/hostile/records.py) judges. By the rule it is refused; or it was torn off within its last entry, or in the line `end`;
-or it has a meaning, another one at most at that place. Nothing else may lose an entry. `flips.py self` tries the judge alone, without the program.
+COUNT records, 3 where it isn't said, have 60 entries each, with all kinds of calls. In turn each bit is wrong, or each so manieth, and each digit; each line
+and each entry is left out, doubled, and exchanged with the next; and each number of last entries is left out before the end. `replay` is asked about
+each, and a live session with --resume; plain Python (tools/hostile/records.py) judges. By the rule each is refused, and its file stays as it was; or it
+was torn off within its last lines. None has another meaning. With `self` the judge alone is tried, without the program.
 """
 
 import multiprocessing
 import os
 import random
+import re
 import subprocess
 import sys
 import tempfile
 
 import kept  # noqa: F401 (tools/hostile is on its path)
 from plain import Refused
-from records import END, Replay, answer_replay, call_at, note, spelled
+from records import Misrecorded, Replay, answer_replay, call_at, end_of, note, spelled, summed
 from sessions import Exchange
 
 TOP = os.path.dirname(os.path.dirname(os.path.dirname(os.path.abspath(__file__))))
 EXCHANGE = os.path.abspath(os.environ.get("EXCHANGE") or f"{TOP}/crates/exchange/out/exchange")
-SHAPE = (2, 2, 1)
+SHAPE, SESSIONS = (2, 2, 1), 3
 ENTRIES = 60
 
 
@@ -34,68 +36,116 @@ def calls(draw):
         elif draw.random() < 0.5:
             yield f"poke {place} {draw.randrange(1 << 32):08x}\n"
         else:
-            yield draw.choice([f"peek {place}\n", f"show {draw.randint(1, 9)}\n", f"fetch {draw.randint(1, 9)}\n", f"settle {draw.randint(1, 9)}\n"])
+            word = draw.choice(["show", "fetch", "settle", "run", "drop"])
+            yield draw.choice([f"peek {place}\n", f"{word} {draw.randint(1, 9)}\n"])
 
 
 def made_record(turn):
-    """The record of these calls, with its end, or without it."""
+    """The record of these calls, with its end, or without it: each second one names clients."""
     draw, exchange, entries = random.Random(f"flips {turn}"), Exchange(SHAPE), []
     for text in calls(draw):
         answer, named, _ = call_at(text.encode(), 0)
-        session = draw.randrange(3)
+        session = draw.randrange(SESSIONS)
         try:
             reply = answer(exchange, session, *named)
         except Refused as why:
             reply = f"refused {why}"
-        entries.append(f"{session} {text}{reply}\n".encode())
-    return spelled(SHAPE, entries, turn % 2 == 0)
+        entries.append(summed(len(entries), f"{session} {text}{reply}\n".encode()))
+    return spelled(SHAPE, entries, SESSIONS * (turn % 2), turn % 3 < 2)
 
 
-def judged(text):
-    """What `replay` has to print of a spoilt record, its status, and what it has to tell. Wrong where an entry is lost by that."""
+def exchanged(parts):
+    """Lists of these parts with one left out, one doubled, and two exchanged that follow each other."""
+    for at in range(len(parts)):
+        yield parts[:at] + parts[at + 1 :]
+        yield parts[:at] + parts[at : at + 1] + parts[at:]
+        yield parts[:at] + parts[at : at + 2][::-1] + parts[at + 2 :]
+
+
+def spoilt_records(text, step):
+    """What each of these records is, and its text: that of a record in which one thing is wrong."""
+    for bit in range(0, 8 * len(text), step):
+        one = bytearray(text)
+        one[bit // 8] ^= 1 << bit % 8
+        yield f"bit {bit}", bytes(one)
+    for place in (it.start() for it in re.finditer(rb"[0-9a-f]", text)):
+        yield f"digit {place}", text[:place] + b"%x" % ((int(text[place : place + 1], 16) + 7) % 16) + text[place + 1 :]
+    ends = Replay(text).ends
+    entries = [text[begin:end] for begin, end in zip(ends, ends[1:])]
+    for parts in exchanged(text.splitlines(keepends=True)):
+        yield "lines", b"".join(parts)
+    for parts in exchanged(entries):
+        yield "entries", text[: ends[0]] + b"".join(parts) + text[ends[-1] :]
+    if text.endswith(end_of(ENTRIES)):
+        for count in range(ENTRIES):
+            yield f"{count} entries alone", text[: ends[count]] + end_of(ENTRIES)
+
+
+def judged(text, whole):
+    """What `replay` has to print of a spoilt record, its status, and what it has to tell; and what its file has to be once a session has gone on with
+    it. Wrong where it has another meaning than the whole one, or lost more than its last lines."""
     printed, status = answer_replay(text)
-    told = note("record", text)
-    if status == 0:
-        replay = Replay(text)
-        if len(replay.entries) < ENTRIES - 1 or not replay.ended and len(replay.entries) < ENTRIES and END.startswith(replay.rest[:1]):
-            raise AssertionError(f"{len(replay.entries)} entries are left of {text!r}")
-    return printed, status, told
+    if status != 0:
+        return (printed, status, note("record", text)), text
+    replay = Replay(text)
+    least = ENTRIES if whole.ended else ENTRIES - 1
+    if replay.ended or len(replay.entries) < least or replay.entries != whole.entries[: len(replay.entries)]:
+        raise AssertionError(f"{len(replay.entries)} entries are left, of {len(whole.entries)}")
+    return (printed, status, note("record", text)), text[: replay.ends[-1]] + end_of(len(replay.entries))
 
 
-def try_bits(turn, first, step, asks):
-    """Tries every so manieth bit of a record: how many, and what was wrong."""
+def ended(words, room):
+    return subprocess.run([EXCHANGE, *words], capture_output=True, stdin=subprocess.DEVNULL, cwd=room, timeout=300)
+
+
+def tried(text, wanted, left, names, room):
+    """What is wrong with what the program answers of a spoilt record, if anything is."""
+    with open(f"{room}/record", "wb") as file:
+        file.write(text)
+    told = ended(["replay", "record"], room)
+    if (told.stdout, told.returncode, told.stderr) != wanted:
+        return f"{told} where it has to be {wanted}"
+    on = ended([*(["host", "2x2x1", *names] if names else ["talk", "2x2x1"]), "--record", "record", "--resume", "--quiet"], room)
+    with open(f"{room}/record", "rb") as file:
+        found = file.read()
+    if on.returncode != wanted[1] or wanted[1] and on.stdout != wanted[0] or found != left:
+        return f"{on}, and {found!r} where it has to be {left!r}"
+    return None
+
+
+def try_records(turn, first, step, workers, asks):
+    """Tries every so manieth of the records that are made of one: how many, and what was wrong."""
     text, wrong, looked = made_record(turn), [], 0
+    whole = Replay(text)
+    names = [name.decode() for name in whole.names]
     with tempfile.TemporaryDirectory() as room:
-        for bit in range(first, 8 * len(text), step):
-            spoilt = bytearray(text)
-            spoilt[bit // 8] ^= 1 << bit % 8
+        for name in names:
+            open(f"{room}/{name}.in", "wb").close()
+        for number, (what, spoilt) in enumerate(spoilt_records(text, step)):
+            if number % workers != first or spoilt == text:
+                continue
             looked += 1
             try:
-                wanted = judged(bytes(spoilt))
-            except AssertionError as why:
-                wrong.append(f"bit {bit} of record {turn}: {why}")
-                continue
-            if not asks:
-                continue
-            with open(f"{room}/record", "wb") as file:
-                file.write(spoilt)
-            ended = subprocess.run([EXCHANGE, "replay", "record"], capture_output=True, cwd=room, timeout=300)
-            if (ended.stdout, ended.returncode, ended.stderr) != wanted:
-                wrong.append(f"bit {bit} of record {turn}: {ended} where it has to be {wanted}")
+                wanted, left = judged(spoilt, whole)
+                why = tried(spoilt, wanted, left, names, room) if asks else None
+            except (AssertionError, Misrecorded) as it:
+                why = it
+            if why:
+                wrong.append(f"{what} of record {turn}: {why}")
     return looked, wrong
 
 
 def main(words):
-    asks = words != ["self"]
-    numbers = [int(word) for word in words] if asks else []
-    count, step = numbers[0] if numbers else 2, numbers[1] if numbers[1:] else 1
+    asks = "self" not in words
+    numbers = [int(word) for word in words if word != "self"]
+    count, step = numbers[0] if numbers else 3, numbers[1] if numbers[1:] else 1
     workers = os.cpu_count() or 1
     with multiprocessing.Pool(workers) as pool:
-        ended = pool.starmap(try_bits, [(turn, step * first, step * workers, asks) for turn in range(count) for first in range(workers)])
-    wrong = [line for _, lines in ended for line in lines]
+        found = pool.starmap(try_records, [(turn, first, step, workers, asks) for turn in range(count) for first in range(workers)])
+    wrong = [line for _, lines in found for line in lines]
     for line in wrong[:20]:
         print(f"flips: WRONG: {line}")
-    print(f"flips: {sum(looked for looked, _ in ended)} bits of {count} records, {len(wrong)} wrong")
+    print(f"flips: {sum(looked for looked, _ in found)} spoilt records of {count}, {len(wrong)} wrong")
     return bool(wrong)
 
 

@@ -3,7 +3,6 @@
 Plain Python that shares no code with the product. What calls do, and what replies they have, tools/hostile says a second time.
 """
 
-import copy
 import math
 import os
 import sys
@@ -14,10 +13,11 @@ sys.path.insert(0, f"{TOP}/tools/hostile")
 
 import plain  # noqa: E402
 from plain import Refused  # noqa: E402
-from records import CLIENT, END, HEAD, call_has_begun, entry_at, head_of, limit_of  # noqa: E402
+from records import CLIENT, HEAD, Misrecorded, end_of, entry_at, head_of, limit_of, lines_at  # noqa: E402
+from sealed import sum_line  # noqa: E402
 from sessions import Exchange  # noqa: E402
 
-__all__ = ["END", "Record", "Wrong", "head_of", "judge_client"]
+__all__ = ["Record", "Wrong", "end_of", "head_of", "judge_client"]
 
 
 class Wrong(Exception):
@@ -28,7 +28,7 @@ class Record:
     """A record of a rack that begins with zeros, or with an image's words.
 
     `entries` are its whole entries, each the session, the call's text and the reply. `ends` are the places where the head and each of them
-    end, `rest` is what stands behind, and `ended` says whether that is the last line. Each reply is that of `exchange`, which is left.
+    end, `rest` is what stands behind, and `ended` says whether that is the end. Each reply is that of `exchange`, which is left.
     """
 
     def __init__(self, text, image=None):
@@ -43,38 +43,43 @@ class Record:
             if not client:
                 raise Wrong("the head is cut")
             self.names.append(client[1].decode())
-        self.exchange, self.entries, self.ends = Exchange(self.shape, image, math.inf), [], [at]
+        if not text.startswith(sum_line(0, text[:at]), at):
+            raise Wrong("the head has another sum")
+        self.exchange, self.entries, self.ends = Exchange(self.shape, image, math.inf), [], [at + len(sum_line(0, b""))]
         if zlib.adler32(self.exchange.image()) != self.sum:
             raise Wrong("the sum is another")
-        self.reply_has_begun = False
+        self.ended = False
         while self.take_entry(text):
             pass
         self.rest = text[self.ends[-1] :]
-        self.ended = self.rest == END
-        if not END.startswith(self.rest) and not call_has_begun(self.rest, limit_of(self.names)) and not self.reply_has_begun:
-            raise Wrong(f"behind {len(self.entries)} entries stands {self.rest[:200]!r}")
+        if self.ended and self.rest != end_of(len(self.entries)):
+            raise Wrong(f"after the end stands {self.rest[:200]!r}")
 
     def take_entry(self, text):
-        """Takes the next entry, where a whole one stands there: one whose reply has its line feed."""
-        found = entry_at(text, self.ends[-1])
-        if not found:
-            return False
-        session, answer, named, begin, end = found
-        if session >= limit_of(self.names):
-            raise Wrong(f"entry {len(self.entries)} is of session {session}, and there are {len(self.names)} clients")
-        line, behind = plain.line_at(text, end)
-        exchange = copy.deepcopy(self.exchange) if line is None else self.exchange
+        """Takes the next entry, where a whole one stands there: one with its sum."""
+        number = len(self.entries)
         try:
-            reply = answer(exchange, session, *named)
+            found = lines_at(text, self.ends[-1], number)
+        except Misrecorded as why:
+            raise Wrong(f"entry {number}: {why}") from why
+        self.ended = found is not None and found[0] == b"end %d\n" % number
+        if found is None or self.ended:
+            return False
+        lines, after = found
+        call = entry_at(lines, 0)
+        if not call:
+            raise Wrong(f"entry {number} is {lines!r}")
+        session, answer, named, begin, end = call
+        if session >= limit_of(self.names):
+            raise Wrong(f"entry {number} is of session {session}, and there are {len(self.names)} clients")
+        try:
+            reply = answer(self.exchange, session, *named)
         except Refused as why:
             reply = f"refused {why}"
-        if line is None:
-            self.reply_has_begun = reply.encode().startswith(text[end:])
-            return False
-        if line != reply.encode():
-            raise Wrong(f"entry {len(self.entries)} has {line!r}, and its reply is {reply!r}")
-        self.entries.append((session, text[begin:end].decode(), reply))
-        self.ends.append(behind)
+        if lines[end:] != reply.encode() + b"\n":
+            raise Wrong(f"entry {number} has {lines[end:]!r}, and its reply is {reply!r}")
+        self.entries.append((session, lines[begin:end].decode(), reply))
+        self.ends.append(after)
         return True
 
     def of(self, session):

@@ -22,8 +22,8 @@ import tempfile
 import time
 from concurrent.futures import ProcessPoolExecutor
 
-from kept import END, Record, Wrong, head_of, judge_client
-from records import made
+from kept import Record, Wrong, end_of, head_of, judge_client
+from records import made, summed
 
 TOP = os.path.dirname(os.path.dirname(os.path.dirname(os.path.abspath(__file__))))
 EXCHANGE = os.path.abspath(os.environ.get("EXCHANGE") or f"{TOP}/crates/exchange/out/exchange")
@@ -292,7 +292,7 @@ def idle_names(room, count):
 
 def made_record(draw, shape, names, count):
     """The text of a record of so many calls, that was ended."""
-    return head_of(shape, bytes(4 * shape[0] * shape[1] * shape[2]), names) + b"".join(made(draw, shape, len(names), count)) + END
+    return head_of(shape, bytes(4 * shape[0] * shape[1] * shape[2]), names) + b"".join(made(draw, shape, len(names), count)) + end_of(count)
 
 
 def resume(room, shape, names):
@@ -302,15 +302,15 @@ def resume(room, shape, names):
 
 
 def said_of_cut(room, whole, rest):
-    """What is said of the rest behind whole entries, which is cut off: nothing where that is nothing, or the line `end`."""
-    if rest in (b"", END):
+    """What is said of the rest behind whole entries, which is cut off: nothing where that is nothing, or the end."""
+    if not rest or Record(whole + rest).ended:
         return b""
     many = b"byte" if len(rest) == 1 else b"bytes"
     return b"exchange: %s/record: cut off: %d %s from line %d on" % (room.encode(), len(rest), many, whole.count(b"\n") + 1)
 
 
 def try_cuts():
-    """A record that is cut at each byte is resumed: its whole entries stay, and nothing else but the last line."""
+    """A record that is cut at each byte is resumed: its whole entries stay, and nothing else but the end."""
     draw, shape = random.Random("cuts"), (2, 2, 1)
     with tempfile.TemporaryDirectory(prefix="moments-") as room:
         names = idle_names(room, 2)
@@ -322,7 +322,7 @@ def try_cuts():
             status, told = resume(room, shape, names)
             if status != 0:
                 raise Wrong(f"cut at {cut}: status {status}, {told!r}")
-            if read(f"{room}/record") != text[:whole] + END:
+            if read(f"{room}/record") != text[:whole] + end_of(max(ends.index(whole), 0)):
                 raise Wrong(f"cut at {cut}: the record isn't that of its whole entries")
             if (off := said_of_cut(room, text[:whole], text[whole:cut])) != b"\n".join(line for line in told.split(b"\n") if b": cut off: " in line):
                 raise Wrong(f"cut at {cut}: {told!r}, and not {off!r}")
@@ -366,7 +366,8 @@ def try_killed_resuming():
     draw, shape = random.Random("resuming"), (4, 2, 2)
     with tempfile.TemporaryDirectory(prefix="moments-") as room:
         names = idle_names(room, 3)
-        whole = made_record(draw, shape, names, 20000)[: -len(END)]
+        end = end_of(20000)
+        whole = made_record(draw, shape, names, 20000)[: -len(end)]
         write(f"{room}/record", whole + b"0 peek 0 8000")
         for turn in range(40):
             words = [EXCHANGE, "host", shown(shape), *names, "--record", f"{room}/record", "--resume"]
@@ -376,10 +377,10 @@ def try_killed_resuming():
             process.send_signal(draw.choice(SIGNALS))
             process.wait(LIMIT)
             text = read(f"{room}/record")
-            if not text.startswith(whole) or text[len(whole) :] not in (b"0 peek 0 8000", b"", *(END[:n] for n in range(1, 5))):
+            if not text.startswith(whole) or text[len(whole) :] not in (b"0 peek 0 8000", b"", *(end[: n + 1] for n in range(len(end)))):
                 raise Wrong(f"turn {turn}: {text[len(whole):]!r} stands behind the entries")
         status, told = resume(room, shape, names)
-        if status != 0 or read(f"{room}/record") != whole + END:
+        if status != 0 or read(f"{room}/record") != whole + end:
             raise Wrong(f"at last: status {status}, {told!r}")
         return 41
 
@@ -506,7 +507,7 @@ def try_reader():
         text = made_record(draw, shape, names, 12)
         record = Record(text)
         head = len(head_of(shape, bytes(4 * shape[0] * shape[1] * shape[2]), names))
-        if (record.ends[0], record.ends[-1], record.ended, record.names) != (head, len(text) - len(END), True, names):
+        if (record.ends[0], record.ends[-1], record.ended, record.names) != (head, len(text) - len(end_of(12)), True, names):
             raise Wrong(f"turn {turn}: a record isn't read as it is")
         for cut in range(len(text)):
             if cut < head:
@@ -517,12 +518,15 @@ def try_reader():
             if part.entries != record.entries[: len(part.entries)] or part.ends[-1] != max(end for end in record.ends if end <= cut):
                 raise Wrong(f"turn {turn}: cut at {cut} it has other entries")
             looked += 1
-        spoilt = [text + b"\n", text + b"0 show 1\n", text[: -len(END)] + b"\n", text[: -len(END)] + b"0 progress\n", text.replace(b"client amy", b"Client amy"), text[head:]]
-        spoilt += [b"record %dx%dx%d %08x 3\n" % (*shape, 7) + text.partition(b"\n")[2]]
+        last = record.ends[-1]
+        spoilt = [text + b"\n", text + b"0 show 1\n", text[:last] + bytes(1), text[:last] + summed(12, b"0 progress\n"), text[:last] + end_of(11)]
+        spoilt += [text.replace(b"client amy", b"Client amy"), text.replace(b"client amy", b"client emy"), text[head:]]
+        spoilt += [b"record-2 %dx%dx%d %08x 3\n" % (*shape, 7) + text.partition(b"\n")[2]]
         for at, entry in enumerate(record.entries):
             begin, end = record.ends[at], record.ends[at + 1]
-            reply = entry[2].encode()
-            spoilt += [text[: end - len(reply) - 1] + b"other\n" + text[end:], text[:begin] + b"9" + text[begin:end] + text[end:], text[:begin] + b" " + text[begin:]]
+            lines = text[begin:end].partition(b"=")[0]
+            spoilt += [text[:begin] + text[end:], text[:begin] + b"9" + text[begin:], text[:begin] + summed(at, b"9" + lines) + text[end:]]
+            spoilt += [text[:begin] + summed(at, lines + b"other\n") + text[end:], text[:begin] + summed(at + 1, lines) + text[end:]]
         for it in spoilt:
             if not is_wrong(lambda: Record(it)):
                 raise Wrong(f"turn {turn}: a spoilt record is read: {it!r}")
@@ -533,10 +537,10 @@ def try_reader():
 def try_rests():
     """What may stand behind the entries of a record, and what may not."""
     head = head_of((2, 1, 1), bytes(8), [])
-    may = [b"", b"e", b"en", b"end", END, b"1", b"12 peek", b"0 peek 0 80000800", b"0 peek 0 80000800\n", b"0 peek 0 80000800\nwor", b"0 batch 2\n", b"0 batch 2\npush 0 0 1 0\n"]
-    may += [b"0 batch 2\npush 0 0 1 0\npush 0 0 1 1\nacc", b"0 batch 0\n", b"0 batch 0\naccepted 1", b"0 batch 3000\npush 31 63 0 0\npull 3", b"999999999 p", b"0 show 1\nrefused unknown"]
-    may_not = [b"\n", b"end\n\n", b"ends\n", b"0 progress\n", b"x", b"x" * 1000, b"0 batch 4097\n", b"0 batch 40960", b"0 batch 2\npush 0 0 1 0\npull 32", b"0 batch 2\n0 peek 0 80000800\n"]
-    may_not += [b"0 peek 0 80000800\nx", b"0 peek 0 80000800\nword 00000001", b"0 batch 1\npush 0 0 1 0\naccepted 2", b"0 batch 1\npush 0 0 1 0\npush 0 0 1 0\n", b"00", b"1000000000", b"0 peek 0 8000080g"]
+    end, entry = end_of(0), summed(0, b"0 peek 0 80000800\nword 00000000\n")
+    may = [end, entry, *(end[:cut] for cut in range(len(end))), *(entry[:cut] for cut in range(len(entry))), b"x", b"x" * 1000, b"\n \n~", b"0 batch 4097\n"]
+    may_not = [end + b"\n", end_of(1), entry + entry, entry + end, summed(0, b"end 1\n"), summed(0, b""), b"=\n", b"= \n", entry[:-1] + b" \n"]
+    may_not += [b"x\0", b"\t", b"0 peek 0 80000800\r\n", bytes(512), b"\xc3\xa9", b"\x7f", entry + bytes(1), summed(0, b"0 peek 0 80000800\nword 00000001\n")]
     for rest in may:
         Record(head + rest)
     for rest in may_not:

@@ -21,6 +21,10 @@ import time
 from collections import namedtuple
 
 TOP = os.path.dirname(os.path.dirname(os.path.dirname(os.path.abspath(__file__))))
+sys.path.insert(0, f"{TOP}/tools/hostile")
+
+from sealed import sealed  # noqa: E402
+
 PROGRAM = f"{TOP}/crates/exchange/out/exchange"
 
 # Seconds that a run has, and how many rows may take longer before the rest isn't tried.
@@ -180,8 +184,8 @@ def take_text(lines):
 
 
 # The sections of a row, by their first words.
-THERE = re.compile(r"(?:(?:file|bytes|pipe|folder|made) \S+|input)\Z")
-WANTED = re.compile(r"(?:out|err)(?: begins| ends| has| bytes| as \S+)?\Z")
+THERE = re.compile(r"(?:(?:file|sealed|bytes|pipe|folder|made) \S+|input)\Z")
+WANTED = re.compile(r"(?:out|err)(?: begins| ends| has| sealed| bytes| as \S+)?\Z")
 
 
 def read_rows(file):
@@ -221,6 +225,15 @@ def digits(text):
     return bytes.fromhex(text.decode())
 
 
+def sealed_within(text):
+    """A text, in which a record up to its line `end` has its sums."""
+    return re.sub(rb"(?ms)^record-2 .*?(?:^end\n|\Z)", lambda record: sealed(record[0]), text)
+
+
+# What texts stand for that aren't files as they are.
+FORMS = {"bytes": digits, "sealed": sealed_within}
+
+
 @functools.cache
 def made(name):
     """The bytes of a file that is too long to stand in a row."""
@@ -237,7 +250,7 @@ def put(words, text):
         os.mkfifo(name)
     else:
         with open(name, "wb") as file:
-            file.write(made(name) if kind == "made" else digits(text) if kind == "bytes" else text)
+            file.write(made(name) if kind == "made" else FORMS.get(kind, bytes)(text))
         if kind == "input":
             return os.open(name, os.O_RDONLY)
     return None
@@ -308,7 +321,7 @@ def run(row, line, programs):
         given, held = [put(*it) for it in row.there], Held()
         inputs = [it for it in given if it is not None] + [held.read]
         how = {"stdin": inputs[0], "stdout": subprocess.PIPE, "stderr": subprocess.PIPE, "start_new_session": True}
-        environment = {"PATH": f"{programs}:{TOP}/tools:{os.environ['PATH']}", "LC_ALL": "C"}
+        environment = {"PATH": f"{programs}:{TOP}/tools:{TOP}/tools/hostile:{os.environ['PATH']}", "LC_ALL": "C"}
         process = subprocess.Popen(["/bin/sh", "-c", line], env=environment, **how)
         ended = attend(process, Pipes(row), held)
         for it in [*inputs, held.write]:
@@ -324,10 +337,9 @@ def differs(words, wanted, found):
     if how == "as":
         with open(f"{TOP}/{words[2]}", "rb") as file:
             wanted = file.read()
-    if how == "bytes":
-        wanted = digits(wanted)
+    wanted = FORMS.get(how, bytes)(wanted)
     piece = wanted[:-1] if wanted.endswith(b"\n") else wanted
-    if how in ("", "as", "bytes"):
+    if how in ("", "as", *FORMS):
         well = found == wanted
     elif how == "begins":
         well = found.startswith(piece)

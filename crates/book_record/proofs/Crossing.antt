@@ -21,7 +21,7 @@ waiting_send =
     let T = Inside.the_type in
     view_send Inside.the_row _ _ _ _
     (recorded_send Inside.the_field.row _ _ T.to_one
-    (struct_send (shape T) (search (crosses, sendable) depth 20, (search sendable depth 20, (line.the_send, (reply_line.the_send, (past_send, (search sendable depth 20, tt))))))))
+    (struct_send (shape T) (search (crosses, sendable) depth 20, (search sendable depth 20, (search sendable depth 20, (line.the_send, (reply_line.the_send, (past_send, (search sendable depth 20, tt)))))))))
 
 pub streamed_send : (W N : RattleType) (w : Write.Ghosts W.Denot) (n : StreamName.Ghosts N.Denot) → IsSend W → IsSend N → IsSend (Streamed.the_row W N w n)
 streamed_send W N w n sw sn = let x = waiting_send in search (crosses, sendable) depth 60 fits 20000

@@ -1,116 +1,97 @@
 -- Fronts of the text of entries.
-use Rattle.std.proofs.Common.{◌≡◌, ◌≢◌, ℕ, List, [], ◌∷◌, ◌++◌, ◌⊎◌, inl, inr, length, map, All, refl, sym, ap, ◌∙◌, append_assoc, append-nil, subst, arith}
-use Rattle.std.specs.Fmt.{decimal}
-use Rattle.std.specs.List.{flat_map}
-use Rattle.std.proofs.lemmas.List.{length-append}
+use Rattle.std.proofs.Common.{◌≡◌, ◌≢◌, ℕ, suc, ◌+◌, List, [], ◌∷◌, ◌++◌, ◌⊎◌, inl, inr, length, map, drop, All, refl, sym, ap, ◌∙◌, append_assoc, subst, arith}
+use Rattle.std.proofs.lemmas.List.{append_cancel_left, length-append}
 use Rattle.std.proofs.lemmas.List.Elements.{All-head, All-nil, All-cons, All-tail}
-use Rattle.batch.specs.Text.{IsNumber, number, space, line_feed}
+use Rattle.batch.specs.Text.{line_feed}
 use Rattle.batch_book.specs.declared.entry.Entry.{Entry}
 use Rattle.client_session.specs.Bytes.{HasNoFeed}
-use Rattle.batch_book.specs.Told.{PlanlessCall, told}
-use Rattle.batch_book.specs.declared.reply.Reply.{Reply}
-use Rattle.book_record.specs.RecordText.{id_of, call_text, reply_text, entry_text, CanBeReplied, CanSay, CanTell}
-use Rattle.book_record.proofs.CallTexts.{one_behind, one_call}
-use Rattle.book_record.proofs.Records.{entry_parts}
-use Rattle.book_record.specs.Fronts.{IsUnfinished, IsCutOff, BeginsFirst, LinedEntry, lined}
+use Rattle.line_words.specs.HexWords.{hex8}
+use Rattle.book_record.specs.RecordText.{entry_lines, entry_text, texts, CanTell}
+use Rattle.book_record.specs.Sums.{HasNoMark, sum_at, sum_mark, summed}
+use Rattle.book_record.specs.Fronts.{IsDamaged, IsLineByte, IsSummed, IsTorn, IsUnfinished, IsCutOff, BeginsFirst}
 use Rattle.book_record.specs.FrontLaws.{OneReading, EachFrontIsRead}
-use Rattle.book_record.proofs.Feeds.{first_line}
-use Rattle.book_record.proofs.Replies.{IsOneLine, one_line}
+use Rattle.book_record.proofs.Feeds.{first_at, first_line, hex8_line, without_feed}
+use Rattle.book_record.proofs.Marks.{front_lined, told_lined, told_unmarked}
 
-abbrev reply_of : Entry → List ℕ
-reply_of e = reply_text (id_of (told e.call)) e.reply
+-- ---- what is summed
 
-abbrev its_line : (e : Entry) → CanTell e → IsOneLine (reply_of e)
-its_line e can = one_line (id_of (told e.call)) e.reply can.reply
+sum_form : (b h x : List ℕ) → (b ++ (sum_mark ∷ (h ++ line_feed ∷ []))) ++ x ≡ b ++ sum_mark ∷ (h ++ line_feed ∷ x)
+sum_form b h x = simp append_assoc
 
-line_form : (w x : List ℕ) → (w ++ line_feed ∷ []) ++ x ≡ w ++ line_feed ∷ x
-line_form w x = append_assoc w (line_feed ∷ []) x
+pub summed_form : (n : ℕ) (b x : List ℕ) → summed n b ++ x ≡ b ++ sum_mark ∷ (hex8 (sum_at n b) ++ line_feed ∷ x)
+summed_form n b x = sum_form b (hex8 (sum_at n b)) x
 
--- its lines, the last of them without its feed
-pub entry_lines : (e : Entry) (can : CanTell e) (x : List ℕ) → entry_text e ++ x ≡ number e.session space ++ (call_text (told e.call) ++ ((its_line e can).words ++ line_feed ∷ x))
-entry_lines e can x =
-    entry_parts e x ∙ ap (λ (l : List ℕ). number e.session space ++ (call_text (told e.call) ++ (l ++ x))) (its_line e can).are
-    ∙ ap (λ (l : List ℕ). number e.session space ++ (call_text (told e.call) ++ l)) (line_form (its_line e can).words x)
+hex_fed : (w : ℕ) → HasNoFeed (hex8 w)
+hex_fed w = without_feed (hex8 w) (hex8_line w)
 
--- ---- one entry
+cut_form : (b l x m : List ℕ) → (b ++ sum_mark ∷ (l ++ line_feed ∷ x)) ++ m ≡ b ++ sum_mark ∷ (l ++ line_feed ∷ (x ++ m))
+cut_form b l x m = simp append_assoc
 
-pub record OneLined (s t : ℕ) (c d : PlanlessCall) (w v x y : List ℕ) : Type 0 where
-  pub session : s ≡ t
-  pub call : c ≡ d
-  pub line : w ≡ v
-  pub rest : x ≡ y
+-- one body, and one rest
+pub one_summed : (n : ℕ) (a b x y : List ℕ) → HasNoMark a → HasNoMark b → summed n a ++ x ≡ summed n b ++ y → (a ≡ b) × (x ≡ y)
+one_summed n a b x y p q same =
+    let first = first_at sum_mark a b _ _ p q (sym (summed_form n a x) ∙ same ∙ summed_form n b y) in
+    let second = append_cancel_left (hex8 (sum_at n b)) (line_feed ∷ x) (line_feed ∷ y) (ap (λ (l : List ℕ). hex8 (sum_at n l) ++ line_feed ∷ x) (sym first.0) ∙ first.1) in
+    (first.0, ap (drop 1) second)
 
-one_lined : (s t : ℕ) (c d : PlanlessCall) (w v x y : List ℕ) → IsNumber s → IsNumber t → CanSay c → CanSay d → HasNoFeed w → HasNoFeed v
-    → number s space ++ (call_text c ++ (w ++ line_feed ∷ x)) ≡ number t space ++ (call_text d ++ (v ++ line_feed ∷ y)) → OneLined s t c d w v x y
-one_lined s t c d w v x y fs ft pc pd pw pv same =
-    let first = one_behind [] s t _ _ fs ft same in
-    let second = one_call c d _ _ pc pd first.1 in
-    let third = first_line w v x y pw pv second.1 in
-    record { session = first.0; call = second.0; line = third.0; rest = third.1 }
-
--- what stands behind a whole entry is more than nothing was cut off
+-- nothing stands behind the whole
 nil_right : (a b : List ℕ) → [] ≡ a ++ b → b ≡ []
 nil_right [] b e = sym e
 nil_right (x ∷ a) b e = absurd cc
 
-cut_form : (n c w x m : List ℕ) → (n ++ (c ++ (w ++ line_feed ∷ x))) ++ m ≡ n ++ (c ++ (w ++ line_feed ∷ (x ++ m)))
-cut_form n c w x m = simp append_assoc
+-- a front of what is summed, and not the whole of it, is unfinished
+cut_summed : (n : ℕ) (b front missing : List ℕ) → HasNoMark b → summed n b ≡ front ++ missing → missing ≢ [] → IsUnfinished front
+cut_summed n b front missing none same some body line rest unmarked fed is =
+    let whole : b ++ sum_mark ∷ (hex8 (sum_at n b) ++ line_feed ∷ []) ≡ body ++ sum_mark ∷ (line ++ line_feed ∷ (rest ++ missing)) =
+    same ∙ ap (λ (l : List ℕ). l ++ missing) is ∙ cut_form body line rest missing in
+    let first = first_at sum_mark b body _ _ none unmarked whole in
+    let second = first_line (hex8 (sum_at n b)) line [] (rest ++ missing) (hex_fed (sum_at n b)) fed first.1 in
+    some (nil_right rest missing second.1)
 
--- a front of an entry, and not the whole of it, is unfinished
-pub cut_entry : (e : Entry) (front missing : List ℕ) → CanTell e → entry_text e ≡ front ++ missing → missing ≢ [] → IsUnfinished front
-cut_entry e front missing can same some session call line rest fits say none is =
-    let one = one_lined e.session session (told e.call) call (its_line e can).words line [] (rest ++ missing) can.session fits can.call say (its_line e can).none none
-    (sym (entry_lines e can []) ∙ append-nil (entry_text e) ∙ same ∙ ap (λ (l : List ℕ). l ++ missing) is ∙ cut_form (number session space) (call_text call) line rest missing) in
-    some (nil_right rest missing one.rest)
+pub torn_summed : (n : ℕ) (b front missing : List ℕ) → HasNoMark b → All IsLineByte b → summed n b ≡ front ++ missing → missing ≢ [] → IsTorn front
+torn_summed n b front missing none lined same some = (cut_summed n b front missing none same some, front_lined n b front missing lined same)
 
--- ---- one reading
+-- what is summed isn't unfinished
+pub never : (n : ℕ) (b x text : List ℕ) → HasNoMark b → text ≡ summed n b ++ x → IsUnfinished text → ⊥
+never n b x text none is unfinished = unfinished b (hex8 (sum_at n b)) x none (hex_fed (sum_at n b)) (is ∙ summed_form n b x)
 
-whole : (e : Entry) (es : List Entry) (x : List ℕ) → flat_map entry_text (e ∷ es) ++ x ≡ entry_text e ++ (flat_map entry_text es ++ x)
-whole e es x = append_assoc (entry_text e) (flat_map entry_text es) x
+-- another sum stands there
+pub other_sum : (n : ℕ) (text body line rest : List ℕ) → HasNoMark body → HasNoFeed line → text ≡ body ++ sum_mark ∷ (line ++ line_feed ∷ rest) → line ≢ hex8 (sum_at n body) → IsDamaged n text
+other_sum n text body line rest none fed is differs = record {
+  unsummed = λ b x s.
+      let first = first_at sum_mark body b _ _ none s.none (sym is ∙ s.front ∙ summed_form n b x) in
+      let second = first_line line (hex8 (sum_at n b)) rest x fed (hex_fed (sum_at n b)) first.1 in
+      differs (second.0 ∙ ap (λ (l : List ℕ). hex8 (sum_at n l)) (sym first.0));
+  whole = λ torn. torn.0 body line rest none fed is;
+}
 
-pub never : (text : List ℕ) (e : Entry) (es : List Entry) (x : List ℕ) → CanTell e → text ≡ flat_map entry_text (e ∷ es) ++ x → IsUnfinished text → ⊥
-never text e es x can is unfinished =
-    unfinished e.session (told e.call) (its_line e can).words (flat_map entry_text es ++ x) can.session can.call (its_line e can).none (is ∙ whole e es x ∙ entry_lines e can (flat_map entry_text es ++ x))
+-- no sum does, and other bytes than lines have
+pub other_bytes : (n : ℕ) (text : List ℕ) → IsUnfinished text → (All IsLineByte text → ⊥) → IsDamaged n text
+other_bytes n text unfinished strange = record {
+  unsummed = λ b x s. never n b x text s.none s.front unfinished;
+  whole = λ torn. strange torn.1;
+}
 
-same_lined : (e f : Entry) → e.session ≡ f.session → told e.call ≡ told f.call → reply_of e ≡ reply_of f → lined e ≡ lined f
-same_lined e f s c r =
-    let make : ℕ → PlanlessCall → List ℕ → LinedEntry = λ t d q. record { session = t; call = d; reply = q } in
-    ap (λ (t : ℕ). make t (told e.call) (reply_of e)) s ∙ ap (λ (d : PlanlessCall). make f.session d (reply_of e)) c ∙ ap (make f.session (told f.call)) r
+-- ---- entries
 
-same_more : (e f : Entry) (es fs : List Entry) → lined e ≡ lined f → map lined es ≡ map lined fs → map lined (e ∷ es) ≡ map lined (f ∷ fs)
-same_more e f es fs first rest = ap (λ (t : LinedEntry). t ∷ map lined es) first ∙ ap (λ (l : List LinedEntry). lined f ∷ l) rest
+-- the first entry, and what stands behind it
+pub first_text : (n : ℕ) (e : Entry) (es : List Entry) (x : List ℕ) → texts n (e ∷ es) ++ x ≡ entry_text n e ++ (texts (suc n) es ++ x)
+first_text n e es x = append_assoc (entry_text n e) (texts (suc n) es) x
 
-both_read : (es fs : List Entry) (x y : List ℕ) → All CanTell es → All CanTell fs → IsUnfinished x → IsUnfinished y → flat_map entry_text es ++ x ≡ flat_map entry_text fs ++ y → (map lined es ≡ map lined fs) × (x ≡ y)
-both_read [] [] x y p q u v same = (refl, same)
-both_read [] (f ∷ fs) x y p q u v same = absurd (never x f fs y (All-head CanTell f fs q) same u)
-both_read (e ∷ es) [] x y p q u v same = absurd (never y e es x (All-head CanTell e es p) (sym same) v)
-both_read (e ∷ es) (f ∷ fs) x y p q u v same =
-    let ce = All-head CanTell e es p in
-    let cf = All-head CanTell f fs q in
-    let one = one_lined e.session f.session (told e.call) (told f.call) (its_line e ce).words (its_line f cf).words (flat_map entry_text es ++ x) (flat_map entry_text fs ++ y) ce.session cf.session ce.call cf.call (its_line e ce).none (its_line f cf).none
-    (sym (whole e es x ∙ entry_lines e ce (flat_map entry_text es ++ x)) ∙ same ∙ (whole f fs y ∙ entry_lines f cf (flat_map entry_text fs ++ y))) in
-    let more = both_read es fs x y (All-tail CanTell e es p) (All-tail CanTell f fs q) u v one.rest in
-    let reply : reply_of e ≡ reply_of f = (its_line e ce).are ∙ ap (λ (w : List ℕ). w ++ line_feed ∷ []) one.line ∙ sym (its_line f cf).are in
-    (same_more e f es fs (same_lined e f one.session one.call reply) more.0, more.1)
+pub one_entry_text : (n : ℕ) (e f : Entry) (x y : List ℕ) → CanTell e → CanTell f → entry_text n e ++ x ≡ entry_text n f ++ y → (entry_lines e ≡ entry_lines f) × (x ≡ y)
+one_entry_text n e f x y p q same = one_summed n (entry_lines e) (entry_lines f) x y (told_unmarked e p) (told_unmarked f q) same
+
+both_read : (n : ℕ) (es fs : List Entry) (x y : List ℕ) → All CanTell es → All CanTell fs → IsUnfinished x → IsUnfinished y → texts n es ++ x ≡ texts n fs ++ y → (map entry_lines es ≡ map entry_lines fs) × (x ≡ y)
+both_read n [] [] x y p q u v same = (refl, same)
+both_read n [] (f ∷ fs) x y p q u v same = absurd (never n (entry_lines f) (texts (suc n) fs ++ y) x (told_unmarked f (All-head CanTell f fs q)) (same ∙ first_text n f fs y) u)
+both_read n (e ∷ es) [] x y p q u v same = absurd (never n (entry_lines e) (texts (suc n) es ++ x) y (told_unmarked e (All-head CanTell e es p)) (sym same ∙ first_text n e es x) v)
+both_read n (e ∷ es) (f ∷ fs) x y p q u v same =
+    let one = one_entry_text n e f (texts (suc n) es ++ x) (texts (suc n) fs ++ y) (All-head CanTell e es p) (All-head CanTell f fs q) (sym (first_text n e es x) ∙ same ∙ first_text n f fs y) in
+    let rest = both_read (suc n) es fs x y (All-tail CanTell e es p) (All-tail CanTell f fs q) u v one.1 in
+    (ap (λ (t : List ℕ). t ∷ map entry_lines es) one.0 ∙ ap (λ (l : List (List ℕ)). entry_lines f ∷ l) rest.0, rest.1)
 
 pub one_reading : OneReading
-one_reading text es fs x y p q = both_read es fs x y p.each q.each p.unfinished q.unfinished (sym p.front ∙ q.front)
-
--- as many entries leave one rest
-pub same_count : (es fs : List Entry) (x y : List ℕ) → All CanTell es → All CanTell fs → length es ≡ length fs → flat_map entry_text es ++ x ≡ flat_map entry_text fs ++ y → x ≡ y
-same_count [] [] x y p q long same = same
-same_count [] (f ∷ fs) x y p q long same = absurd (omega (arith, long))
-same_count (e ∷ es) [] x y p q long same = absurd (omega (arith, long))
-same_count (e ∷ es) (f ∷ fs) x y p q long same =
-    let ce = All-head CanTell e es p in
-    let cf = All-head CanTell f fs q in
-    let one = one_lined e.session f.session (told e.call) (told f.call) (its_line e ce).words (its_line f cf).words (flat_map entry_text es ++ x) (flat_map entry_text fs ++ y) ce.session cf.session ce.call cf.call (its_line e ce).none (its_line f cf).none
-    (sym (whole e es x ∙ entry_lines e ce (flat_map entry_text es ++ x)) ∙ same ∙ (whole f fs y ∙ entry_lines f cf (flat_map entry_text fs ++ y))) in
-    same_count es fs x y (All-tail CanTell e es p) (All-tail CanTell f fs q) (omega (arith, long)) one.rest
-
--- a reply has a line
-pub some_line : (id : ℕ) (r : Reply) → CanBeReplied r → reply_text id r ≢ []
-some_line id r can none = let line = one_line id r can in omega (arith, ap length none, ap length line.are, length-append line.words (line_feed ∷ []))
+one_reading text es fs x y p q = both_read 0 es fs x y p.each q.each p.torn.0 q.torn.0 (sym p.front ∙ q.front)
 
 -- ---- each front
 
@@ -126,47 +107,50 @@ split (x ∷ a) b (y ∷ c) d same =
       | inr s ↦ inr (s.0, s.1, ap (λ (n : ℕ). n ∷ a) head ∙ ap (λ (l : List ℕ). y ∷ l) s.2)
     ]
 
--- nothing is unfinished
-pub empty : IsUnfinished []
-empty session call line rest fits say none is =
-    let long = ap length is in
-    omega (arith, long, length-append (number session space) (call_text call ++ (line ++ line_feed ∷ rest)), length-append (decimal session) (space ∷ []))
+-- nothing is torn
+empty : IsTorn []
+empty = ((λ body line rest none fed is. omega (arith, ap length is, length-append body (sum_mark ∷ (line ++ line_feed ∷ rest)))), All-nil IsLineByte)
 
 pub nil_left : (a b : List ℕ) → [] ≡ a ++ b → a ≡ []
 nil_left [] b e = refl
 nil_left (x ∷ a) b e = absurd cc
 
-none_whole : (es : List Entry) (front : List ℕ) → IsUnfinished front → BeginsFirst es front → IsCutOff es front
-none_whole es front unfinished begun = record {
+none_whole : (n : ℕ) (es : List Entry) (front : List ℕ) → IsTorn front → BeginsFirst (n + 0) es front → IsCutOff n es front
+none_whole n es front torn begun = record {
   whole = [];
   more = es;
   rest = front;
   are = refl;
-  read = record { front = refl; each = All-nil CanTell; unfinished = unfinished };
+  read = refl;
+  each = All-nil CanTell;
+  torn = torn;
   begun = begun;
 }
 
-one_whole : (e : Entry) (es : List Entry) (front m : List ℕ) → CanTell e → front ≡ entry_text e ++ m → IsCutOff es m → IsCutOff (e ∷ es) front
-one_whole e es front m can is c = record {
-  whole = e ∷ c.whole;
-  more = c.more;
-  rest = c.rest;
-  are = ap (λ (l : List Entry). e ∷ l) c.are;
-  read = record {
-    front = is ∙ ap (λ (l : List ℕ). entry_text e ++ l) c.read.front ∙ sym (whole e c.whole c.rest);
-    each = All-cons CanTell e c.whole can c.read.each;
-    unfinished = c.read.unfinished;
-  };
-  begun = c.begun;
-}
+one_whole : (n : ℕ) (e : Entry) (es : List Entry) (front m : List ℕ) → CanTell e → front ≡ entry_text n e ++ m → IsCutOff (suc n) es m → IsCutOff n (e ∷ es) front
+one_whole n e es front m can is c =
+    let count : suc n + length c.whole ≡ n + length (e ∷ c.whole) = omega arith in
+    record {
+      whole = e ∷ c.whole;
+      more = c.more;
+      rest = c.rest;
+      are = ap (λ (l : List Entry). e ∷ l) c.are;
+      read = is ∙ ap (λ (l : List ℕ). entry_text n e ++ l) c.read ∙ sym (first_text n e c.whole c.rest);
+      each = All-cons CanTell e c.whole can c.each;
+      torn = c.torn;
+      begun = subst (λ (k : ℕ). BeginsFirst k c.more c.rest) count c.begun;
+    }
+
+at_first : (n : ℕ) → n ≡ n + 0
+at_first n = omega arith
 
 pub each_front : EachFrontIsRead
-each_front [] front missing each same =
+each_front n [] front missing each same =
     let none : front ≡ [] = nil_left front missing same in
-    none_whole [] front (subst IsUnfinished (sym none) empty) none
-each_front (e ∷ es) front missing each same =
+    none_whole n [] front (subst IsTorn (sym none) empty) none
+each_front n (e ∷ es) front missing each same =
     let can = All-head CanTell e es each in
-    elim (split (entry_text e) (flat_map entry_text es) front missing same) [
-      | inl s ↦ one_whole e es front s.0 can s.1 (each_front es s.0 missing (All-tail CanTell e es each) s.2)
-      | inr s ↦ none_whole (e ∷ es) front (cut_entry e front s.0 can s.2 s.1) (s.0, s.1, s.2)
+    elim (split (entry_text n e) (texts (suc n) es) front missing same) [
+      | inl s ↦ one_whole n e es front s.0 can s.1 (each_front (suc n) es s.0 missing (All-tail CanTell e es each) s.2)
+      | inr s ↦ none_whole n (e ∷ es) front (torn_summed n (entry_lines e) front s.0 (told_unmarked e can) (told_lined e can) s.2 s.1) (subst (λ (k : ℕ). BeginsFirst k (e ∷ es) front) (at_first n) (s.0, s.1, s.2))
     ]

@@ -1,6 +1,7 @@
 -- The head is read in one way only.
-use Rattle.std.proofs.Common.{◌≡◌, ◌≢◌, ◌↔◌, ◌==◌, ℕ, ◌+◌, ◌<◌, ◌≤◌, Bool, true, false, IsTrue, Some, get_or, take, length-take-le, AllPairs, List, [], ◌∷◌, ◌++◌, length, All, codes, Result, Ok, Err, refl, sym, ap, ◌∙◌, append_assoc, append-nil, subst, arith}
+use Rattle.std.proofs.Common.{◌≡◌, ◌≢◌, ◌↔◌, ◌==◌, ℕ, ◌+◌, ◌-◌, ◌<◌, ◌≤◌, Bool, true, false, IsTrue, Some, get_or, take, length-take-le, AllPairs, List, [], ◌∷◌, ◌++◌, length, All, codes, Result, Ok, Err, refl, sym, ap, ◌∙◌, append_assoc, subst, arith}
 use Rattle.std.specs.Prelude.{IsOk, position}
+use Rattle.std.proofs.Math.Seq.{take-append_seam}
 use Rattle.std.specs.List.{flat_map}
 use Rattle.std.proofs.lemmas.Bool.{false≢true}
 use Rattle.std.proofs.lemmas.List.{append_cancel_left, get_or_append_left, get_or_at, length-append}
@@ -16,8 +17,9 @@ use Rattle.exchange_limits.specs.declared.limits.TheConstants.{MAX_SESSIONS}
 use Rattle.line_words.specs.HexWords.{IsWord, hex8, BeginsWithNoHex8}
 use Rattle.line_words.proofs.Numbers.{behind_word}
 use Rattle.book_record.proofs.CallTexts.{one_hex_front}
-use Rattle.book_record.specs.Heads.{AreClients, AreNames, BeginsWithNoClient, BeginsWithNoHead, BeginsWithNoNames, BeginsWithNoNumbers, BeginsWithNoRackLine, IsName, client_line, head_of, letter_x, rack_line}
-use Rattle.book_record.specs.FrontLaws.{OneHead, CutHeadIsNone}
+use Rattle.book_record.specs.Heads.{AreClients, AreNames, BeginsWithNoClient, BeginsWithNoHead, BeginsWithNoNames, BeginsWithNoNumbers, BeginsWithNoRackLine, IsName, client_line, head_lines, head_of, letter_x, rack_line}
+use Rattle.book_record.specs.FrontLaws.{IsSameHead, OneHead}
+use Rattle.book_record.specs.Sums.{sum_at, sum_line}
 use Rattle.book_record.proofs.Feeds.{first_line}
 use Rattle.book_record.proofs.OneReading.{line_at}
 
@@ -28,8 +30,8 @@ form : (r m k w h n x : List ℕ) → (r ++ (m ++ (k ++ (w ++ (h ++ space ∷ n)
 form r m k w h n x = simp append_assoc
 
 line_form : (e : Extent) (sum n : ℕ) (x : List ℕ)
-    → rack_line e sum n ++ x ≡ codes "record " ++ (number e.modules letter_x ++ (number e.blocks letter_x ++ (number e.words space ++ (hex8 sum ++ space ∷ (number n line_feed ++ x)))))
-line_form e sum n x = form (codes "record ") (number e.modules letter_x) (number e.blocks letter_x) (number e.words space) (hex8 sum) (number n line_feed) x
+    → rack_line e sum n ++ x ≡ codes "record-2 " ++ (number e.modules letter_x ++ (number e.blocks letter_x ++ (number e.words space ++ (hex8 sum ++ space ∷ (number n line_feed ++ x)))))
+line_form e sum n x = form (codes "record-2 ") (number e.modules letter_x) (number e.blocks letter_x) (number e.words space) (hex8 sum) (number n line_feed) x
 
 -- three numbers are those that were read
 pub record OneNumbers (a b c m k w : ℕ) (x y : List ℕ) : Type 0 where
@@ -55,35 +57,35 @@ no_words text after more a b read next none m k w rest fm fk fw same =
 
 -- ---- what isn't there
 
-pub no_front : (text : List ℕ) → ((x : List ℕ) → text ≢ codes "record " ++ x) → BeginsWithNoRackLine text
+pub no_front : (text : List ℕ) → ((x : List ℕ) → text ≢ codes "record-2 " ++ x) → BeginsWithNoRackLine text
 no_front text none e sum n rest is word fits same = none _ (same ∙ line_form e sum n rest)
 
-behind_front : (text rest : List ℕ) (e : Extent) (sum n : ℕ) (x : List ℕ) → text ≡ codes "record " ++ rest → text ≡ rack_line e sum n ++ x
+behind_front : (text rest : List ℕ) (e : Extent) (sum n : ℕ) (x : List ℕ) → text ≡ codes "record-2 " ++ rest → text ≡ rack_line e sum n ++ x
     → rest ≡ number e.modules letter_x ++ (number e.blocks letter_x ++ (number e.words space ++ (hex8 sum ++ space ∷ (number n line_feed ++ x))))
-behind_front text rest e sum n x is same = behind_word text (codes "record ") rest _ is (same ∙ line_form e sum n x)
+behind_front text rest e sum n x is same = behind_word text (codes "record-2 ") rest _ is (same ∙ line_form e sum n x)
 
-pub no_numbers : (text rest : List ℕ) → text ≡ codes "record " ++ rest → BeginsWithNoNumbers rest → BeginsWithNoRackLine text
+pub no_numbers : (text rest : List ℕ) → text ≡ codes "record-2 " ++ rest → BeginsWithNoNumbers rest → BeginsWithNoRackLine text
 no_numbers text rest is none e sum n x allowed word few same =
     let fits = of_shape e allowed in
     none e.modules e.blocks e.words _ fits.modules fits.blocks fits.words (behind_front text rest e sum n x is same)
 
 -- what stands behind the numbers of a line that is read
-behind_numbers : (text rest after : List ℕ) (a b c : ℕ) (e : Extent) (sum n : ℕ) (x : List ℕ) → text ≡ codes "record " ++ rest → IsNumber a × IsNumber b × IsNumber c → rest ≡ number a letter_x ++ (number b letter_x ++ (number c space ++ after))
+behind_numbers : (text rest after : List ℕ) (a b c : ℕ) (e : Extent) (sum n : ℕ) (x : List ℕ) → text ≡ codes "record-2 " ++ rest → IsNumber a × IsNumber b × IsNumber c → rest ≡ number a letter_x ++ (number b letter_x ++ (number c space ++ after))
     → IsShape e → text ≡ rack_line e sum n ++ x → OneNumbers a b c e.modules e.blocks e.words after (hex8 sum ++ space ∷ (number n line_feed ++ x))
 behind_numbers text rest after a b c e sum n x is read are allowed same =
     let fits = of_shape e allowed in
     one_numbers rest after (hex8 sum ++ space ∷ (number n line_feed ++ x)) a b c e.modules e.blocks e.words read fits.modules fits.blocks fits.words are (behind_front text rest e sum n x is same)
 
-pub no_sum : (text rest after : List ℕ) (a b c : ℕ) → text ≡ codes "record " ++ rest → IsNumber a × IsNumber b × IsNumber c → rest ≡ number a letter_x ++ (number b letter_x ++ (number c space ++ after)) → BeginsWithNoHex8 after space → BeginsWithNoRackLine text
+pub no_sum : (text rest after : List ℕ) (a b c : ℕ) → text ≡ codes "record-2 " ++ rest → IsNumber a × IsNumber b × IsNumber c → rest ≡ number a letter_x ++ (number b letter_x ++ (number c space ++ after)) → BeginsWithNoHex8 after space → BeginsWithNoRackLine text
 no_sum text rest after a b c is read are none e sum n x allowed word fits same =
     none sum (number n line_feed ++ x) word (behind_numbers text rest after a b c e sum n x is read are allowed same).rest
 
-pub no_count : (text rest after more : List ℕ) (a b c s : ℕ) → text ≡ codes "record " ++ rest → IsNumber a × IsNumber b × IsNumber c → rest ≡ number a letter_x ++ (number b letter_x ++ (number c space ++ after)) → IsWord s × (after ≡ hex8 s ++ space ∷ more)
+pub no_count : (text rest after more : List ℕ) (a b c s : ℕ) → text ≡ codes "record-2 " ++ rest → IsNumber a × IsNumber b × IsNumber c → rest ≡ number a letter_x ++ (number b letter_x ++ (number c space ++ after)) → IsWord s × (after ≡ hex8 s ++ space ∷ more)
     → ((n : ℕ) (y : List ℕ) → IsNumber n → more ≢ number n line_feed ++ y) → BeginsWithNoRackLine text
 no_count text rest after more a b c s is read are sum none e other n x allowed word fits same =
     none n x fits (one_hex_front s other space more (number n line_feed ++ x) sum.0 word (sym sum.1 ∙ (behind_numbers text rest after a b c e other n x is read are allowed same).rest)).1
 
-pub no_shape : (text rest after : List ℕ) (a b c : ℕ) → text ≡ codes "record " ++ rest → IsNumber a × IsNumber b × IsNumber c → rest ≡ number a letter_x ++ (number b letter_x ++ (number c space ++ after)) → (IsShape (extent a b c) → ⊥) → BeginsWithNoRackLine text
+pub no_shape : (text rest after : List ℕ) (a b c : ℕ) → text ≡ codes "record-2 " ++ rest → IsNumber a × IsNumber b × IsNumber c → rest ≡ number a letter_x ++ (number b letter_x ++ (number c space ++ after)) → (IsShape (extent a b c) → ⊥) → BeginsWithNoRackLine text
 no_shape text rest after a b c is read are bad e sum n x allowed word fits same =
     let one = behind_numbers text rest after a b c e sum n x is read are allowed same in
     bad (subst (λ (k : ℕ). IsShape (extent a b k)) (sym one.third) (subst (λ (k : ℕ). IsShape (extent a k e.words)) (sym one.second) (subst (λ (k : ℕ). IsShape (extent k e.blocks e.words)) (sym one.first) allowed)))
@@ -277,34 +279,58 @@ names_all text rest k n read same few = (read.names, (record { count = read.coun
 
 -- ---- one head
 
+head_form : (e : Extent) (s : ℕ) (names : List (List ℕ)) (x : List ℕ) → head_of e s names ++ x ≡ rack_line e s (length names) ++ (flat_map client_line names ++ (sum_line (sum_at 0 (head_lines e s names)) ++ x))
+head_form e s names x =
+    let sum = sum_line (sum_at 0 (head_lines e s names)) in
+    append_assoc (head_lines e s names) sum x ∙ append_assoc (rack_line e s (length names)) (flat_map client_line names) (sum ++ x)
+
+-- after the names of a head stands its sum
+one_front : (e f : Extent) (s t : ℕ) (ns ms : List (List ℕ)) (rest y : List ℕ) → IsShape e → IsShape f → IsWord s → IsWord t → AreNames ns (length ns) → AreNames ms (length ms)
+    → rack_line e s (length ns) ++ (flat_map client_line ns ++ rest) ≡ head_of f t ms ++ y → IsSameHead e f s t ns ms rest (sum_line (sum_at 0 (head_lines e s ns)) ++ y)
+one_front e f s t ns ms rest y p q ws wt names others same =
+    let line = one_rack_line e f s t (length ns) (length ms) _ _ p q ws wt (few_number (length ns) names.few) (few_number (length ms) others.few) (same ∙ head_form f t ms y) in
+    let more = one_names ns ms _ _ line.count names.each others.each line.rest in
+    let lines : head_lines f t ms ≡ head_lines e s ns =
+    ap (λ (l : List (List ℕ)). head_lines f t l) (sym more.0) ∙ ap (λ (k : ℕ). head_lines f k ns) (sym line.sum) ∙ ap (λ (g : Extent). head_lines g s ns) (sym line.shape) in
+    record { shape = line.shape; sum = line.sum; names = more.0; rest = more.1 ∙ ap (λ (l : List ℕ). sum_line (sum_at 0 l) ++ y) lines }
+
 pub one_head : OneHead
 one_head e f s t ns ms x y p q ws wt names others same =
-    let n = names.count in
-    let m = others.count in
-    let line = one_rack_line e f s t (length ns) (length ms) (flat_map client_line ns ++ x) (flat_map client_line ms ++ y) p q ws wt (few_number (length ns) names.few) (few_number (length ms) others.few)
-    (sym (append_assoc (rack_line e s (length ns)) (flat_map client_line ns) x) ∙ same ∙ append_assoc (rack_line f t (length ms)) (flat_map client_line ms) y) in
-    let more = one_names ns ms x y line.count names.each others.each line.rest in
-    record { shape = line.shape; sum = line.sum; names = more.0; rest = more.1 }
-
-nothing_left : (a b : List ℕ) → [] ≡ a ++ b → b ≡ []
-nothing_left [] b e = sym e
-nothing_left (x ∷ a) b e = absurd cc
-
-pub cut_head : CutHeadIsNone
-cut_head e s names front missing p ws are same some f t n others rest q wt fit is =
-    let one = one_head e f s t names others [] (rest ++ missing) p q ws wt are (subst (AreNames others) (sym fit.count) fit)
-    (append-nil (head_of e s names) ∙ same ∙ ap (λ (l : List ℕ). l ++ missing) is ∙ append_assoc (head_of f t others) rest missing) in
-    some (nothing_left rest missing one.rest)
+    let sum = sum_line (sum_at 0 (head_lines e s ns)) in
+    let one = one_front e f s t ns ms (sum ++ x) y p q ws wt names others (sym (head_form e s ns x) ∙ same) in
+    record { shape = one.shape; sum = one.sum; names = one.names; rest = append_cancel_left sum x y one.rest }
 
 -- no head where the first line is there, and not the names
 pub no_names : (text after : List ℕ) (e : Extent) (sum n : ℕ) → IsShape e → IsWord sum → IsNumber n → text ≡ rack_line e sum n ++ after → BeginsWithNoNames after n → BeginsWithNoHead text
 no_names text after e sum n p ws fits is none f other m names rest q wt are same =
-    let line = one_rack_line e f sum other n (length names) after (flat_map client_line names ++ rest) p q ws wt fits (few_number (length names) (subst (λ (k : ℕ). k ≤ MAX_SESSIONS) (sym are.count) are.few))
-    (sym is ∙ same ∙ append_assoc (rack_line f other (length names)) (flat_map client_line names) rest) in
-    none names rest (subst (AreNames names) (sym (line.count ∙ are.count)) are) line.rest
+    let line = one_rack_line e f sum other n (length names) after _ p q ws wt fits (few_number (length names) (subst (λ (k : ℕ). k ≤ MAX_SESSIONS) (sym are.count) are.few)) (sym is ∙ same ∙ head_form f other names rest) in
+    none names _ (subst (AreNames names) (sym (line.count ∙ are.count)) are) line.rest
 
--- the whole head
-pub head_read : (text after rest : List ℕ) (e : Extent) (sum n : ℕ) (names : List (List ℕ)) → text ≡ rack_line e sum n ++ after → AreNames names n → after ≡ flat_map client_line names ++ rest → text ≡ head_of e sum names ++ rest
+-- what was read of a head, but for its sum
+pub record HeadRead (text : List ℕ) (e : Extent) (sum n : ℕ) (after : List ℕ) : Type 0 where
+  pub names : List (List ℕ)
+  pub are : AreNames names n
+  pub is : text ≡ rack_line e sum (length names) ++ (flat_map client_line names ++ after)
+  pub lines : take (length text - length after) text ≡ head_lines e sum names
+
+front_of : (text a b : List ℕ) → text ≡ a ++ b → take (length text - length b) text ≡ a
+front_of text a b is =
+    let count : length text - length b ≡ length a = let e = ap length is ∙ length-append a b in omega (arith, e) in
+    ap (λ (k : ℕ). take k text) count ∙ ap (take (length a)) is ∙ take-append_seam a b
+
+pub head_read : (text after rest : List ℕ) (e : Extent) (sum n : ℕ) (names : List (List ℕ)) → text ≡ rack_line e sum n ++ rest → AreNames names n → rest ≡ flat_map client_line names ++ after → HeadRead text e sum n after
 head_read text after rest e sum n names is are follow =
-    is ∙ ap (λ (l : List ℕ). rack_line e sum n ++ l) follow ∙ ap (λ (k : ℕ). rack_line e sum k ++ (flat_map client_line names ++ rest)) (sym are.count)
-    ∙ sym (append_assoc (rack_line e sum (length names)) (flat_map client_line names) rest)
+    let whole : text ≡ rack_line e sum (length names) ++ (flat_map client_line names ++ after) =
+    is ∙ ap (λ (l : List ℕ). rack_line e sum n ++ l) follow ∙ ap (λ (k : ℕ). rack_line e sum k ++ (flat_map client_line names ++ after)) (sym are.count) in
+    record { names = names; are = are; is = whole; lines = front_of text (head_lines e sum names) after (whole ∙ sym (append_assoc (rack_line e sum (length names)) (flat_map client_line names) after)) }
+
+-- its sum too
+pub head_summed : (text after rest : List ℕ) (e : Extent) (sum n : ℕ) → (read : HeadRead text e sum n after) → after ≡ sum_line (sum_at 0 (take (length text - length after) text)) ++ rest → text ≡ head_of e sum read.names ++ rest
+head_summed text after rest e sum n read follow =
+    read.is ∙ ap (λ (l : List ℕ). rack_line e sum (length read.names) ++ (flat_map client_line read.names ++ l)) (follow ∙ ap (λ (l : List ℕ). sum_line (sum_at 0 l) ++ rest) read.lines) ∙ sym (head_form e sum read.names rest)
+
+-- no head where another line follows
+pub no_summed : (text after : List ℕ) (e : Extent) (sum n : ℕ) → IsShape e → IsWord sum → HeadRead text e sum n after → ((x : List ℕ) → after ≢ sum_line (sum_at 0 (take (length text - length after) text)) ++ x) → BeginsWithNoHead text
+no_summed text after e sum n p ws read none f other m names rest q wt are same =
+    let one = one_front e f sum other read.names names after rest p q ws wt (counted read.names n read.are) (counted names m are) (sym read.is ∙ same) in
+    none rest (one.rest ∙ ap (λ (l : List ℕ). sum_line (sum_at 0 l) ++ rest) (sym read.lines))

@@ -1,9 +1,5 @@
 -- Two records of one text.
-use Rattle.std.proofs.Common.{◌≡◌, ℕ, ◌*◌, ◌≤◌, List, [], ◌∷◌, ◌++◌, length, map, All, refl, sym, ap, ◌∙◌, append_assoc, append-nil, subst, arith, inl, inr}
-use Rattle.std.specs.List.{flat_map}
-use Rattle.std.specs.Fmt.{decimal}
-use Rattle.std.proofs.lemmas.Bool.{cases_lt}
-use Rattle.std.proofs.lemmas.List.{append_cancel_left, length-append}
+use Rattle.std.proofs.Common.{◌≡◌, ℕ, suc, ◌+◌, ◌*◌, ◌≤◌, List, [], ◌∷◌, ◌++◌, length, map, All, refl, sym, ap, ◌∙◌, append_assoc, subst, arith}
 use Rattle.std.proofs.lemmas.List.Elements.{All-head, All-tail}
 use Rattle.batch.specs.Extent.{Extent, IsShape}
 use Rattle.batch.specs.Text.{number, space}
@@ -16,12 +12,12 @@ use Rattle.batch_book.proofs.OwnPlans.{plans_stay}
 use Rattle.batch_book.proofs.Steps.{small_step}
 use Rattle.batch_book.specs.Told.{PlanlessCall}
 use Rattle.batch_book.specs.Told.{told}
-use Rattle.book_record.specs.RecordText.{id_of, call_text, reply_text, entry_text, CanTell}
+use Rattle.book_record.specs.RecordText.{id_of, call_text, reply_text, entry_text, texts, CanTell}
 use Rattle.book_record.specs.Untold.{ToldEntry, told_entry}
-use Rattle.book_record.specs.Laws.{OneRecord}
 use Rattle.book_record.proofs.Alike.{um, Alike}
 use Rattle.book_record.proofs.OneTold.{one_told}
 use Rattle.book_record.proofs.CallTexts.{one_behind, one_call}
+use Rattle.book_record.proofs.Fronts.{one_entry_text}
 
 -- what holds of each machine that a history leads to
 pub record IsFit (m : Machine) : Type 0 where
@@ -44,12 +40,6 @@ pub fit_at_first : (s : Store) → HasAllBlocks s → IsFit (opened s)
 fit_at_first s all = record { blocks = all; plans = λ k d below. absurd (omega arith) }
 
 -- ---- one entry
-
-entry_form : (n c r x : List ℕ) → (n ++ (c ++ r)) ++ x ≡ n ++ (c ++ (r ++ x))
-entry_form n c r x = simp append_assoc
-
-pub entry_parts : (e : Entry) (x : List ℕ) → entry_text e ++ x ≡ number e.session space ++ (call_text (told e.call) ++ (reply_text (id_of (told e.call)) e.reply ++ x))
-entry_parts e x = entry_form (number e.session space) (call_text (told e.call)) (reply_text (id_of (told e.call)) e.reply) x
 
 pub record OneEntry (e f : Entry) (k l : Machine) (x y : List ℕ) : Type 0 where
   pub same : told_entry e ≡ told_entry f
@@ -76,24 +66,27 @@ one_asked m n e f k l x y alike fm fn p q step other same =
 abbrev pub due_of : ToldEntry → List ℕ
 due_of t = reply_text (id_of t.call) t.reply
 
--- an entry's lines, and what stands behind them
-pub one_entry : (m n : Machine) (e f : Entry) (k l : Machine) (x y : List ℕ) → Alike m n → IsFit m → IsFit n → CanTell e → CanTell f
-    → IsMachineStep m e.session e.call e.reply k → IsMachineStep n f.session f.call f.reply l → entry_text e ++ x ≡ entry_text f ++ y → OneEntry e f k l x y
-one_entry m n e f k l x y alike fm fn p q step other same =
-    let one = one_asked m n e f k l _ _ alike fm fn p q step other (sym (entry_parts e x) ∙ same ∙ entry_parts f y) in
-    record {
-      same = one.same;
-      alike = one.alike;
-      rest = append_cancel_left (due_of (told_entry f)) x y (ap (λ (t : ToldEntry). due_of t ++ x) (sym one.same) ∙ one.rest);
-    }
+-- an entry's text, and what stands behind it
+one_entry : (i : ℕ) (m n : Machine) (e f : Entry) (k l : Machine) (x y : List ℕ) → Alike m n → IsFit m → IsFit n → CanTell e → CanTell f
+    → IsMachineStep m e.session e.call e.reply k → IsMachineStep n f.session f.call f.reply l → entry_text i e ++ x ≡ entry_text i f ++ y → OneEntry e f k l x y
+one_entry i m n e f k l x y alike fm fn p q step other same =
+    let both = one_entry_text i e f x y p q same in
+    let one = one_asked m n e f k l _ _ alike fm fn p q step other both.0 in
+    record { same = one.same; alike = one.alike; rest = both.1 }
 
 -- ---- entries
 
 same_more : (e f : Entry) (es fs : List Entry) → told_entry e ≡ told_entry f → map told_entry es ≡ map told_entry fs → map told_entry (e ∷ es) ≡ map told_entry (f ∷ fs)
 same_more e f es fs first rest = ap (λ (t : ToldEntry). t ∷ map told_entry es) first ∙ ap (λ (l : List ToldEntry). told_entry f ∷ l) rest
 
+at_first : (i : ℕ) → i ≡ i + 0
+at_first i = omega arith
+
+one_behind_it : (i : ℕ) (es : List Entry) → suc i + length es ≡ i + suc (length es)
+one_behind_it i es = omega arith
+
 -- the one list of more entries goes on from the other, from machines that are alike
-pub record GoesOn (n : Machine) (es fs : List Entry) (x y : List ℕ) (a b : Machine) : Type 0 where
+pub record GoesOn (i : ℕ) (n : Machine) (es fs : List Entry) (x y : List ℕ) (a b : Machine) : Type 0 where
   pub front : List Entry
   pub more : List Entry
   pub list : fs ≡ front ++ more
@@ -104,16 +97,16 @@ pub record GoesOn (n : Machine) (es fs : List Entry) (x y : List ℕ) (a b : Mac
   pub fit : IsFit mid
   pub replay : IsReplay mid more b
   pub each : All CanTell more
-  pub rest : x ≡ flat_map entry_text more ++ y
+  pub rest : x ≡ texts (i + length es) more ++ y
 
-pub goes_on : (m n : Machine) (es fs : List Entry) (x y : List ℕ) (a b : Machine) → Alike m n → IsFit m → IsFit n → All CanTell es → All CanTell fs → IsReplay m es a → IsReplay n fs b
-    → length es ≤ length fs → flat_map entry_text es ++ x ≡ flat_map entry_text fs ++ y → GoesOn n es fs x y a b
-goes_on m n [] fs x y a b alike fm fn p q led too few same = record { front = []; more = fs; list = refl; counted = refl; same = refl; mid = n; alike = ap um led ∙ alike; fit = fn; replay = too; each = q; rest = same }
-goes_on m n (e ∷ es) [] x y a b alike fm fn p q led too few same = absurd (omega (arith, few))
-goes_on m n (e ∷ es) (f ∷ fs) x y a b alike fm fn p q led too few same =
-    let one = one_entry m n e f led.0 too.0 (flat_map entry_text es ++ x) (flat_map entry_text fs ++ y) alike fm fn (All-head CanTell e es p) (All-head CanTell f fs q) led.1 too.1
-    (sym (append_assoc (entry_text e) (flat_map entry_text es) x) ∙ same ∙ append_assoc (entry_text f) (flat_map entry_text fs) y) in
-    let go = goes_on led.0 too.0 es fs x y a b one.alike (fit_after m led.0 e fm led.1) (fit_after n too.0 f fn too.1) (All-tail CanTell e es p) (All-tail CanTell f fs q) led.2 too.2 (omega (arith, few)) one.rest in
+pub goes_on : (i : ℕ) (m n : Machine) (es fs : List Entry) (x y : List ℕ) (a b : Machine) → Alike m n → IsFit m → IsFit n → All CanTell es → All CanTell fs → IsReplay m es a → IsReplay n fs b
+    → length es ≤ length fs → texts i es ++ x ≡ texts i fs ++ y → GoesOn i n es fs x y a b
+goes_on i m n [] fs x y a b alike fm fn p q led too few same = record { front = []; more = fs; list = refl; counted = refl; same = refl; mid = n; alike = ap um led ∙ alike; fit = fn; replay = too; each = q; rest = same ∙ ap (λ (k : ℕ). texts k fs ++ y) (at_first i) }
+goes_on i m n (e ∷ es) [] x y a b alike fm fn p q led too few same = absurd (omega (arith, few))
+goes_on i m n (e ∷ es) (f ∷ fs) x y a b alike fm fn p q led too few same =
+    let one = one_entry i m n e f led.0 too.0 (texts (suc i) es ++ x) (texts (suc i) fs ++ y) alike fm fn (All-head CanTell e es p) (All-head CanTell f fs q) led.1 too.1
+    (sym (append_assoc (entry_text i e) (texts (suc i) es) x) ∙ same ∙ append_assoc (entry_text i f) (texts (suc i) fs) y) in
+    let go = goes_on (suc i) led.0 too.0 es fs x y a b one.alike (fit_after m led.0 e fm led.1) (fit_after n too.0 f fn too.1) (All-tail CanTell e es p) (All-tail CanTell f fs q) led.2 too.2 (omega (arith, few)) one.rest in
     record {
       front = f ∷ go.front;
       more = go.more;
@@ -125,33 +118,5 @@ goes_on m n (e ∷ es) (f ∷ fs) x y a b alike fm fn p q led too few same =
       fit = go.fit;
       replay = go.replay;
       each = go.each;
-      rest = go.rest;
+      rest = go.rest ∙ ap (λ (k : ℕ). texts k go.more ++ y) (one_behind_it i es);
     }
-
--- entries without a text are none
-pub none_told : (es : List Entry) (y : List ℕ) → [] ≡ flat_map entry_text es ++ y → es ≡ []
-none_told [] y is = refl
-none_told (e ∷ es) y is =
-    let text = ap length (is ∙ append_assoc (entry_text e) (flat_map entry_text es) y ∙ entry_parts e (flat_map entry_text es ++ y)) in
-    absurd (omega (arith, text, length-append (number e.session space) (call_text (told e.call) ++ (reply_text (id_of (told e.call)) e.reply ++ (flat_map entry_text es ++ y))), length-append (decimal e.session) (space ∷ [])))
-
--- where the one has as many entries as the other, or more
-one_record_by : (opening : Store) (es fs : List Entry) (a b : Machine) → HasAllBlocks opening → All CanTell es → All CanTell fs → IsReplay (opened opening) es a → IsReplay (opened opening) fs b
-    → length es ≤ length fs → flat_map entry_text es ≡ flat_map entry_text fs → (map told_entry es ≡ map told_entry fs) × (a.store ≡ b.store)
-one_record_by opening es fs a b all p q led too few same =
-    let fit = fit_at_first opening all in
-    let go = goes_on (opened opening) (opened opening) es fs [] [] a b refl fit fit p q led too few (append-nil _ ∙ same ∙ sym (append-nil _)) in
-    let none : go.more ≡ [] = none_told go.more [] go.rest in
-    let whole : go.front ≡ fs = sym (append-nil go.front) ∙ ap (λ (l : List Entry). go.front ++ l) (sym none) ∙ sym go.list in
-    let end : b ≡ go.mid = subst (λ (l : List Entry). IsReplay go.mid l b) none go.replay in
-    (go.same ∙ ap (map told_entry) whole, ap (λ (m : Machine). m.store) go.alike ∙ ap (λ (m : Machine). m.store) (sym end))
-
-pub one_record : OneRecord
-one_record opening text es fs a b all p q led too =
-    let same = sym p.spelled ∙ q.spelled in
-    elim (cases_lt (length fs) (length es)) [
-      | inl less ↦
-          let other = one_record_by opening fs es b a all q.each p.each too led (omega (arith, less)) (sym same) in
-          (sym other.0, sym other.1)
-      | inr up ↦ one_record_by opening es fs a b all p.each q.each led too up same
-    ]

@@ -16,28 +16,27 @@ use Rattle.batch_book.specs.declared.reply.Reply.TheVariants.{Accepted, Fetched,
 use Rattle.line_words.specs.HexWords.{hex8}
 use Rattle.refusals.specs.Refusals.{refusal_words, refusal_line, two_numbers}
 use Rattle.refusals.specs.declared.refusal.Refusal.{Refusal}
-use Rattle.client_session.specs.Bytes.{HasNoFeed}
 use Rattle.client_session.specs.Replies.{state_words, ran_words, with_feed}
 use Rattle.client_session.specs.Sources.{of_book, of_run}
 use Rattle.book_record.specs.RecordText.{reply_text, CanBeReplied}
-use Rattle.book_record.proofs.Feeds.{feedless, no_feed, decimal_line, hex8_line, both, numbered, worded}
+use Rattle.book_record.proofs.Feeds.{IsPlain, feedless, no_feed, decimal_line, hex8_line, both, numbered, worded}
 
 pub record IsOneLine (text : List ℕ) : Type 0 where
   pub words : List ℕ
-  pub none : HasNoFeed words
+  pub plain : IsPlain words
   pub are : text ≡ words ++ line_feed ∷ []
 
-fed : (w : List ℕ) → HasNoFeed w → IsOneLine (with_feed w)
-fed w none = record { words = w; none = none; are = refl }
+fed : (w : List ℕ) → IsPlain w → IsOneLine (with_feed w)
+fed w none = record { words = w; plain = none; are = refl }
 
-refused : (r : Refusal) → HasNoFeed (refusal_words r) → IsOneLine (refusal_line r)
+refused : (r : Refusal) → IsPlain (refusal_words r) → IsOneLine (refusal_line r)
 refused r none = record {
   words = codes "refused " ++ refusal_words r;
-  none = both (codes "refused ") (refusal_words r) (no_feed (codes "refused ") refl) none;
+  plain = both (codes "refused ") (refusal_words r) (no_feed (codes "refused ") refl) none;
   are = sym (append_assoc (codes "refused ") (refusal_words r) (line_feed ∷ []));
 }
 
-of_state : (s : BatchState) → HasNoFeed (state_words s)
+of_state : (s : BatchState) → IsPlain (state_words s)
 of_state state.Waiting = no_feed (codes "waiting") refl
 of_state state.Planned = no_feed (codes "planned") refl
 of_state state.Ran = no_feed (codes "ran") refl
@@ -65,10 +64,10 @@ of_run_refusal run.Shape = refused (of_run run.Shape) (no_feed (codes "shape") r
 of_run_refusal run.NoMemory = refused (of_run run.NoMemory) (no_feed (codes "no memory") refl)
 
 -- words, and a number behind them
-then : (a w : List ℕ) (n : ℕ) → feedless w ≡ true → HasNoFeed a → HasNoFeed (a ++ w ++ decimal n)
+then : (a w : List ℕ) (n : ℕ) → feedless w ≡ true → IsPlain a → IsPlain (a ++ w ++ decimal n)
 then a w n e none = both (a ++ w) (decimal n) (worded a w none e) (decimal_line n)
 
-ran_line : (id r settings words : ℕ) → HasNoFeed (ran_words id r settings words)
+ran_line : (id r settings words : ℕ) → IsPlain (ran_words id r settings words)
 ran_line id r settings words =
     let a = codes "ran " ++ decimal id in
     let b = a ++ codes " run " ++ decimal r in
@@ -76,10 +75,10 @@ ran_line id r settings words =
     let d = c ++ codes " words " ++ decimal words in
     then d (codes " bits ") (bits_of words) refl (then c (codes " words ") words refl (then b (codes " settings ") settings refl (then a (codes " run ") r refl (numbered (codes "ran ") id refl))))
 
-settled_line : (id settings : ℕ) → HasNoFeed (codes "planned " ++ decimal id ++ codes " settings " ++ decimal settings)
+settled_line : (id settings : ℕ) → IsPlain (codes "planned " ++ decimal id ++ codes " settings " ++ decimal settings)
 settled_line id settings = then (codes "planned " ++ decimal id) (codes " settings ") settings refl (numbered (codes "planned ") id refl)
 
-shown_line : (id transfers : ℕ) (s : BatchState) → HasNoFeed (codes "batch " ++ decimal id ++ codes " transfers " ++ decimal transfers ++ codes " " ++ state_words s)
+shown_line : (id transfers : ℕ) (s : BatchState) → IsPlain (codes "batch " ++ decimal id ++ codes " transfers " ++ decimal transfers ++ codes " " ++ state_words s)
 shown_line id transfers s =
     let a = codes "batch " ++ decimal id in
     let b = a ++ codes " transfers " ++ decimal transfers in

@@ -1,9 +1,7 @@
 -- Entries that wait, and such as are written.
-use Rattle.std.proofs.Common.{◌≡◌, ℕ, ◌≤◌, ◌+◌, Bool, true, false, List, [], ◌∷◌, ◌++◌, length, take, drop, Option, refl, sym, ap, ◌∙◌, subst, append_assoc, append-nil, true≢false, arith}
-use Rattle.std.specs.List.{flat_map}
+use Rattle.std.proofs.Common.{◌≡◌, ℕ, suc, ◌≤◌, ◌+◌, ◌%◌, ◌<◌, Bool, true, false, List, [], ◌∷◌, ◌++◌, length, take, drop, get_or, length-take-le, Option, refl, sym, ap, ◌∙◌, subst, append_assoc, append-nil, true≢false, arith}
 use Rattle.std.specs.Io.KnownBytes.{Appends}
-use Rattle.std.proofs.lemmas.Grind.{flat_map-append}
-use Rattle.std.proofs.lemmas.List.{take-append-drop, drop-append-le, length-take, length-append, take_all}
+use Rattle.std.proofs.lemmas.List.{take-append-drop, drop-append-le, length-take, length-append, take_all, take_more}
 use Rattle.std.proofs.Math.Seq.{take-append_seam, drop-append_seam}
 use Rattle.byte_streams.specs.Writing.{IsCutShort}
 use Rattle.byte_streams.proofs.Carrying.{appends_none, appends_then}
@@ -14,11 +12,34 @@ use Rattle.batch_book.specs.declared.reply.Reply.{Reply}
 use Rattle.batch_book.specs.History.{Starts, entry}
 use Rattle.batch_book.specs.Told.{told}
 use Rattle.batch_book.proofs.Fronts.{front, starts, starts_same, starts_then}
-use Rattle.book_record.specs.RecordText.{id_of, call_text, reply_text, entry_text}
+use Rattle.book_record.specs.RecordText.{id_of, call_text, reply_text, entry_lines, entry_text, texts}
+use Rattle.book_record.specs.Sums.{sum_at, numbered, sum_line}
 use Rattle.book_record.specs.Streams.{IsWritten, StandsAtWriter, text_behind}
+use Rattle.book_record.proofs.Sums.{sum_wraps}
 
-abbrev text_of : List Entry → List ℕ
-text_of es = flat_map entry_text es
+-- entries behind others
+pub texts_append : (n : ℕ) (a b : List Entry) → texts n (a ++ b) ≡ texts n a ++ texts (n + length a) b
+texts_append n [] b = let e : n ≡ n + 0 = omega arith in ap (λ (k : ℕ). texts k b) e
+texts_append n (e ∷ a) b =
+    let count : suc n + length a ≡ n + length (e ∷ a) = omega arith in
+    ap (λ (l : List ℕ). entry_text n e ++ l) (texts_append (suc n) a b ∙ ap (λ (k : ℕ). texts (suc n) a ++ texts k b) count) ∙ sym (append_assoc (entry_text n e) (texts (suc n) a) (texts (n + length (e ∷ a)) b))
+
+pub texts_both : (a b : List Entry) → texts 0 (a ++ b) ≡ texts 0 a ++ texts (length a) b
+texts_both a b = let e : 0 + length a ≡ length a = omega arith in texts_append 0 a b ∙ ap (λ (k : ℕ). texts 0 a ++ texts k b) e
+
+-- one more
+pub texts_more : (all : List Entry) (k : ℕ) (e : Entry) → e ≡ get_or all k e → k < length all → texts 0 (take k all) ++ entry_text k e ≡ texts 0 (take (k + 1) all)
+texts_more all k e is less =
+    let count : 0 + length (take k all) ≡ k = omega (arith, length-take-le k all (omega (arith, less))) in
+    let last : texts (0 + length (take k all)) (e ∷ []) ≡ entry_text k e = ap (λ (i : ℕ). texts i (e ∷ [])) count ∙ append-nil (entry_text k e) in
+    ap (λ (l : List ℕ). texts 0 (take k all) ++ l) (sym last) ∙ sym (texts_append 0 (take k all) (e ∷ [])) ∙ ap (λ (x : Entry). texts 0 (take k all ++ x ∷ [])) is ∙ ap (texts 0) (sym (take_more all k e less))
+
+-- behind those that are the first of others
+count_of : (xs ys zs : List Entry) → zs ≡ xs ++ ys → length xs + length ys ≡ length zs
+count_of xs ys zs is = omega (arith, ap length is, length-append xs ys)
+
+behind_are : (taken more all : List Entry) → all ≡ taken ++ more → text_behind taken all ≡ texts (length taken) more
+behind_are taken more all is = ap (texts (length taken)) (ap (drop (length taken)) is ∙ drop-append_seam taken more)
 
 -- ---- what waits
 
@@ -33,12 +54,14 @@ none_behind [] = refl
 none_behind (x ∷ xs) = none_behind xs
 
 pub behind_none : (taken all : List Entry) → taken ≡ all → text_behind taken all ≡ []
-behind_none taken all is = ap (λ (l : List Entry). text_of (drop (length l) all)) is ∙ ap text_of (none_behind all)
+behind_none taken all is = ap (λ (l : List Entry). texts (length l) (drop (length l) all)) is ∙ ap (texts (length all)) (none_behind all)
 
-behind_more : (taken all : List Entry) (e : Entry) → Starts taken all → text_behind taken (all ++ e ∷ []) ≡ text_behind taken all ++ entry_text e
+behind_more : (taken all : List Entry) (e : Entry) → Starts taken all → text_behind taken (all ++ e ∷ []) ≡ text_behind taken all ++ entry_text (length all) e
 behind_more taken all e first =
-    ap text_of (drop-append-le (length taken) all (e ∷ []) (starts_le taken all first)) ∙ flat_map-append entry_text (drop (length taken) all) (e ∷ [])
-    ∙ ap (λ (l : List ℕ). text_behind taken all ++ l) (append-nil (entry_text e))
+    let rest = drop (length taken) all in
+    ap (texts (length taken)) (drop-append-le (length taken) all (e ∷ []) (starts_le taken all first)) ∙ texts_append (length taken) rest (e ∷ [])
+    ∙ ap (λ (k : ℕ). text_behind taken all ++ texts k (e ∷ [])) (count_of taken rest all (split_at taken all first))
+    ∙ ap (λ (l : List ℕ). text_behind taken all ++ l) (append-nil (entry_text (length all) e))
 
 -- what is known of the entries that wait, and of their text
 abbrev pub IsText : (handed all : List Entry) → List ℕ → Type 0
@@ -48,10 +71,10 @@ pub none_wait : (handed all : List Entry) (buffer : List ℕ) → handed ≡ all
 none_wait handed all buffer is empty = (starts_same handed all is, empty ∙ sym (behind_none handed all is))
 
 -- one entry more
-pub one_more : (handed all : List Entry) (e : Entry) (more : List Entry) (buffer longer : List ℕ) → IsText handed all buffer → more ≡ all ++ e ∷ [] → longer ≡ buffer ++ entry_text e → IsText handed more longer
+pub one_more : (handed all : List Entry) (e : Entry) (more : List Entry) (buffer longer : List ℕ) → IsText handed all buffer → more ≡ all ++ e ∷ [] → longer ≡ buffer ++ entry_text (length all) e → IsText handed more longer
 one_more handed all e more buffer longer b grown put = (
   subst (Starts handed) (sym grown) (starts_then handed all (all ++ e ∷ []) b.0 (starts all (all ++ e ∷ []) (e ∷ []) refl)),
-  put ∙ ap (λ (l : List ℕ). l ++ entry_text e) b.1 ∙ sym (behind_more handed all e b.0) ∙ ap (text_behind handed) (sym grown),
+  put ∙ ap (λ (l : List ℕ). l ++ entry_text (length all) e) b.1 ∙ sym (behind_more handed all e b.0) ∙ ap (text_behind handed) (sym grown),
 )
 
 -- what is known of them, and of a buffer whose first bytes are their text
@@ -79,9 +102,9 @@ still_held handed all count bytes begun more now b is grown =
 
 -- one entry more, whose text stood behind theirs but for its last line
 pub more_held : (handed all : List Entry) (e : Entry) (more : List Entry) (count now : ℕ) (bytes line longer : List ℕ)
-    → IsHeld handed all count bytes → more ≡ all ++ e ∷ [] → longer ≡ bytes ++ line → drop count bytes ++ line ≡ entry_text e → now ≡ length longer → IsHeld handed more now longer
+    → IsHeld handed all count bytes → more ≡ all ++ e ∷ [] → longer ≡ bytes ++ line → drop count bytes ++ line ≡ entry_text (length all) e → now ≡ length longer → IsHeld handed more now longer
 more_held handed all e more count now bytes line longer b grown put is long =
-    let parted : longer ≡ take count bytes ++ entry_text e =
+    let parted : longer ≡ take count bytes ++ entry_text (length all) e =
     put ∙ ap (λ (l : List ℕ). l ++ line) (sym (take-append-drop count bytes)) ∙ append_assoc (take count bytes) (drop count bytes) line ∙ ap (λ (l : List ℕ). take count bytes ++ l) is in
     let whole : take now longer ≡ longer = take_all now longer (omega (arith, long)) in
     (one_more handed all e more (take count bytes) (take now longer) b.0 grown (whole ∙ parted), omega (arith, long))
@@ -92,11 +115,11 @@ pub behind_both : (taken handed all : List Entry) → Starts taken handed → St
 behind_both taken handed all first next =
     let f = front taken handed first in
     let m = front handed all next in
-    let one : drop (length taken) handed ≡ f.0 = ap (drop (length taken)) f.1 ∙ drop-append_seam taken f.0 in
-    let two : drop (length handed) all ≡ m.0 = ap (drop (length handed)) m.1 ∙ drop-append_seam handed m.0 in
     let whole : all ≡ taken ++ (f.0 ++ m.0) = m.1 ∙ ap (λ (l : List Entry). l ++ m.0) f.1 ∙ append_assoc taken f.0 m.0 in
-    let three : drop (length taken) all ≡ f.0 ++ m.0 = ap (drop (length taken)) whole ∙ drop-append_seam taken (f.0 ++ m.0) in
-    ap (λ (l : List Entry). text_of l ++ text_behind handed all) one ∙ ap (λ (l : List Entry). text_of f.0 ++ text_of l) two ∙ sym (flat_map-append entry_text f.0 m.0) ∙ ap text_of (sym three)
+    ap (λ (l : List ℕ). l ++ text_behind handed all) (behind_are taken f.0 handed f.1)
+    ∙ ap (λ (l : List ℕ). texts (length taken) f.0 ++ l) (behind_are handed m.0 all m.1)
+    ∙ ap (λ (k : ℕ). texts (length taken) f.0 ++ texts k m.0) (sym (count_of taken f.0 handed f.1))
+    ∙ sym (texts_append (length taken) f.0 m.0) ∙ sym (behind_are taken (f.0 ++ m.0) all whole)
 
 -- ---- what was written
 
@@ -117,9 +140,9 @@ begins held now earlier stands tried past same are all given = (
 )
 
 -- what the writer has got where nothing failed
-got : (before mid after : Option (List ℕ)) (added : List Entry) (front more : List ℕ) → Appends before mid (text_of added ++ front) → front ≡ [] → Appends mid after more → Appends before after (text_of added ++ more)
-got before mid after added front more had none went =
-    subst (Appends before after) (ap (λ (l : List ℕ). (text_of added ++ l) ++ more) none ∙ ap (λ (l : List ℕ). l ++ more) (append-nil (text_of added))) (appends_then before mid after (text_of added ++ front) more had went)
+got : (before mid after : Option (List ℕ)) (text front more : List ℕ) → Appends before mid (text ++ front) → front ≡ [] → Appends mid after more → Appends before after (text ++ more)
+got before mid after text front more had none went =
+    subst (Appends before after) (ap (λ (l : List ℕ). (text ++ l) ++ more) none ∙ ap (λ (l : List ℕ). l ++ more) (append-nil text)) (appends_then before mid after (text ++ front) more had went)
 
 -- all that it was given was written
 pub appended : (before mid after : Option (List ℕ)) (earlier stands tried all now_stands now_tried : List Entry) (whole is_whole : Bool) (text : List ℕ)
@@ -129,7 +152,10 @@ appended before mid after earlier stands tried all now_stands now_tried whole is
     let w = s.0 in
     let rest = drop (length tried) all in
     let parted : all ≡ stands ++ rest = split_at tried all first ∙ ap (λ (l : List Entry). l ++ rest) (sym (s.1 was)) in
-    let all_text : text_of w.added ++ text ≡ text_of (w.added ++ rest) ++ [] = ap (λ (l : List ℕ). text_of w.added ++ l) text_is ∙ sym (flat_map-append entry_text w.added rest) ∙ sym (append-nil (text_of (w.added ++ rest))) in (
+    let had = texts (length earlier) w.added in
+    let count : length tried ≡ length earlier + length w.added = ap length (sym (s.1 was)) ∙ sym (count_of earlier w.added stands w.stand) in
+    let all_text : had ++ text ≡ texts (length earlier) (w.added ++ rest) ++ [] =
+    ap (λ (l : List ℕ). had ++ l) text_is ∙ ap (λ (k : ℕ). had ++ texts k rest) count ∙ sym (texts_append (length earlier) w.added rest) ∙ sym (append-nil (texts (length earlier) (w.added ++ rest))) in (
       record {
         added = w.added ++ rest;
         stand = same ∙ parted ∙ ap (λ (l : List Entry). l ++ rest) w.stand ∙ append_assoc earlier w.added rest;
@@ -138,7 +164,7 @@ appended before mid after earlier stands tried all now_stands now_tried whole is
         front = [];
         missing = [];
         cut = refl;
-        appended = subst (Appends before after) all_text (got before mid after w.added w.front text w.appended (w.clean was) went);
+        appended = subst (Appends before after) all_text (got before mid after had w.front text w.appended (w.clean was) went);
         clean = λ _. refl;
       },
       λ _. same ∙ sym same_tried,
@@ -158,8 +184,8 @@ torn before mid after earlier stands tried all now_tried whole text s was first 
         are = same_tried ∙ split_at tried all first ∙ ap (λ (l : List Entry). l ++ rest) (sym (s.1 was));
         front = cut.front;
         missing = cut.missing;
-        cut = sym text_is ∙ cut.bytes_are;
-        appended = got before mid after w.added w.front cut.front w.appended (w.clean was) cut.appended;
+        cut = ap (λ (l : List Entry). texts (length l) rest) (s.1 was) ∙ sym text_is ∙ cut.bytes_are;
+        appended = got before mid after (texts (length earlier) w.added) w.front cut.front w.appended (w.clean was) cut.appended;
         clean = λ never. absurd (true≢false (sym never));
       },
       λ never. absurd (true≢false (sym never)),
@@ -175,13 +201,30 @@ with_more before after earlier stands tried all whole w first =
       waiting = w.waiting ++ rest;
       are = split_at tried all first ∙ ap (λ (l : List Entry). l ++ rest) w.are ∙ append_assoc stands w.waiting rest;
       front = w.front;
-      missing = w.missing ++ text_of rest;
-      cut = flat_map-append entry_text w.waiting rest ∙ ap (λ (l : List ℕ). l ++ text_of rest) w.cut ∙ append_assoc w.front w.missing (text_of rest);
+      missing = w.missing ++ texts (length tried) rest;
+      cut =
+          texts_append (length stands) w.waiting rest ∙ ap (λ (k : ℕ). texts (length stands) w.waiting ++ texts k rest) (count_of stands w.waiting tried w.are)
+          ∙ ap (λ (l : List ℕ). l ++ texts (length tried) rest) w.cut ∙ append_assoc w.front w.missing (texts (length tried) rest);
       appended = w.appended;
       clean = w.clean;
     }
 
 -- the text that was drafted, and the line of the reply, are the text of the entry
 pub drafted_text : (text : List ℕ) (session : ℕ) (call : Call) (r : Reply) → text ≡ number session space ++ call_text (told call)
-    → text ++ reply_text (id_of (told call)) r ≡ entry_text (entry session call r)
+    → text ++ reply_text (id_of (told call)) r ≡ entry_lines (entry session call r)
 drafted_text text session call r is = ap (λ (l : List ℕ). l ++ reply_text (id_of (told call)) r) is ∙ append_assoc (number session space) (call_text (told call)) (reply_text (id_of (told call)) r)
+
+-- the same, with the line of its sum behind it
+pub summed_text : (n m : ℕ) (bytes reply : List ℕ) (count : ℕ) (session : ℕ) (call : Call) (r : Reply) → m ≡ numbered n → count ≤ length bytes
+    → drop count bytes ++ reply ≡ entry_lines (entry session call r)
+    → drop count bytes ++ (reply ++ sum_line (sum_at m (drop count (bytes ++ reply)))) ≡ entry_text n (entry session call r)
+summed_text n m bytes reply count session call r number few is =
+    let told = entry_lines (entry session call r) in
+    let both : drop count (bytes ++ reply) ≡ told = drop-append-le count bytes reply few ∙ is in
+    sym (append_assoc (drop count bytes) reply (sum_line (sum_at m (drop count (bytes ++ reply)))))
+    ∙ ap (λ (l : List ℕ). l ++ sum_line (sum_at m (drop count (bytes ++ reply)))) is
+    ∙ ap (λ (l : List ℕ). told ++ sum_line (sum_at m l)) both ∙ ap (λ (s : ℕ). told ++ sum_line s) (sum_wraps n m told number)
+
+-- the number of the next one
+pub next_number : (n : ℕ) (past more : List Entry) (e : Entry) → n ≡ numbered (length past) → more ≡ past ++ e ∷ [] → (n + 1) % 18446744073709551616 ≡ numbered (length more)
+next_number n past more e is grown = omega (arith, is, ap length grown, length-append past (e ∷ []))

@@ -1,75 +1,73 @@
--- A record that may have been cut off: whole entries, and a rest with which none begins.
-use Rattle.std.specs.Prelude.{◌≡◌, ◌≢◌, ◌⊎◌, ℕ, ◌<◌, List, [], ◌∷◌, ◌++◌, All, codes}
-use Rattle.std.specs.List.{flat_map}
-use Rattle.batch.specs.Text.{IsNumber, number, space, line_feed}
+-- A record that may have been cut off: whole entries, and a rest in which no sum stands.
+use Rattle.std.specs.Prelude.{◌≡◌, ◌≢◌, ◌⊎◌, ◌≤◌, ℕ, List, [], ◌∷◌, ◌++◌, ◌+◌, All, codes, length}
+use Rattle.batch.specs.Text.{number, space, line_feed}
 use Rattle.batch_book.specs.declared.entry.Entry.{Entry}
 use Rattle.client_session.specs.Bytes.{HasNoFeed}
-use Rattle.batch_book.specs.Told.{PlanlessCall, told}
-use Rattle.book_record.specs.Reading.{BeginsWithNoEntry}
-use Rattle.book_record.specs.RecordText.{id_of, call_text, reply_text, entry_text, CanSay, CanTell}
+use Rattle.book_record.specs.RecordText.{entry_text, texts, CanTell}
+use Rattle.book_record.specs.declared.in_front.Front.{Front}
+use Rattle.book_record.specs.declared.in_front.Front.TheVariants as front
+use Rattle.book_record.specs.Sums.{HasNoMark, sum_mark, numbered, summed}
 
--- no whole entry stands in front: a session's number, the lines of a call, and one line more
+-- no line of a sum ends there, right or wrong
 abbrev pub IsUnfinished : List ℕ → Type 0
 IsUnfinished text =
-    (session : ℕ) (call : PlanlessCall) (line rest : List ℕ) → IsNumber session → CanSay call
-    → HasNoFeed line
-    → text ≢ number session space ++ (call_text call ++ (line ++ line_feed ∷ rest))
+    (body line rest : List ℕ) → HasNoMark body → HasNoFeed line
+    → text ≢ body ++ sum_mark ∷ (line ++ line_feed ∷ rest)
 
--- what an entry's lines say, without a machine: its reply is a text
-pub record LinedEntry : Type 0 where
-  pub session : ℕ
-  pub call : PlanlessCall
-  pub reply : List ℕ
+-- a line feed, or a character of ASCII from the space on
+abbrev pub IsLineByte : ℕ → Type 0
+IsLineByte b = (b ≡ line_feed) ⊎ ((space ≤ b) × (b ≤ 126))
 
-abbrev pub lined : Entry → LinedEntry
-lined e = record {
-  session = e.session;
-  call = told e.call;
-  reply = reply_text (id_of (told e.call)) e.reply;
-}
+-- torn off there: no line of a sum ends, and each byte is one that lines have
+abbrev pub IsTorn : List ℕ → Type 0
+IsTorn text = IsUnfinished text × All IsLineByte text
 
--- these entries stand first, and then a rest with which no whole one begins
+-- these entries stand first, and then a rest that was torn off
 pub record IsReadAs (text : List ℕ) (es : List Entry) (rest : List ℕ) : Type 0 where
-  pub front : text ≡ flat_map entry_text es ++ rest
+  pub front : text ≡ texts 0 es ++ rest
   pub each : All CanTell es
-  pub unfinished : IsUnfinished rest
+  pub torn : IsTorn rest
 
--- the rest is a front of the first of these entries' text, and not the whole of it; where there is
--- no entry, there is no rest
-abbrev pub BeginsFirst : List Entry → List ℕ → Type 0
-BeginsFirst [] rest = rest ≡ []
-BeginsFirst (e ∷ es) rest = (missing : List ℕ) × (missing ≢ []) × (entry_text e ≡ rest ++ missing)
+-- after so many entries these lines stand first, and the line of their sum
+pub record IsSummed (n : ℕ) (text body rest : List ℕ) : Type 0 where
+  pub none : HasNoMark body
+  pub front : text ≡ summed n body ++ rest
 
--- a front of the text of these entries: the first of them are whole, and the next one has begun
-pub record IsCutOff (es : List Entry) (front : List ℕ) : Type 0 where
+-- after so many entries no lines stand first with their sum, nor was the text torn off there
+pub record IsDamaged (n : ℕ) (text : List ℕ) : Type 0 where
+  pub unsummed : (body rest : List ℕ) → IsSummed n text body rest → ⊥
+  pub whole : IsTorn text → ⊥
+
+-- the rest is a front of the text of the first of these entries, and not the whole of it; where
+-- there is no entry, there is no rest
+abbrev pub BeginsFirst : ℕ → List Entry → List ℕ → Type 0
+BeginsFirst n [] rest = rest ≡ []
+BeginsFirst n (e ∷ es) rest =
+    (missing : List ℕ) × (missing ≢ []) × (entry_text n e ≡ rest ++ missing)
+
+-- a front of the text of these entries, before which so many stand: the first of them are whole, and
+-- the next one has begun
+pub record IsCutOff (n : ℕ) (es : List Entry) (front : List ℕ) : Type 0 where
   pub whole : List Entry
   pub more : List Entry
   pub rest : List ℕ
   pub are : es ≡ whole ++ more
-  pub read : IsReadAs front whole rest
-  pub begun : BeginsFirst more rest
+  pub read : front ≡ texts n whole ++ rest
+  pub each : All CanTell whole
+  pub torn : IsTorn rest
+  pub begun : BeginsFirst (n + length whole) more rest
 
--- ---- an entry that has begun
-
--- A session's number, which is below this, and the lines of a call stand there, and this behind
--- them. Or the text is a front of such lines, and nothing stands behind them.
-pub record HasBegun (limit : ℕ) (text : List ℕ) (session : ℕ) (call : PlanlessCall)
-    (replied : List ℕ) : Type 0 where
-  pub number_fits : IsNumber session
-  pub below : session < limit
-  pub can_say : CanSay call
-  pub missing : List ℕ
-  pub begins : number session space ++ (call_text call ++ replied) ≡ text ++ missing
-  pub whole : (missing ≡ []) ⊎ (replied ≡ [])
-
--- neither stands there
-pub record HasNoneBegun (limit : ℕ) (text : List ℕ) : Type 0 where
-  pub none : BeginsWithNoEntry limit text
-  pub unbegun : (session : ℕ) (call : PlanlessCall) (missing : List ℕ) → IsNumber session
-      → session < limit → CanSay call → number session space ++ call_text call ≢ text ++ missing
+-- what stands in front of a text that so many entries stand before
+abbrev pub StandsInFront : ℕ → List ℕ → Front → Type 0
+StandsInFront n text (front.Whole body rest) = IsSummed n text body.now rest.now
+StandsInFront n text front.Damaged = IsDamaged n text
+StandsInFront n text front.Torn = IsTorn text
 
 -- ---- the end
 
--- the last line of a record whose sessions have all ended
-abbrev pub end_line : List ℕ
-end_line = codes "end\n"
+-- `end E` and its sum: the last lines of a record whose sessions have all ended, with so many entries
+abbrev pub end_line : ℕ → List ℕ
+end_line n = codes "end " ++ number (numbered n) line_feed
+
+abbrev pub last_lines : ℕ → List ℕ
+last_lines n = summed n (end_line n)

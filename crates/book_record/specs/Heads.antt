@@ -1,28 +1,19 @@
 -- The head of a record: its first line, and the names of the clients. Its form is this project's
 -- choice.
-use Rattle.std.specs.Prelude.{◌≡◌, ◌≢◌, ℕ, zero, suc, ◌+◌, ◌*◌, ◌^◌, ◌%◌, ◌≤◌, List, [], ◌∷◌, ◌++◌, length, All, AllPairs, codes}
+use Rattle.std.specs.Prelude.{◌≡◌, ◌≢◌, ℕ, zero, suc, ◌+◌, ◌^◌, ◌≤◌, List, [], ◌∷◌, ◌++◌, length, All, AllPairs, codes}
 use Rattle.std.specs.List.{flat_map}
 use Rattle.batch.specs.Extent.{Extent, IsShape}
 use Rattle.batch.specs.Text.{IsNumber, number, space, line_feed}
 use Rattle.batch.specs.declared.limits.TheConstants.{MAX_DIGITS}
 use Rattle.batch_book.specs.History.{Account}
-use Rattle.book_record.specs.RecordText.{entry_text}
+use Rattle.book_record.specs.RecordText.{texts}
+use Rattle.book_record.specs.Sums.{adler, summed}
 use Rattle.client_session.specs.Bytes.{HasNoFeed}
 use Rattle.exchange_limits.specs.declared.limits.TheConstants.{MAX_SESSIONS}
 use Rattle.line_words.specs.HexWords.{IsWord, hex8}
 use Rattle.module_memory.specs.Images.{image_of}
 use Rattle.module_memory.specs.Store.{Store}
-use Rattle.book_record.specs.Fronts.{end_line}
-
--- ---- the sum: Adler-32, as RFC 1950 has it
-
--- that of the bytes so far, and that of all these sums
-abbrev pub sums : List ℕ → ℕ → ℕ → ℕ
-sums [] low high = high * 65536 + low
-sums (b ∷ bytes) low high = sums bytes ((low + b) % 65521) ((high + (low + b) % 65521) % 65521)
-
-abbrev pub adler : List ℕ → ℕ
-adler bytes = sums bytes 1 0
+use Rattle.book_record.specs.Fronts.{last_lines}
 
 -- ---- the head
 
@@ -30,11 +21,11 @@ adler bytes = sums bytes 1 0
 abbrev pub letter_x : ℕ
 letter_x = 120
 
--- `record MxKxW SUM N`: the shape of the rack, the sum of the image of its opening words, and how
--- many clients have names
+-- `record-2 MxKxW SUM N`: the form, the shape of the rack, the sum of the image of its opening words,
+-- and how many clients have names
 abbrev pub rack_line : Extent → ℕ → ℕ → List ℕ
 rack_line shape sum n =
-    codes "record "
+    codes "record-2 "
     ++ (number shape.modules letter_x ++ (number shape.blocks letter_x
     ++ (number shape.words space ++ (hex8 sum ++ space ∷ number n line_feed))))
 
@@ -43,8 +34,12 @@ abbrev pub client_line : List ℕ → List ℕ
 client_line name = codes "client " ++ (name ++ line_feed ∷ [])
 
 -- the first line, and one for each client that has a name, in the order of the sessions' numbers
+abbrev pub head_lines : Extent → ℕ → List (List ℕ) → List ℕ
+head_lines shape sum names = rack_line shape sum (length names) ++ flat_map client_line names
+
+-- the same, and `=SUM`
 abbrev pub head_of : Extent → ℕ → List (List ℕ) → List ℕ
-head_of shape sum names = rack_line shape sum (length names) ++ flat_map client_line names
+head_of shape sum names = summed 0 (head_lines shape sum names)
 
 -- a client's name: it isn't empty, and is in one line
 abbrev pub IsName : List ℕ → Type 0
@@ -109,4 +104,4 @@ BeginsWithNoNumbers text =
 abbrev pub whole_text : Account → List ℕ
 whole_text book =
     head_of book.opening.shape (adler (image_of book.opening)) []
-    ++ (flat_map entry_text book.history ++ end_line)
+    ++ (texts 0 book.history ++ last_lines (length book.history))

@@ -1,9 +1,8 @@
+pub mod Sums
 pub mod RecordText
 pub mod Untold
 pub mod Reading
-pub mod Laws
 pub mod Fronts
 pub mod Heads
 pub mod FrontLaws
 pub mod Streams
-pub mod Endings

@@ -1,9 +1,8 @@
 -- The text of a record: an entry for each call of a history, with the session's number, the call in
 -- the words of a session's line, and its reply line. Plans aren't told: a call that settles one is
 -- told by the number of its batch. The form is this project's choice.
-use Rattle.std.specs.Prelude.{◌≡◌, ◌≢◌, ℕ, List, ◌++◌, All, codes}
+use Rattle.std.specs.Prelude.{◌≢◌, ℕ, suc, List, [], ◌∷◌, ◌++◌, codes}
 use Rattle.std.specs.Fmt.{decimal}
-use Rattle.std.specs.List.{flat_map}
 use Rattle.batch.specs.Batches.{IsBatch}
 use Rattle.batch.specs.Text.{IsNumber, number, batch_text, space}
 use Rattle.line_words.specs.HexWords.{IsWord}
@@ -19,6 +18,7 @@ use Rattle.client_session.specs.declared.command.SessionCommand.TheVariants as c
 use Rattle.client_session.specs.Commands.{line_of}
 use Rattle.client_session.specs.Replies.{reply_line, with_feed}
 use Rattle.client_session.specs.Steps.{CanBeTold}
+use Rattle.book_record.specs.Sums.{summed}
 
 -- ---- the texts
 
@@ -49,10 +49,19 @@ reply_text id (Fetched batch) = with_feed (codes "fetched")
 reply_text id reply = reply_line id reply
 
 -- `S CALL` and the reply
-abbrev pub entry_text : Entry → List ℕ
-entry_text e =
+abbrev pub entry_lines : Entry → List ℕ
+entry_lines e =
     number e.session space
     ++ (call_text (told e.call) ++ reply_text (id_of (told e.call)) e.reply)
+
+-- the same of the entry that so many stand before, and `=SUM`
+abbrev pub entry_text : ℕ → Entry → List ℕ
+entry_text n e = summed n (entry_lines e)
+
+-- those of entries that so many stand before
+abbrev pub texts : ℕ → List Entry → List ℕ
+texts n [] = []
+texts n (e ∷ es) = entry_text n e ++ texts (suc n) es
 
 -- what the writer wants of a reply: one to a call of a legal history has it
 abbrev pub CanBePut : Reply → Type 0
@@ -81,8 +90,3 @@ pub record CanTell (e : Entry) : Type 0 where
   pub session : IsNumber e.session
   pub call : CanSay (told e.call)
   pub reply : CanBeReplied e.reply
-
--- the text is that of these entries, each of which a record can tell
-pub record IsRecordOf (es : List Entry) (text : List ℕ) : Type 0 where
-  pub spelled : text ≡ flat_map entry_text es
-  pub each : All CanTell es

@@ -1,8 +1,9 @@
 //! How a book goes on with a stream, and how it ends with one.
 
-ghost use Rattle.std.specs.Prelude.{◌≡◌, true};
+ghost use Rattle.std.specs.Prelude.{◌≡◌, true, length};
 ghost use Rattle.batch_book.specs.History.{account};
 ghost use Rattle.book_record.specs.Streams.{IsWritten};
+ghost use Rattle.book_record.specs.Sums.{numbered};
 
 use crate::naming::StreamName;
 use crate::streamed::Streamed;
@@ -10,35 +11,42 @@ use batch_book::{BareBook, Book, Silent};
 use std::alloc::Global;
 use std::io::Write;
 
-/// The book goes on from its entries: the next ones go to this writer. What the writer holds, and
-/// the entries, are those that the stream is named by. Where it gathers, as many sessions may share a
-/// writer that waits for a disk, who writes lets others run first.
+/// The book goes on from its entries, so many: the next ones go to this writer. What the writer
+/// holds, and the entries, are those that the stream is named by. Where it gathers, as many
+/// sessions may share a writer that waits for a disk, who writes lets others run first.
 pub fn stream_on<W: Write + Send, N: StreamName + Send>(
     alloc: Global,
     book: Book<Silent>,
+    entries: u64,
     writer: W,
     gathers: bool,
 ) -> Book<Streamed<W, N>>
     requires held { W.contents writer ≡ N.held }
     requires earlier { book.history ≡ N.earlier }
+    requires entries { entries ≡ numbered (length book.history) }
     ensures { result ≡ account book.opening book.history book.history book.machine true }
 {
     let (bare, log) = book.part();
     let Silent { past } = log;
-    Book::go_on(bare, Streamed::behind(alloc, past, writer, gathers))
+    Book::go_on(
+        bare,
+        Streamed::behind(alloc, past, entries, writer, gathers),
+    )
 }
 
-/// The book without its history, and the writer, which has got the text of the entries that were
-/// flushed since the stream began; where the history isn't whole, maybe a front of that of the
-/// others too.
+/// The book without its history, how many entries that has, and the writer, which has got the text
+/// of the entries that were flushed since the stream began; where the history isn't whole, maybe a
+/// front of that of the others too.
 pub fn stream_off<W: Write + Send, N: StreamName + Send>(
     book: Book<Streamed<W, N>>,
-) -> (BareBook, W)
+) -> (BareBook, W, u64)
     ensures opening { result.0.opening ≡ book.opening }
     ensures machine { result.0.machine ≡ book.machine }
     ensures written { IsWritten N.held (W.contents result.1) N.earlier book.stands book.history
         book.whole }
+    ensures entries { result.2 ≡ numbered (length book.history) }
 {
     let (bare, log) = book.part();
-    (bare, log.into_writer())
+    let (writer, entries) = log.into_writer();
+    (bare, writer, entries)
 }

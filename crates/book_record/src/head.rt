@@ -5,9 +5,10 @@ ghost use Rattle.std.specs.List.{flat_map};
 ghost use Rattle.batch.specs.Extent.{IsShape};
 ghost use Rattle.batch.specs.Text.{IsNumber, number, space, line_feed};
 ghost use Rattle.line_words.specs.HexWords.{IsWord, hex8, BeginsWithNoHex8};
-ghost use Rattle.book_record.specs.Fronts.{end_line};
 ghost use Rattle.book_record.specs.Heads.{AreClients, AreNames, BeginsWithNoClient, BeginsWithNoRackLine, BeginsWithNoHead, BeginsWithNoNames, BeginsWithNoNumbers, IsName, client_line, rack_line, head_of, letter_x, session_limit};
 
+use crate::sum::{after_sum, sum_at};
+use crate::writing::push_sum_of;
 use batch::{Shape, number_before, position_of};
 use exchange_limits::MAX_SESSIONS;
 use line_words::{Line, behind, hex8_and_rest};
@@ -20,7 +21,7 @@ pub fn rack_line(shape: Shape, sum: u32, names: usize) -> Line
     ensures { result ≡ rack_line shape sum names }
 {
     let mut line = Line::new();
-    line.put(b"record ");
+    line.put(b"record-2 ");
     line.put_number(shape.modules() as u64);
     line.put(b"x");
     line.put_number(shape.blocks() as u64);
@@ -44,8 +45,9 @@ fn push_client(text: &mut Vec<u8>, name: &[u8]) -> Result<(), AllocError>
     Ok(())
 }
 
-/// The head of a record: the shape of its rack, the sum of the image of its opening words, and the
-/// names of the clients, in the order of their sessions. It takes memory by the names.
+/// The head of a record: the shape of its rack, the sum of the image of its opening words, the names
+/// of the clients, in the order of their sessions, and the sum of these lines. It takes memory by
+/// the names.
 pub fn head_text(
     alloc: Global,
     shape: Shape,
@@ -60,6 +62,7 @@ pub fn head_text(
     for name in names {
         push_client(&mut text, name)?;
     }
+    push_sum_of(&mut text, 0, 0)?;
     Ok(text)
 }
 
@@ -84,7 +87,7 @@ fn read_rack_line(text: &[u8]) -> Option<(Shape, u32, usize, &[u8])>
     ensures some { IfSome result (λ x. text.now ≡ rack_line x.0 x.1 x.2 ++ x.3.now) }
     ensures none { IfNone result (BeginsWithNoRackLine text.now) }
 {
-    let rest = behind(text, b"record ")?;
+    let rest = behind(text, b"record-2 ")?;
     let (modules, blocks, words, rest) = numbers_and_rest(rest)?;
     let (sum, rest) = hex8_and_rest(rest)?;
     let (names, rest) = number_before(rest, b'\n')?;
@@ -148,7 +151,7 @@ fn behind_clients(text: &[u8], names: usize) -> Option<&[u8]>
 }
 
 /// The shape, the sum and the number of clients of a head whose first line has these numbers, and
-/// what stands behind the lines of its clients.
+/// what follows the sum of its lines.
 fn whole_head<'a>(
     text: &[u8],
     shape: Shape,
@@ -165,10 +168,10 @@ fn whole_head<'a>(
         × (text.now ≡ head_of x.0 x.1 names ++ x.3.now))) }
     ensures none { IfNone result (BeginsWithNoHead text.now) }
 {
-    match behind_clients(rest, names) {
-        Some(body) => Some((shape, sum, names, body)),
-        None => None,
-    }
+    let after = behind_clients(rest, names)?;
+    let lines = &text[..text.len().saturating_sub(after.len())];
+    let body = after_sum(after, sum_at(0, lines))?;
+    Some((shape, sum, names, body))
 }
 
 /// The shape and the sum of the head of a record, how many clients it names, and what stands behind
@@ -193,11 +196,4 @@ pub fn session_limit(clients: usize) -> usize
         0 => 1_000_000_000,
         _ => clients,
     }
-}
-
-/// Whether this rest of a record is its last line: its sessions have all ended.
-pub fn is_ended(rest: &[u8]) -> bool
-    ensures { IsTrue result ↔ (rest.now ≡ end_line) }
-{
-    rest == b"end\n".as_slice()
 }

@@ -1,21 +1,21 @@
 //! The text of a book's history: an entry for each call, with the session's number, the call in the
-//! words of a session's line, and its reply line. Plans aren't told. And records, which are such
-//! texts behind a head, whole or cut off, and written at once or entry by entry.
+//! words of a session's line, its reply line, and a sum. Plans aren't told. And records, which are
+//! such texts after a head, whole or cut off, and written at once or entry by entry.
 //!
-//! [`push_history`] puts the text of each entry (`entry_text` of `specs/RecordText.antt`).
-//! [`read_entry`] reads what a text begins with, exactly where it begins so. Two legal histories of
-//! one text, from one opening store, differ in plans alone, and lead to the same words. With other
-//! shortest plans of the same batches a history in which no run stopped is legal too, and has the
-//! same text (`laws::one_record`).
+//! [`push_history`] puts the text of each entry (`entry_text` of `specs/RecordText.antt`): its
+//! lines, and one with the sum of its number and of these. [`read_entry`] reads what a text begins
+//! with, exactly where it begins so.
 //!
-//! [`head_text`] and [`read_head`] put and read the line `record MxKxW SUM N` and the N clients'
-//! names, exactly where they stand (`head_of` of `specs/Heads.antt`), and [`rack_line`] puts that
-//! line alone. [`sum_of`] makes the sum, which `laws::worked_sum` shows by an example. The sessions
-//! of a record are those of its named clients, where there are any ([`session_limit`]).
-//! [`read_begun`] reads an entry whose call stands there, or of whose call the text is a front,
-//! exactly where there is such, by one of these sessions (`HasBegun` of `specs/Fronts.antt`). A
-//! text has one reading at most, whole entries and a rest, and each front of the text of entries has
-//! one; the last line, for which [`is_ended`] looks, is such a rest (`laws::fronts`).
+//! [`head_text`] and [`read_head`] put and read the line `record-2 MxKxW SUM N`, the N clients'
+//! names and their sum, exactly where they stand (`head_of` of `specs/Heads.antt`), and
+//! [`rack_line`] puts that first line alone. [`sum_of`] makes the sum of an image. The sessions of
+//! a record are those of its named clients, where there are any ([`session_limit`]).
+//!
+//! [`read_front`] says what stands in front of a text: the lines of an entry and their sum, damage,
+//! or what was torn off, in which no sum stands (`StandsInFront` of `specs/Fronts.antt`). [`is_end`]
+//! knows the line that ends a record, and [`last_lines`] puts it with its sum. A text has one
+//! reading at most, whole entries and a torn rest, and each front of the text of entries has one
+//! (`laws::fronts`).
 //!
 //! A history may be a stream: the texts of entries wait in a buffer, and one write hands all of
 //! them to a writer before their replies are told. A [`StreamName`] says what the writer held as
@@ -24,12 +24,13 @@
 //! flush has failed, maybe a front of the text of the others stands there too (`IsWritten` of
 //! `specs/Streams.antt`). It keeps no entry, so there may be any number: of those that wait it has
 //! the text, which takes memory until they are flushed. [`stream_on`] lets a book whose history
-//! contracts alone see go on so, and [`stream_off`] gives the writer back.
+//! contracts alone see go on so, and [`stream_off`] gives the writer back, and how many entries
+//! there are.
 #![tactic(auto)]
 
-mod begun_entry;
 mod going;
 mod head;
+mod in_front;
 pub mod laws;
 mod naming;
 mod reading;
@@ -40,9 +41,9 @@ mod whole;
 mod writing;
 mod written;
 
-pub use begun_entry::{BegunEntry, read_begun};
 pub use going::{stream_off, stream_on};
-pub use head::{head_text, is_ended, rack_line, read_head, session_limit};
+pub use head::{head_text, rack_line, read_head, session_limit};
+pub use in_front::{Front, is_end, is_torn, last_lines, read_front};
 pub use naming::StreamName;
 pub use reading::read_entry;
 pub use streamed::Streamed;

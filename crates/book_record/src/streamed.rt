@@ -1,8 +1,9 @@
 //! A history that is a text at a writer, which gets many entries at a time.
 
-ghost use Rattle.std.specs.Prelude.{◌≡◌, true, false, OnOk, OnErr};
+ghost use Rattle.std.specs.Prelude.{◌≡◌, true, false, OnOk, OnErr, length};
 ghost use Rattle.batch_book.specs.History.{Starts};
 ghost use Rattle.book_record.specs.Streams.{IsWritten};
+ghost use Rattle.book_record.specs.Sums.{numbered};
 
 use crate::naming::StreamName;
 use crate::waiting_text::WaitingText;
@@ -35,10 +36,17 @@ impl<W: Write + Drop, N: StreamName> Drop for Streamed<W, N> {
 }
 
 impl<W: Write, N: StreamName> Streamed<W, N> {
-    /// A history that goes on behind these entries, at this writer: they, and what the writer
-    /// holds, are those that the stream is named by. Where it gathers, who writes waits for more
-    /// entries first.
-    pub fn behind(alloc: Global, past: PastEntries, writer: W, gathers: bool) -> Streamed<W, N>
+    /// A history that goes on after these entries, so many, at this writer: they, and what the
+    /// writer holds, are those that the stream is named by. Where it gathers, who writes waits for
+    /// more entries first.
+    pub fn behind(
+        alloc: Global,
+        past: PastEntries,
+        entries: u64,
+        writer: W,
+        gathers: bool,
+    ) -> Streamed<W, N>
+        requires entries { entries ≡ numbered (length past) }
         requires held { W.contents writer ≡ N.held }
         requires earlier { past ≡ N.earlier }
         ensures holds { result.written.holds ≡ W.contents writer }
@@ -49,20 +57,22 @@ impl<W: Write, N: StreamName> Streamed<W, N> {
         let written = Written::behind(&past, writer, gathers);
         Streamed {
             written,
-            waiting: WaitingText::behind(alloc, past),
+            waiting: WaitingText::behind(alloc, past, entries),
         }
     }
 
-    /// The writer, and what it has got.
-    pub fn into_writer(self) -> W
-        ensures holds { W.contents result ≡ self.written.holds }
-        ensures written { IsWritten N.held (W.contents result) N.earlier self.written.stands
+    /// The writer, what it has got, and how many entries there are.
+    pub fn into_writer(self) -> (W, u64)
+        ensures holds { W.contents result.0 ≡ self.written.holds }
+        ensures written { IsWritten N.held (W.contents result.0) N.earlier self.written.stands
             self.waiting.all self.written.whole }
+        ensures entries { result.1 ≡ numbered (length self.waiting.all) }
     {
         let Streamed { written, waiting } = self;
         // Asked for only for its contract, which says that those that were handed on are the first.
         waiting.text();
-        written.into_writer()
+        let entries = waiting.entries();
+        (written.into_writer(), entries)
     }
 }
 

@@ -1,10 +1,18 @@
-//! The sum of an image.
+//! Sums of images, and of a record's head, entries and end.
 
-ghost use Rattle.std.specs.Prelude.{◌≡◌};
-ghost use Rattle.book_record.specs.Heads.{adler};
+ghost use Rattle.std.specs.Prelude.{◌≡◌, ◌≢◌, ◌<◌, ◌++◌, ◌^◌, ℕ, List, MatchOption, length};
+ghost use Rattle.book_record.specs.Sums.{adler, sum_at, sum_line, summing};
+
+use line_words::{Line, behind};
 
 /// The greatest prime below 65,536 (RFC 1950).
 const MODULUS: u32 = 65521;
+
+/// A sum of lines is multiplied by this before a byte is added.
+const FACTOR: u64 = 2_891_336_453;
+
+/// As many sums of lines there are.
+const SUMS: u64 = 4_294_967_296;
 
 /// The sum of an image: its Adler-32, as RFC 1950 has it. Takes time by the bytes.
 pub fn sum_of(image: &[u8]) -> u32
@@ -17,4 +25,44 @@ pub fn sum_of(image: &[u8]) -> u32
         high = (high + low) % MODULUS;
     }
     high * 65536 + low
+}
+
+/// The sum that goes on from this.
+fn sum_from(start: u64, lines: &[u8]) -> u32
+    requires { start < 2 ^ 32 }
+    ensures { result ≡ summing start lines.now }
+{
+    let mut sum = start;
+    for byte in lines {
+        sum = (sum * FACTOR + *byte as u64) % SUMS;
+    }
+    sum as u32
+}
+
+/// The sum of the lines of the entry of this number. Takes time by the bytes.
+pub fn sum_at(number: u64, lines: &[u8]) -> u32
+    ensures { result ≡ sum_at number lines.now }
+{
+    sum_from(number % SUMS, lines)
+}
+
+/// The line of a sum.
+pub(crate) fn sum_line(sum: u32) -> Line
+    ensures line { result ≡ sum_line sum }
+    ensures room { length result ≡ 10 }
+{
+    let mut line = Line::new();
+    line.put(b"=");
+    line.put_hex8(sum);
+    line.put(b"\n");
+    line
+}
+
+/// What follows the line of this sum, with which a text begins.
+pub(crate) fn after_sum(text: &[u8], sum: u32) -> Option<&[u8]>
+    ensures { MatchOption result ((rest : List ℕ) → text.now ≢ sum_line sum ++ rest)
+        (λ rest. text.now ≡ sum_line sum ++ rest.now) }
+{
+    let line = sum_line(sum);
+    behind(text, line.as_bytes())
 }

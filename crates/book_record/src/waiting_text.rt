@@ -1,9 +1,11 @@
 //! The texts of entries that wait until they are written.
 
-ghost use Rattle.std.specs.Prelude.{◌≡◌, ◌++◌, [], OnOk, OnErr};
+ghost use Rattle.std.specs.Prelude.{◌≡◌, ◌++◌, [], OnOk, OnErr, length};
 ghost use Rattle.batch_book.specs.History.{Starts};
 ghost use Rattle.book_record.specs.Streams.{text_behind};
+ghost use Rattle.book_record.specs.Sums.{numbered};
 
+use crate::writing::push_sum_of;
 use crate::{id_of, push_asked, push_logged};
 use batch_book::{Call, Entry, PastEntries, WaitingEntries};
 use client_session::reply_line::ReplyLine;
@@ -21,6 +23,8 @@ pub struct WaitingText {
     buffer: Vec<u8>,
     // How many bytes of it are of those that wait.
     waits: usize,
+    // The number of the entry that is drafted.
+    number: u64,
     // Where lines are put together.
     asked: Line,
     reply: ReplyLine,
@@ -33,6 +37,7 @@ impl Model for WaitingText {
     ghost use Rattle.std.specs.Prelude.{◌≡◌, ◌≤◌, ◌-◌, length, take, drop, vec_capacity, vec_len};
     ghost use Rattle.batch_book.specs.History.{Starts};
     ghost use Rattle.book_record.specs.Streams.{WaitingState, text_behind};
+    ghost use Rattle.book_record.specs.Sums.{numbered};
 
     ghost Value = { WaitingState };
 
@@ -43,14 +48,15 @@ impl Model for WaitingText {
       room = vec_capacity s.buffer - vec_len s.buffer;
     } };
 
-    ghost invariant = { λ s. (Starts s.handed.value s.past
+    ghost invariant = { λ s. ((Starts s.handed.value s.past
         × (take s.waits s.buffer.items ≡ text_behind s.handed.value s.past))
-        × (s.waits ≤ length s.buffer.items) };
+        × (s.waits ≤ length s.buffer.items)) × (s.number ≡ numbered (length s.past)) };
 }
 
 impl WaitingText {
-    /// None of these entries waits.
-    pub(crate) fn behind(alloc: Global, past: PastEntries) -> WaitingText
+    /// None of these entries, so many, waits.
+    pub(crate) fn behind(alloc: Global, past: PastEntries, entries: u64) -> WaitingText
+        requires { entries ≡ numbered (length past) }
         ensures all { result.all ≡ past }
         ensures handed { result.handed ≡ past }
     {
@@ -58,11 +64,19 @@ impl WaitingText {
         WaitingText {
             buffer: Vec::new(alloc),
             waits: 0,
+            number: entries,
             asked: Line::new(),
             reply: ReplyLine::new(),
             past,
             handed,
         }
+    }
+
+    /// How many entries there are.
+    pub(crate) fn entries(&self) -> u64
+        ensures { result ≡ numbered (length self.now.all) }
+    {
+        self.number
     }
 
     /// The text of those that wait. Those that were handed on are the first of all.
@@ -122,6 +136,8 @@ impl WaitingEntries for WaitingText {
         self.past.add(&entry);
         let id = id_of(entry.call.told());
         push_logged(&mut self.buffer, &mut self.reply, id, &entry.reply).unwrap();
+        push_sum_of(&mut self.buffer, self.waits, self.number).unwrap();
+        self.number = self.number.wrapping_add(1);
         self.waits = self.buffer.len();
     }
 

@@ -1,24 +1,30 @@
 //! The writer of a record.
 
-ghost use Rattle.std.specs.Prelude.{◌≡◌, ◌≤◌, ◌+◌, ◌++◌, All, OnOk, OnErr, IsOk, length, vec_len, vec_capacity};
+ghost use Rattle.std.specs.Prelude.{◌≡◌, ◌≤◌, ◌+◌, ◌++◌, All, OnOk, OnErr, IsOk, drop, length, vec_len, vec_capacity};
 ghost use Rattle.line_words.specs.declared.limits.TheConstants.{LINE_ROOM};
-ghost use Rattle.std.specs.List.{flat_map};
 ghost use Rattle.batch.specs.Text.{batch_text, number, space};
 ghost use Rattle.batch_book.specs.Told.{told};
 ghost use Rattle.client_session.specs.Replies.{with_feed};
-ghost use Rattle.book_record.specs.RecordText.{CanBePut, id_of, call_text, reply_text, entry_text};
+ghost use Rattle.book_record.specs.RecordText.{CanBePut, id_of, call_text, reply_text, entry_lines, entry_text, texts};
+ghost use Rattle.book_record.specs.Sums.{sum_at, sum_line};
 
+use crate::sum::sum_at;
 use batch::Batch;
 use batch_book::{Book, Call, Entry, LoggedReply, Reply, SharedBatch, ToldCall};
 use client_session::SessionCommand;
 use client_session::reply_line::ReplyLine;
-use line_words::{LINE_ROOM, Line};
+use line_words::{LINE_ROOM, Line, hex8_of};
 use std::alloc::AllocError;
+
+/// The bytes of the line of a sum.
+const SUM_ROOM: usize = 10;
 
 /// Puts words and a line feed.
 fn push_line(text: &mut Vec<u8>, words: &[u8]) -> Result<(), AllocError>
     ensures put { OnOk result (text.new.items ≡ text.old.items ++ with_feed words.now) }
     ensures room { vec_len text.old + length words.now + 1 ≤ vec_capacity text.old → IsOk result }
+    ensures few { OnOk result (vec_len text.new ≡ vec_len text.old + length words.now + 1) }
+    ensures kept { vec_capacity text.old ≤ vec_capacity text.new }
 {
     text.extend_from_slice(words)?;
     text.push(b'\n')?;
@@ -54,11 +60,11 @@ fn push_batch(text: &mut Vec<u8>, words: &[u8], batch: &Batch) -> Result<(), All
     requires { length words.now ≤ LINE_ROOM }
     ensures put { OnOk result
         (text.new.items ≡ text.old.items ++ (words.now ++ batch_text batch.now)) }
-    ensures room { OnOk result (vec_len text.new + LINE_ROOM ≤ vec_capacity text.new) }
+    ensures room { OnOk result (vec_len text.new + LINE_ROOM + 10 ≤ vec_capacity text.new) }
     ensures none { OnErr result (text.new.items ≡ text.old.items) }
 {
     let lines = batch.write()?;
-    text.reserve(words.len() + lines.len() + LINE_ROOM)?;
+    text.reserve(words.len() + lines.len() + LINE_ROOM + SUM_ROOM)?;
     text.extend_from_slice(words).unwrap();
     text.extend_from_slice(lines.as_slice()).unwrap();
     Ok(())
@@ -68,10 +74,10 @@ fn push_batch(text: &mut Vec<u8>, words: &[u8], batch: &Batch) -> Result<(), All
 fn push_words(text: &mut Vec<u8>, words: &[u8]) -> Result<(), AllocError>
     requires { length words.now ≤ LINE_ROOM }
     ensures put { OnOk result (text.new.items ≡ text.old.items ++ words.now) }
-    ensures room { OnOk result (vec_len text.new + LINE_ROOM ≤ vec_capacity text.new) }
+    ensures room { OnOk result (vec_len text.new + LINE_ROOM + 10 ≤ vec_capacity text.new) }
     ensures none { OnErr result (text.new.items ≡ text.old.items) }
 {
-    text.reserve(words.len() + LINE_ROOM)?;
+    text.reserve(words.len() + LINE_ROOM + SUM_ROOM)?;
     text.extend_from_slice(words).unwrap();
     Ok(())
 }
@@ -87,7 +93,7 @@ pub fn push_asked(
 ) -> Result<(), AllocError>
     ensures put { OnOk result (text.new.items
         ≡ text.old.items ++ (number session space ++ call_text (told call.now))) }
-    ensures room { OnOk result (vec_len text.new + LINE_ROOM ≤ vec_capacity text.new) }
+    ensures room { OnOk result (vec_len text.new + LINE_ROOM + 10 ≤ vec_capacity text.new) }
     ensures none { OnErr result (text.new.items ≡ text.old.items) }
 {
     line.clear();
@@ -131,6 +137,8 @@ pub fn push_reply(
     requires { CanBePut reply.now }
     ensures put { OnOk result (text.new.items ≡ text.old.items ++ reply_text id reply.now) }
     ensures room { vec_len text.old + LINE_ROOM ≤ vec_capacity text.old → IsOk result }
+    ensures few { OnOk result (vec_len text.new ≤ vec_len text.old + LINE_ROOM) }
+    ensures kept { vec_capacity text.old ≤ vec_capacity text.new }
 {
     if let Reply::Fetched(_) = reply {
         return push_line(text, b"fetched");
@@ -150,6 +158,8 @@ pub fn push_logged(
     requires { CanBePut reply.now }
     ensures put { OnOk result (text.new.items ≡ text.old.items ++ reply_text id reply.now) }
     ensures room { vec_len text.old + LINE_ROOM ≤ vec_capacity text.old → IsOk result }
+    ensures few { OnOk result (vec_len text.new ≤ vec_len text.old + LINE_ROOM) }
+    ensures kept { vec_capacity text.old ≤ vec_capacity text.new }
 {
     match reply.kept() {
         Some(reply) => push_reply(text, line, id, reply),
@@ -167,10 +177,32 @@ fn push_session(text: &mut Vec<u8>, session: usize) -> Result<(), AllocError>
     text.extend_from_slice(line.as_bytes())
 }
 
-/// Puts the lines of an entry.
-fn push_entry(text: &mut Vec<u8>, line: &mut ReplyLine, entry: &Entry) -> Result<(), AllocError>
+/// Puts the line of a sum.
+fn push_sum(text: &mut Vec<u8>, sum: u32) -> Result<(), AllocError>
+    ensures put { OnOk result (text.new.items ≡ text.old.items ++ sum_line sum) }
+    ensures room { vec_len text.old + 10 ≤ vec_capacity text.old → IsOk result }
+{
+    text.push(b'=')?;
+    text.extend_from_slice(&hex8_of(sum))?;
+    text.push(b'\n')?;
+    Ok(())
+}
+
+/// Puts the line of the sum of the entry of this number, whose lines begin there.
+pub fn push_sum_of(text: &mut Vec<u8>, begin: usize, number: u64) -> Result<(), AllocError>
+    requires { begin ≤ length text.old.items }
+    ensures put { OnOk result (text.new.items
+        ≡ text.old.items ++ sum_line (sum_at number (drop begin text.old.items))) }
+    ensures room { vec_len text.old + 10 ≤ vec_capacity text.old → IsOk result }
+{
+    let sum = sum_at(number, &text[begin..]);
+    push_sum(text, sum)
+}
+
+/// Puts the lines of an entry, but for that of its sum.
+fn push_told(text: &mut Vec<u8>, line: &mut ReplyLine, entry: &Entry) -> Result<(), AllocError>
     requires { CanBePut entry.now.reply }
-    ensures { OnOk result (text.new.items ≡ text.old.items ++ entry_text entry.now) }
+    ensures { OnOk result (text.new.items ≡ text.old.items ++ entry_lines entry.now) }
 {
     push_session(text, entry.session)?;
     let call = entry.call.told();
@@ -178,14 +210,29 @@ fn push_entry(text: &mut Vec<u8>, line: &mut ReplyLine, entry: &Entry) -> Result
     push_logged(text, line, id_of(call), &entry.reply)
 }
 
+/// Puts the lines of the entry of this number.
+fn push_entry(
+    text: &mut Vec<u8>,
+    line: &mut ReplyLine,
+    number: u64,
+    entry: &Entry,
+) -> Result<(), AllocError>
+    requires { CanBePut entry.now.reply }
+    ensures { OnOk result (text.new.items ≡ text.old.items ++ entry_text number entry.now) }
+{
+    let begin = text.len();
+    push_told(text, line, entry)?;
+    push_sum_of(text, begin, number)
+}
+
 /// Puts the lines of these entries.
 fn push_all(text: &mut Vec<u8>, history: &[Entry]) -> Result<(), AllocError>
     requires { All (λ e. CanBePut e.reply) history.now }
-    ensures { OnOk result (text.new.items ≡ text.old.items ++ flat_map entry_text history.now) }
+    ensures { OnOk result (text.new.items ≡ text.old.items ++ texts 0 history.now) }
 {
     let mut line = ReplyLine::new();
-    for entry in history {
-        push_entry(text, &mut line, entry)?;
+    for at in 0..history.len() {
+        push_entry(text, &mut line, at as u64, &history[at])?;
     }
     Ok(())
 }
@@ -194,7 +241,7 @@ fn push_all(text: &mut Vec<u8>, history: &[Entry]) -> Result<(), AllocError>
 /// it.
 pub fn push_history(text: &mut Vec<u8>, book: &Book) -> Result<(), AllocError>
     ensures { OnOk result
-        (text.new.items ≡ text.old.items ++ flat_map entry_text book.now.history) }
+        (text.new.items ≡ text.old.items ++ texts 0 book.now.history) }
 {
     // The shape is asked for only for its contract, which has the bounds of the rack.
     let _shape = book.opening().shape();

@@ -1,11 +1,10 @@
 -- What is recorded of the books that sessions leave is replayed to what these have.
-use Rattle.std.proofs.Common.{◌≡◌, ◌≢◌, ◌⊎◌, ℕ, zero, suc, ◌+◌, ◌-◌, ◌<◌, ◌≤◌, List, [], ◌∷◌, ◌++◌, append_assoc, length, map, All, Bool, true, false, nat_eq, Option, None, Some, refl, sym, ap, ◌∙◌, subst, arith, eqb-true, inl, inr}
+use Rattle.std.proofs.Common.{◌≡◌, ◌⊎◌, ℕ, zero, suc, ◌+◌, ◌-◌, ◌<◌, ◌≤◌, List, [], ◌∷◌, ◌++◌, append_assoc, append-nil, length, map, All, Bool, true, false, nat_eq, Option, None, Some, refl, sym, ap, ◌∙◌, subst, arith, eqb-true, inl, inr}
 use Rattle.std.specs.Prelude.{unwrap_or}
-use Rattle.std.specs.List.{AllByRecursion, flat_map, range_with_len, sum_by}
+use Rattle.std.specs.List.{AllByRecursion, range_with_len, sum_by}
 use Rattle.std.proofs.lemmas.Bool.{cases_lt, eqb-false}
-use Rattle.std.proofs.lemmas.Grind.{flat_map-append}
 use Rattle.std.proofs.lemmas.List.{append_cancel_left}
-use Rattle.std.proofs.lemmas.List.Elements.{All-append, All-cons, All-from_recursion, All-nil, recursion_from_All}
+use Rattle.std.proofs.lemmas.List.Elements.{All-append, All-cons, All-from_recursion, All-nil, All-weaker, recursion_from_All}
 use Rattle.std.proofs.lemmas.List.Sums.{sum_by-cons}
 use Rattle.batch.specs.Extent.{Extent, IsShape}
 use Rattle.batch.specs.ShapeText.{shape_text}
@@ -21,17 +20,19 @@ use Rattle.batch_book.proofs.Fronts.{front, starts, starts_same}
 use Rattle.batch_book.proofs.OneReplay.{shape_stays}
 use Rattle.exchange_limits.specs.declared.limits.TheConstants.{MAX_SESSIONS}
 use Rattle.rack_answers.specs.Openings.{IsOfImageOrZeros, IsRackOf}
-use Rattle.book_record.specs.RecordText.{entry_text, CanSay, CanTell}
-use Rattle.book_record.specs.Fronts.{end_line}
-use Rattle.book_record.specs.Heads.{AreNames, adler, head_of, session_limit, whole_text}
+use Rattle.book_record.specs.RecordText.{texts, CanSay, CanTell}
+use Rattle.book_record.specs.Fronts.{last_lines}
+use Rattle.book_record.specs.Heads.{AreNames, IsName, head_of, session_limit, whole_text}
+use Rattle.book_record.specs.Sums.{adler}
 use Rattle.book_record.proofs.Fronts.{each_front, split}
+use Rattle.book_record.proofs.OneReading.{end_is_no_entry}
+use Rattle.book_record.proofs.Streams.{texts_both}
 use Rattle.book_record.proofs.Sums.{sum_is_word}
-use Rattle.record_replay.specs.Replays.{IsRemade}
+use Rattle.record_replay.specs.Replays.{AreFewer, Ends, IsRemade}
 use Rattle.record_replay.specs.Fetched.{AreOfLines}
 use Rattle.record_replay.specs.SessionLaws.{SessionsAreTold, SessionsSay}
 use Rattle.record_replay.proofs.Cuts.{IsBelow, both_parts, replay_split}
 use Rattle.record_replay.proofs.Others.{no_others}
-use Rattle.record_replay.proofs.Recorded.{ended_so, its_record, no_names}
 use Rattle.record_replay.proofs.Written.{record_append}
 use Rattle.record_replay.specs.declared.answering.Torn.{Torn}
 use Rattle.record_replay.specs.ReplayAnswers.{led, replayed, IsShapeOf, IsTornSo}
@@ -162,106 +163,89 @@ record Made (limit : ℕ) (names : List (List ℕ)) (book : Account) (file : Lis
   rest : List ℕ
   remade : IsRemade limit body book.opening None front end rest
 
+-- a front of the last lines ends a record
+line_ends : (n : ℕ) (line missing : List ℕ) → last_lines n ≡ line ++ missing → Ends n line
+line_ends n line [] is = inl (sym (append-nil line) ∙ sym is)
+line_ends n line (b ∷ missing) is = inr (end_is_no_entry.0 n line (b ∷ missing) is (λ e. absurd cc))
+
+-- these entries are made again, and there their text ends
+made_again : (limit : ℕ) (opening : Store) (es : List Entry) (end : Machine) (rest : List ℕ) → All CanTell es → All (IsBelow limit) es → IsReplay (opened opening) es end → Ends (length es) rest → IsRemade limit (texts 0 es ++ rest) opening None es end rest
+made_again limit opening es end rest can below legal ends = record {
+  replayed = record { front = refl; each = can; sessions = below; replay = legal };
+  ends = inr (tt, ends);
+}
+
 -- the text of the entries that stand, and a front of that of the others
 cut_made : (limit : ℕ) (names : List (List ℕ)) (book : Account) (file : List ℕ) (waiting : List Entry) (rest missing : List ℕ) → book.history ≡ book.stands ++ waiting → All CanTell book.history → All (IsBelow limit) book.history → IsReplay (opened book.opening) book.history book.machine
-    → file ≡ record_of names book.opening book.stands ++ rest → flat_map entry_text waiting ≡ rest ++ missing → Made limit names book file
+    → file ≡ record_of names book.opening book.stands ++ rest → texts (length book.stands) waiting ≡ rest ++ missing → Made limit names book file
 cut_made limit names book file waiting rest missing are can below legal has cut =
     let head = head_of book.opening.shape (adler (image_of book.opening)) names in
-    let stands = flat_map entry_text book.stands in
-    let body = stands ++ rest in
+    let stands = texts 0 book.stands in
     let parts = both_parts CanTell book.stands waiting (subst (All CanTell) are can) in
-    let c = each_front waiting rest missing parts.1 cut in
+    let c = each_front (length book.stands) waiting rest missing parts.1 cut in
     let front = book.stands ++ c.whole in
     let all : book.history ≡ front ++ c.more = are ∙ ap (λ (l : List Entry). book.stands ++ l) c.are ∙ sym (append_assoc book.stands c.whole c.more) in
     let part = replay_split (opened book.opening) front c.more book.machine (subst (λ (l : List Entry). IsReplay (opened book.opening) l book.machine) all legal) in
+    let text : stands ++ rest ≡ texts 0 front ++ c.rest =
+    ap (λ (l : List ℕ). stands ++ l) c.read ∙ sym (append_assoc stands (texts (length book.stands) c.whole) c.rest) ∙ ap (λ (l : List ℕ). l ++ c.rest) (sym (texts_both book.stands c.whole)) in
     record {
-      body = body;
-      is = has ∙ append_assoc head stands rest;
+      body = texts 0 front ++ c.rest;
+      is = has ∙ append_assoc head stands rest ∙ ap (λ (l : List ℕ). head ++ l) text;
       front = front;
       has = starts book.stands front c.whole refl;
       first = starts front book.history c.more all;
       end = part.0;
       rest = c.rest;
-      remade = record {
-        replayed = record {
-          front = ap (λ (l : List ℕ). stands ++ l) c.read.front ∙ sym (append_assoc stands (flat_map entry_text c.whole) c.rest) ∙ ap (λ (l : List ℕ). l ++ c.rest) (sym (flat_map-append entry_text book.stands c.whole));
-          each = All-append CanTell book.stands c.whole parts.0 c.read.each;
-          sessions = (both_parts (IsBelow limit) front c.more (subst (All (IsBelow limit)) all below)).0;
-          replay = part.1;
-        };
-        ends = inr (
-          tt,
-          (
-            c.read.unfinished,
-            inr (record {
-              all = book.history;
-              end = book.machine;
-              each = can;
-              sessions = below;
-              replay = legal;
-              missing = missing;
-              cut = ap (flat_map entry_text) are ∙ flat_map-append entry_text book.stands waiting ∙ ap (λ (l : List ℕ). stands ++ l) cut ∙ sym (append_assoc stands rest missing);
-            }),
-          ),
-        );
-      };
+      remade =
+          made_again limit book.opening front part.0 c.rest (All-append CanTell book.stands c.whole parts.0 c.each)
+          (both_parts (IsBelow limit) front c.more (subst (All (IsBelow limit)) all below)).0 part.1 (inr c.torn);
     }
 
--- the text of all entries, and a front of the last line
+-- the text of all entries, and a front of the last lines
 ended_made : (limit : ℕ) (names : List (List ℕ)) (book : Account) (file line missing : List ℕ) → Starts book.stands book.history → All CanTell book.history → All (IsBelow limit) book.history → IsReplay (opened book.opening) book.history book.machine
-    → file ≡ record_of names book.opening book.history ++ line → end_line ≡ line ++ missing → Made limit names book file
+    → file ≡ record_of names book.opening book.history ++ line → last_lines (length book.history) ≡ line ++ missing → Made limit names book file
 ended_made limit names book file line missing stand can below legal has cut =
-    let head = head_of book.opening.shape (adler (image_of book.opening)) names in
-    let body = flat_map entry_text book.history ++ line in
     record {
-      body = body;
-      is = has ∙ append_assoc head (flat_map entry_text book.history) line;
+      body = texts 0 book.history ++ line;
+      is = has ∙ append_assoc (head_of book.opening.shape (adler (image_of book.opening)) names) (texts 0 book.history) line;
       front = book.history;
       has = stand;
       first = starts_same book.history book.history refl;
       end = book.machine;
       rest = line;
-      remade = ended_so limit book.opening book.history book.machine body line missing can below legal refl cut;
+      remade = made_again limit book.opening book.history book.machine line can below legal (line_ends (length book.history) line missing cut);
     }
 
 file_made : (limit : ℕ) (names : List (List ℕ)) (book : Account) (file : List ℕ) → Starts book.stands book.history → IsRecorded names book file → All CanTell book.history → All (IsBelow limit) book.history → IsReplay (opened book.opening) book.history book.machine → Made limit names book file
 file_made limit names book file stand r can below legal =
     let more = front book.stands book.history stand in
     let stands = record_of names book.opening book.stands in
-    let waiting = flat_map entry_text more.0 in
+    let waiting = texts (length book.stands) more.0 in
+    let last = last_lines (length book.history) in
     let all : record_of names book.opening book.history ≡ stands ++ waiting = ap (record_of names book.opening) more.1 ∙ record_append names book.opening book.stands more.0 in
-    let behind : waiting ++ end_line ≡ r.rest ++ r.missing =
-    append_cancel_left stands (waiting ++ end_line) (r.rest ++ r.missing)
-    (sym (append_assoc stands waiting end_line) ∙ ap (λ (l : List ℕ). l ++ end_line) (sym all) ∙ r.cut ∙ ap (λ (l : List ℕ). l ++ r.missing) r.has ∙ append_assoc stands r.rest r.missing) in
-    elim (split waiting end_line r.rest r.missing behind) [
+    let behind : waiting ++ last ≡ r.rest ++ r.missing =
+    append_cancel_left stands (waiting ++ last) (r.rest ++ r.missing)
+    (sym (append_assoc stands waiting last) ∙ ap (λ (l : List ℕ). l ++ last) (sym all) ∙ r.cut ∙ ap (λ (l : List ℕ). l ++ r.missing) r.has ∙ append_assoc stands r.rest r.missing) in
+    elim (split waiting last r.rest r.missing behind) [
       | inl ended ↦ ended_made limit names book file ended.0 r.missing stand can below legal (r.has ∙ ap (λ (l : List ℕ). stands ++ l) ended.1 ∙ sym (append_assoc stands waiting ended.0) ∙ ap (λ (l : List ℕ). l ++ ended.0) (sym all)) ended.2
       | inr cut ↦ cut_made limit names book file more.0 r.rest cut.0 more.1 can below legal r.has cut.2
     ]
 
 -- ---- the answer
 
--- two texts are the same, or they aren't
-same_first : (x y : ℕ) (a b : List ℕ) (t : Bool) → nat_eq x y ≡ t → (a ≡ b) ⊎ (a ≢ b) → (x ∷ a ≡ y ∷ b) ⊎ (x ∷ a ≢ y ∷ b)
-same_first x y a b true at (inl same) = inl (ap (λ (n : ℕ). n ∷ a) (eqb-true x y at) ∙ ap (λ (l : List ℕ). y ∷ l) same)
-same_first x y a b true at (inr other) = inr (λ e. let rest : a ≡ b = cc in other rest)
-same_first x y a b false at rest = inr (λ e. let first : x ≡ y = cc in eqb-false x y at first)
+torn_where : (file : List ℕ) (n : ℕ) (rest : List ℕ) → Ends n rest → (t : Option Torn) × IsTornSo file None n rest t
+torn_where file n rest (inl end) = (None, inr end)
+torn_where file n rest (inr torn) = (Some (record { entries = n; offset = length file - length rest }), (tt, torn, refl, refl))
 
-same_or_other : (a b : List ℕ) → (a ≡ b) ⊎ (a ≢ b)
-same_or_other [] [] = inl refl
-same_or_other [] (y ∷ b) = inr (λ e. absurd cc)
-same_or_other (x ∷ a) [] = inr (λ e. absurd cc)
-same_or_other (x ∷ a) (y ∷ b) = same_first x y a b (nat_eq x y) refl (same_or_other a b)
-
-torn_where : (file : List ℕ) (n : ℕ) (rest : List ℕ) → (t : Option Torn) × IsTornSo file None n rest t
-torn_where file n rest = elim (same_or_other rest end_line) [
-  | inl end ↦ (None, inr end)
-  | inr other ↦ (Some (record { entries = n; offset = length file - length rest }), (tt, other, refl, refl))
-]
+-- all were wanted
+all_wanted : (n : ℕ) (E : Type 0) → (None ≡ Some n) ⊎ (AreFewer n None × E) → E
+all_wanted n E (inl never) = absurd cc
+all_wanted n E (inr ends) = ends.1
 
 replayed_to : (shape : List ℕ) (image : Option (List ℕ)) (opening : Store) (names : List (List ℕ)) (file body : List ℕ) (es : List Entry) (end : Machine) (rest : List ℕ) → IsRackOf shape image opening → AreNames names (length names)
     → file ≡ head_of opening.shape (adler (image_of opening)) names ++ body → IsRemade (session_limit (length names)) body opening None es end rest → IsReplayedTo shape image opening es file
 replayed_to shape image opening names file body es end rest rack are is remade =
-    let torn = torn_where file (length es) rest in
+    let torn = torn_where file (length es) rest (all_wanted (length es) (Ends (length es) rest) remade.ends) in
     record {
       each = remade.replayed.each;
       end = end;
@@ -295,15 +279,22 @@ closing_replayed tell shape image loses was left parts text failed printed names
       replayed = replayed_to shape image left.opening names file made.body made.front made.end made.rest (subst (IsRackOf shape image) (sym one.is_opening) rack) names_are made.is made.remade;
     }
 
+no_names : AreNames [] 0
+no_names = record { count = refl; few = omega arith; each = All-nil IsName; apart = λ i j d less within. absurd (omega (arith, within)) }
+
+-- where none has a name, a record tells any session's entries
+any_session : (es : List Entry) → All CanTell es → All (IsBelow (session_limit 0)) es
+any_session es each = All-weaker CanTell (IsBelow (session_limit 0)) (λ e can. can.session) es each
+
 -- the same where entries are never lost, and the whole record is written at the end
 kept_replayed : SessionsAreTold → (shape : List ℕ) (image : Option (List ℕ)) (opening : Store) (parts : List Part) (text : List ℕ) (failed : Bool) (printed : Printed) (left : Account) (n : ℕ) → IsRackOf shape image opening
     → IsClosing false opening [] parts text failed printed left → map session_of parts ≡ range_with_len 0 n → n ≤ 1000000000 → OfLines parts → IsReplayedTo shape image left.opening left.history (whole_text left)
 kept_replayed tell shape image opening parts text failed printed left n rack closed numbers few say =
     let one = closed.one in
     let can = all_told tell false opening [] parts left n one (All-nil CanTell) numbers few say in
-    let body = flat_map entry_text left.history ++ end_line in
-    replayed_to shape image left.opening [] (whole_text left) body left.history left.machine end_line (subst (IsRackOf shape image) (sym one.is_opening) rack) no_names refl
-    (its_record (session_limit 0) left body refl can (all_led false opening [] parts left one) refl)
+    let last = last_lines (length left.history) in
+    replayed_to shape image left.opening [] (whole_text left) (texts 0 left.history ++ last) left.history left.machine last (subst (IsRackOf shape image) (sym one.is_opening) rack) no_names refl
+    (made_again (session_limit 0) left.opening left.history left.machine last can (any_session left.history can) (all_led false opening [] parts left one) (inl refl))
 
 -- ---- sessions
 

@@ -7,7 +7,8 @@ use Rattle.batch.specs.ShapeText.{shape_text}
 use Rattle.line_words.specs.HexWords.{IsWord}
 use Rattle.module_memory.specs.Images.{image_of}
 use Rattle.module_memory.specs.Store.{Store}
-use Rattle.book_record.specs.Heads.{AreNames, BeginsWithNoHead, adler, head_of, rack_line}
+use Rattle.book_record.specs.Heads.{AreNames, BeginsWithNoHead, head_of, rack_line}
+use Rattle.book_record.specs.Sums.{adler}
 use Rattle.book_record.proofs.Heads.{counted, one_head}
 use Rattle.book_record.proofs.Sums.{sum_is_word}
 use Rattle.record_replay.specs.ReplayAnswers.{HasHead, IsHeadDue, IsNoRecordOn, IsRecordOn, IsShapeOf}

@@ -6,7 +6,6 @@ mod Others
 mod Telling
 mod Turns
 pub mod Cuts
-pub mod Recorded
 pub mod Written
 mod OneReplay
 mod Heads

@@ -10,12 +10,13 @@ use Rattle.batch_book.specs.declared.entry.Entry.{Entry}
 use Rattle.book_record.specs.Untold.{told_entry}
 use Rattle.rack_answers.specs.Openings.{IsRackOf, IsWrongRack}
 use Rattle.rack_answers.proofs.Openings.{not_wrong_rack, one_rack, one_wrong_rack, rack_blocks}
-use Rattle.book_record.specs.Heads.{BeginsWithNoHead, adler, rack_line, session_limit}
+use Rattle.book_record.specs.Heads.{BeginsWithNoHead, rack_line, session_limit}
+use Rattle.book_record.specs.Sums.{adler}
 use Rattle.book_record.proofs.Heads.{one_head}
 use Rattle.book_record.proofs.Sums.{sum_is_word}
 use Rattle.record_replay.specs.declared.fault.RecordError.{RecordError}
 use Rattle.record_replay.specs.Replays.{IsRecordError}
-use Rattle.record_replay.proofs.Faults.{fewer_than, never_both, one_fault, one_remade}
+use Rattle.record_replay.proofs.Faults.{fewer_than, never_both, one_fault, one_remade, whole_there}
 use Rattle.refusals.specs.declared.refusal.Refusal.{Refusal}
 use Rattle.refusals.specs.declared.refusal.Refusal.TheVariants as refusal
 use Rattle.refusals.specs.Refusals.{refusal_words}
@@ -85,9 +86,9 @@ torn_of s t entries offset = ap (λ (n : ℕ). Some (torn_behind n t.offset)) (s
 same_torn : (recorded : List ℕ) (first : Option ℕ) (n m : ℕ) (x y : List ℕ) (s t : Option Torn) → n ≡ m → x ≡ y → IsTornSo recorded first n x s → IsTornSo recorded first m y t → t ≡ s
 same_torn recorded first n m x y None None long same a b = refl
 same_torn recorded first n m x y None (Some t) long same (inl all) b = absurd (let less = fewer_than m n first all b.0 in omega (arith, long, less))
-same_torn recorded first n m x y None (Some t) long same (inr end) b = absurd (b.1 (sym same ∙ end))
+same_torn recorded first n m x y None (Some t) long same (inr end) b = absurd (whole_there n y (sym same ∙ end) b.1)
 same_torn recorded first n m x y (Some s) None long same a (inl all) = absurd (let less = fewer_than n m first all a.0 in omega (arith, long, less))
-same_torn recorded first n m x y (Some s) None long same a (inr end) = absurd (a.1 (same ∙ end))
+same_torn recorded first n m x y (Some s) None long same a (inr end) = absurd (whole_there m x (same ∙ end) a.1)
 same_torn recorded first n m x y (Some s) (Some t) long same a b = torn_of s t (a.2 ∙ long ∙ sym b.2) (a.3 ∙ ap (λ (l : List ℕ). length recorded - length l) same ∙ sym b.3)
 
 -- an answer, and what is told beside it

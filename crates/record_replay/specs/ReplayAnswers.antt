@@ -1,5 +1,5 @@
 -- What `replay` answers.
-use Rattle.std.specs.Prelude.{◌≡◌, ◌≢◌, ◌⊎◌, ℕ, ◌+◌, ◌-◌, List, ◌++◌, length, Option, Some, None, option_map}
+use Rattle.std.specs.Prelude.{◌≡◌, ◌⊎◌, ℕ, ◌+◌, ◌-◌, List, ◌++◌, length, Option, Some, None, option_map}
 use Rattle.batch.specs.Extent.{Extent, IsShape}
 use Rattle.batch.specs.ShapeText.{shape_text}
 use Rattle.line_words.specs.HexWords.{IsWord}
@@ -7,8 +7,9 @@ use Rattle.module_memory.specs.Images.{image_of}
 use Rattle.module_memory.specs.Store.{Store}
 use Rattle.batch_book.specs.declared.entry.Entry.{Entry}
 use Rattle.batch_book.specs.Machine.{Machine}
-use Rattle.book_record.specs.Fronts.{end_line}
-use Rattle.book_record.specs.Heads.{AreNames, BeginsWithNoHead, IsHeadOf, adler, head_of, rack_line, session_limit}
+use Rattle.book_record.specs.Fronts.{IsTorn, last_lines}
+use Rattle.book_record.specs.Sums.{adler}
+use Rattle.book_record.specs.Heads.{AreNames, BeginsWithNoHead, IsHeadOf, head_of, rack_line, session_limit}
 use Rattle.record_replay.specs.declared.fault.RecordError.{RecordError}
 use Rattle.record_replay.specs.declared.fault.RecordFault.{RecordFault}
 use Rattle.record_replay.specs.declared.fault.RecordFault.TheVariants as record_fault
@@ -57,17 +58,18 @@ IsNoRecordOn opening recorded =
 -- the refusal of what is wrong with a record
 abbrev pub of_record : RecordFault → Refusal
 of_record record_fault.Head = refusal.RecordHead
+of_record (record_fault.Sum e) = refusal.RecordSum e
 of_record (record_fault.Call e) = refusal.RecordCall e
 of_record (record_fault.Reply e) = refusal.RecordReply e
 of_record record_fault.More = refusal.RecordMore
 of_record record_fault.NoMemory = refusal.NoMemory
 
--- what is told of a record that was torn off: behind so many entries, and where; nothing, where it
--- ends by its last line, or has all entries that are wanted
+-- what is told of a record that was torn off: after so many entries, and where; nothing, where it
+-- ends by its last lines, or has all entries that are wanted
 abbrev pub IsTornSo : List ℕ → Option ℕ → ℕ → List ℕ → Option Torn → Type 0
-IsTornSo recorded first entries rest None = (first ≡ Some entries) ⊎ (rest ≡ end_line)
+IsTornSo recorded first entries rest None = (first ≡ Some entries) ⊎ (rest ≡ last_lines entries)
 IsTornSo recorded first entries rest (Some torn) =
-    AreFewer entries first × (rest ≢ end_line) × (torn.entries ≡ entries)
+    AreFewer entries first × IsTorn rest × (torn.entries ≡ entries)
     × (torn.offset ≡ length recorded - length rest)
 
 -- the error of what stands behind the head, as it is told of the whole record

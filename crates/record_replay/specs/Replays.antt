@@ -1,7 +1,6 @@
 -- How far a record is right, and what is first wrong with it. The numbers of its sessions are below
 -- a limit, which its head says.
 use Rattle.std.specs.Prelude.{◌≡◌, ◌≢◌, ◌⊎◌, ℕ, ◌-◌, ◌<◌, ◌≤◌, List, [], ◌++◌, drop, length, All, Option, Some, None, option_map}
-use Rattle.std.specs.List.{flat_map}
 use Rattle.batch.specs.Text.{IsNumber, number, space}
 use Rattle.module_memory.specs.Store.{Store}
 use Rattle.schedule_certificate.specs.Plans.{Plan}
@@ -13,15 +12,17 @@ use Rattle.batch_book.specs.declared.reply.Reply.{Reply}
 use Rattle.batch_book.specs.History.{Account, IsGrown, IsReplay}
 use Rattle.batch_book.specs.Machine.{Machine, batch_of, opened, IsMachineStep}
 use Rattle.batch_book.specs.Told.{told}
-use Rattle.book_record.specs.RecordText.{id_of, call_text, reply_text, entry_text, CanSay, CanBeReplied, CanTell}
-use Rattle.book_record.specs.Fronts.{HasNoneBegun, IsUnfinished, end_line}
+use Rattle.book_record.specs.RecordText.{id_of, call_text, reply_text, entry_lines, texts, CanSay, CanBeReplied, CanTell}
+use Rattle.book_record.specs.Fronts.{IsDamaged, IsSummed, IsTorn, end_line, last_lines}
+use Rattle.book_record.specs.Reading.{BeginsWithNoEntry}
+use Rattle.book_record.specs.Sums.{sum_at, sum_line}
 use Rattle.record_replay.specs.declared.fault.EntryFault.{EntryFault}
 use Rattle.record_replay.specs.declared.fault.EntryFault.TheVariants as entry_fault
+use Rattle.record_replay.specs.declared.replaying.Next.{Next}
+use Rattle.record_replay.specs.declared.replaying.Next.TheVariants as next
 use Rattle.record_replay.specs.declared.fault.RecordError.{RecordError}
 use Rattle.record_replay.specs.declared.fault.RecordFault.{RecordFault}
-use Rattle.record_replay.specs.declared.fault.RecordFault.TheVariants.{Call as NoCall, NoMemory, Reply as OtherReply, More}
-use Rattle.record_replay.specs.declared.fault.Unmade.{Unmade}
-use Rattle.record_replay.specs.declared.fault.Unmade.TheVariants as unmade
+use Rattle.record_replay.specs.declared.fault.RecordFault.TheVariants.{Call as NoCall, Reply as OtherReply, Sum as OtherSum, More}
 
 -- ---- one entry
 
@@ -36,16 +37,16 @@ HasOwnPlanIn m session (Settle id plan) = IsPlanFor plan (batch_of m session id)
 HasOwnPlanIn m session call = Unit {0}
 
 -- the text begins with an entry that a record can tell, of a session below this, and the book has it
-pub record GoesOnBy (limit : ℕ) (old new : Account) (text rest : List ℕ) : Type 0 where
+pub record GoesOnBy (limit : ℕ) (old new : Account) (body : List ℕ) : Type 0 where
   pub entry : Entry
   pub can : CanTell entry
   pub below : entry.session < limit
   pub grown : IsGrown old entry.session entry.call entry.reply new
-  pub text_is : text ≡ entry_text entry ++ rest
+  pub body_is : body ≡ entry_lines entry
 
--- a call by a session below this stands there, and behind it neither the line of the reply that
--- comes, nor a front of it
-pub record IsOtherReply (limit : ℕ) (m : Machine) (text replied due : List ℕ) : Type 0 where
+-- a call by a session below this stands there, and behind it something else than the line of the
+-- reply that comes
+pub record IsOtherReply (limit : ℕ) (m : Machine) (body replied due : List ℕ) : Type 0 where
   pub session : ℕ
   pub call : Call
   pub reply : Reply
@@ -55,28 +56,16 @@ pub record IsOtherReply (limit : ℕ) (m : Machine) (text replied due : List ℕ
   pub can_say : CanSay (told call)
   pub can_reply : CanBeReplied reply
   pub step : IsMachineStep m session call reply next
-  pub asks : text ≡ number session space ++ (call_text (told call) ++ replied)
+  pub asks : body ≡ number session space ++ (call_text (told call) ++ replied)
   pub due_is : due ≡ reply_text (id_of (told call)) reply
-  pub differs : (rest : List ℕ) → replied ≢ due ++ rest
-  pub untorn : (missing : List ℕ) → due ≢ replied ++ missing
+  pub differs : replied ≢ due
 
--- an entry that comes begins so, and this isn't the whole of it
-pub record IsTornEntry (limit : ℕ) (m : Machine) (text : List ℕ) : Type 0 where
-  pub entry : Entry
-  pub can : CanTell entry
-  pub below : entry.session < limit
-  pub next : Machine
-  pub step : IsMachineStep m entry.session entry.call entry.reply next
-  pub missing : List ℕ
-  pub some : missing ≢ []
-  pub cut : entry_text entry ≡ text ++ missing
-
--- why no whole entry that comes stands in front
+-- why the lines of an entry, whose sum is right, aren't those of the one that comes
 abbrev pub IsEntryFault : ℕ → Machine → List ℕ → EntryFault → Type 0
-IsEntryFault limit m text (entry_fault.Reply replied due) =
-    IsOtherReply limit m text replied.now due.items
-IsEntryFault limit m text entry_fault.Torn = IsTornEntry limit m text
-IsEntryFault limit m text entry_fault.NoMemory = Unit {0}
+IsEntryFault limit m body entry_fault.Call = BeginsWithNoEntry limit body
+IsEntryFault limit m body (entry_fault.Reply replied due) =
+    IsOtherReply limit m body replied.now due.items
+IsEntryFault limit m body entry_fault.NoMemory = Unit {0}
 
 -- ---- the entries of a record
 
@@ -84,7 +73,7 @@ IsEntryFault limit m text entry_fault.NoMemory = Unit {0}
 -- machine, and then the rest
 pub record IsReplayed (limit : ℕ) (text : List ℕ) (opening : Store) (es : List Entry)
     (end : Machine) (rest : List ℕ) : Type 0 where
-  pub front : text ≡ flat_map entry_text es ++ rest
+  pub front : text ≡ texts 0 es ++ rest
   pub each : All CanTell es
   pub sessions : All (λ e. e.session < limit) es
   pub replay : IsReplay (opened opening) es end
@@ -94,63 +83,57 @@ abbrev pub AreFewer : ℕ → Option ℕ → Type 0
 AreFewer n None = Unit {0}
 AreFewer n (Some first) = n < first
 
--- the text is a front of that of entries of sessions below this, which are legal from this store
-pub record IsTornOff (limit : ℕ) (opening : Store) (text : List ℕ) : Type 0 where
-  pub all : List Entry
-  pub end : Machine
-  pub each : All CanTell all
-  pub sessions : All (λ e. e.session < limit) all
-  pub replay : IsReplay (opened opening) all end
-  pub missing : List ℕ
-  pub cut : flat_map entry_text all ≡ text ++ missing
+-- after so many entries the record ends: by its last lines, or since it was torn off
+abbrev pub Ends : ℕ → List ℕ → Type 0
+Ends n rest = (rest ≡ last_lines n) ⊎ IsTorn rest
 
--- the last line stands there, or a front of it
-abbrev pub BeginsEnd : List ℕ → Type 0
-BeginsEnd rest = (missing : List ℕ) × (end_line ≡ rest ++ missing)
-
--- The text ends there: no whole entry stands there. The last line does, or a front of it; or the
--- text was torn off.
-abbrev pub Ends : ℕ → Store → List ℕ → List ℕ → Type 0
-Ends limit opening text rest = IsUnfinished rest × (BeginsEnd rest ⊎ IsTornOff limit opening text)
-
--- All entries stand first that are wanted, or all that stand whole there, and the record ends behind
--- them.
+-- All entries stand first that are wanted, or all that stand there, and the record ends behind them.
 pub record IsRemade (limit : ℕ) (text : List ℕ) (opening : Store) (first : Option ℕ)
     (es : List Entry) (end : Machine) (rest : List ℕ) : Type 0 where
   pub replayed : IsReplayed limit text opening es end rest
-  pub ends : (first ≡ Some (length es))
-      ⊎ (AreFewer (length es) first × Ends limit opening text rest)
+  pub ends : (first ≡ Some (length es)) ⊎ (AreFewer (length es) first × Ends (length es) rest)
+
+-- how a record goes on after so many entries
+abbrev pub IsNext : ℕ → List ℕ → Next → Type 0
+IsNext n rest (next.Entry body more) = IsSummed n rest body.now more.now × (body.now ≢ end_line n)
+IsNext n rest next.End = Ends n rest
 
 -- ---- what is first wrong
 
--- no call by a session below this stands there, nor the last line, nor a front of either
-pub record IsNoCall (limit : ℕ) (rest : List ℕ) : Type 0 where
-  pub none : HasNoneBegun limit rest
-  pub no_end : (other : List ℕ) → rest ≢ end_line ++ other
-  pub unbegun : BeginsEnd rest → ⊥
-
--- what is wrong with a rest behind so many entries, where no whole one begins, as an error tells of it
-pub data IsWrongEnd (limit entries : ℕ) (text rest : List ℕ) (error : RecordError) : Type 0 where
-  no_call : IsNoCall limit rest → error.fault ≡ NoCall entries
+-- what is wrong there before a call is looked at, as an error tells of it
+pub data IsWrongNext (n : ℕ) (text rest : List ℕ) (error : RecordError) : Type 0 where
+  damaged_there : IsDamaged n rest → error.fault ≡ OtherSum n
       → error.offset ≡ length text - length rest → error.due ≡ None
-      → IsWrongEnd limit entries text rest error
-  more_behind : (more : List ℕ) → rest ≡ end_line ++ more → more ≢ [] → error.fault ≡ More
+      → IsWrongNext n text rest error
+  more_there : (more : List ℕ) → rest ≡ last_lines n ++ more → more ≢ [] → error.fault ≡ More
       → error.offset ≡ length text - length more → error.due ≡ None
-      → IsWrongEnd limit entries text rest error
+      → IsWrongNext n text rest error
+
+-- What is wrong after so many entries, which led to this machine, with what follows them; where that
+-- stands, and the line that is due there.
+pub data IsWrongAt (limit n : ℕ) (m : Machine) (last : List ℕ) (fault : RecordFault)
+    (rest : List ℕ) (due : Option (List ℕ)) : Type 0 where
+  damaged : IsDamaged n last → fault ≡ OtherSum n → rest ≡ last → due ≡ None
+      → IsWrongAt limit n m last fault rest due
+  no_call : (body more : List ℕ) → IsSummed n last body more → BeginsWithNoEntry limit body
+      → body ≢ end_line n → fault ≡ NoCall n → rest ≡ last → due ≡ None
+      → IsWrongAt limit n m last fault rest due
+  other_reply : (body more replied line : List ℕ) → IsSummed n last body more
+      → IsOtherReply limit m body replied line → fault ≡ OtherReply n
+      → rest ≡ replied ++ (sum_line (sum_at n body) ++ more) → due ≡ Some line
+      → IsWrongAt limit n m last fault rest due
+  more_after : last ≡ last_lines n ++ rest → rest ≢ [] → fault ≡ More → due ≡ None
+      → IsWrongAt limit n m last fault rest due
 
 -- what is first wrong with the entries, what stands there, and the line that is due there
-pub data IsRecordFault (limit : ℕ) (text : List ℕ) (opening : Store) (first : Option ℕ)
+pub record IsRecordFault (limit : ℕ) (text : List ℕ) (opening : Store) (first : Option ℕ)
     (fault : RecordFault) (rest : List ℕ) (due : Option (List ℕ)) : Type 0 where
-  call : (es : List Entry) (end : Machine) → IsReplayed limit text opening es end rest
-      → AreFewer (length es) first → IsNoCall limit rest → fault ≡ NoCall (length es)
-      → due ≡ None → IsRecordFault limit text opening first fault rest due
-  reply : (es : List Entry) (end : Machine) (last line : List ℕ)
-      → IsReplayed limit text opening es end last → AreFewer (length es) first
-      → IsOtherReply limit end last rest line → fault ≡ OtherReply (length es) → due ≡ Some line
-      → IsRecordFault limit text opening first fault rest due
-  more : (es : List Entry) (end : Machine) → IsReplayed limit text opening es end (end_line ++ rest)
-      → AreFewer (length es) first → rest ≢ [] → fault ≡ More → due ≡ None
-      → IsRecordFault limit text opening first fault rest due
+  pub es : List Entry
+  pub end : Machine
+  pub last : List ℕ
+  pub replayed : IsReplayed limit text opening es end last
+  pub fewer : AreFewer (length es) first
+  pub wrong : IsWrongAt limit (length es) end last fault rest due
 
 -- the same, where the error tells how many bytes stand before it
 pub record IsRecordError (limit : ℕ) (text : List ℕ) (opening : Store) (first : Option ℕ)
@@ -158,25 +141,3 @@ pub record IsRecordError (limit : ℕ) (text : List ℕ) (opening : Store) (firs
   pub within : error.offset ≤ length text
   pub wrong : IsRecordFault limit text opening first error.fault (drop error.offset text)
       (option_map (λ line. line.items) error.due)
-
--- ---- where an entry was torn off
-
--- Behind so many whole entries, which are fewer than are wanted, the text was torn off.
-pub record IsTornBehind (limit : ℕ) (text : List ℕ) (opening : Store) (first : Option ℕ)
-    (entries : ℕ) : Type 0 where
-  pub es : List Entry
-  pub end : Machine
-  pub rest : List ℕ
-  pub replayed : IsReplayed limit text opening es end rest
-  pub counted : length es ≡ entries
-  pub fewer : AreFewer entries first
-  pub unfinished : IsUnfinished rest
-  pub torn : IsTornOff limit opening text
-
--- why entries weren't made again: the text was torn off within one, whose call was made; or
--- something is wrong
-abbrev pub IsUnmade : ℕ → List ℕ → Store → Option ℕ → Unmade → Type 0
-IsUnmade limit text opening first (unmade.Torn entries rack) =
-    (rack ≡ opening) × IsTornBehind limit text opening first entries
-IsUnmade limit text opening first (unmade.Wrong error) =
-    error.fault ≢ NoMemory → IsRecordError limit text opening first error

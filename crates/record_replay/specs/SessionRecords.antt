@@ -1,16 +1,16 @@
 -- What the laws state. Contracts of `kept_sessions` cite `IsRecorded`; of the rest no contract of a
 -- call cites any.
 use Rattle.std.specs.Prelude.{◌≡◌, ℕ, ◌^◌, ◌<◌, ◌≤◌, Bool, List, ◌++◌, length, All, Option, None, Some}
-use Rattle.std.specs.List.{flat_map}
 use Rattle.batch.specs.declared.limits.TheConstants.{MAX_DIGITS}
 use Rattle.module_memory.specs.Images.{image_of}
 use Rattle.module_memory.specs.Store.{Store}
 use Rattle.batch_book.specs.declared.entry.Entry.{Entry}
 use Rattle.batch_book.specs.History.{Account, IsReplay, Starts}
 use Rattle.batch_book.specs.Machine.{Machine, opened}
-use Rattle.book_record.specs.RecordText.{CanTell, entry_text}
-use Rattle.book_record.specs.Fronts.{end_line}
-use Rattle.book_record.specs.Heads.{AreNames, adler, head_of, session_limit, whole_text}
+use Rattle.book_record.specs.RecordText.{CanTell, texts}
+use Rattle.book_record.specs.Fronts.{last_lines}
+use Rattle.book_record.specs.Sums.{adler}
+use Rattle.book_record.specs.Heads.{AreNames, head_of, session_limit, whole_text}
 use Rattle.book_record.specs.Streams.{IsWritten}
 use Rattle.rack_answers.specs.Openings.{IsRackOf}
 use Rattle.record_replay.specs.ReplayAnswers.{IsReplayPrinted}
@@ -67,7 +67,7 @@ pub record CanGoOn (clients : ℕ) (was : Account) : Type 0 where
 -- the head of a record, by clients of these names, and these entries
 abbrev pub record_of : List (List ℕ) → Store → List Entry → List ℕ
 record_of names opening es =
-    head_of opening.shape (adler (image_of opening)) names ++ flat_map entry_text es
+    head_of opening.shape (adler (image_of opening)) names ++ texts 0 es
 
 -- A file has at least the entries of this book that stand where they belong. Wherever it was cut, it
 -- is a front of the whole record.
@@ -75,10 +75,11 @@ pub record IsRecorded (names : List (List ℕ)) (book : Account) (file : List �
   pub rest : List ℕ
   pub has : file ≡ record_of names book.opening book.stands ++ rest
   pub missing : List ℕ
-  pub cut : record_of names book.opening book.history ++ end_line ≡ file ++ missing
+  pub cut :
+      record_of names book.opening book.history ++ last_lines (length book.history) ≡ file ++ missing
 
 -- An exchange over one book left the other. A stream's writer held the record so far, and has got
--- the rest. So it is with what it holds; and where all entries stand, a front of the last line may
+-- the rest. So it is with what it holds; and where all entries stand, a front of the last lines may
 -- follow.
 abbrev pub StreamIsRecorded : Type 0
 StreamIsRecorded =
@@ -86,8 +87,8 @@ StreamIsRecorded =
     → IsWritten (Some (record_of names was.opening was.history)) (Some text) was.history left.stands
     left.history left.whole
     → IsRecorded names left text
-    × (left.stands ≡ left.history → (end missing : List ℕ) → end_line ≡ end ++ missing
-    → IsRecorded names left (text ++ end))
+    × (left.stands ≡ left.history → (end missing : List ℕ)
+    → last_lines (length left.history) ≡ end ++ missing → IsRecorded names left (text ++ end))
 
 -- that of the clients of a host
 abbrev pub HostIsReplayed : Type 0

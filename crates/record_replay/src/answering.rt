@@ -5,11 +5,11 @@ ghost use Rattle.plan_answers.specs.Answers.{IsOnly};
 ghost use Rattle.plan_answers.specs.Lent.{bytes_of};
 ghost use Rattle.plan_answers.specs.Refusals.{Refuses};
 ghost use Rattle.book_record.specs.Heads.{BeginsWithNoHead};
-ghost use Rattle.record_replay.specs.Replays.{AreFewer};
+ghost use Rattle.record_replay.specs.Replays.{AreFewer, Ends};
 ghost use Rattle.record_replay.specs.ReplayAnswers.{IsBehindHead, IsHeadDue, IsNoRecordOn, IsOnlyTold, IsRecordAnswer, IsRecordOn, IsReplayAnswer, IsReplayPrinted, IsShapeOf, IsTornSo, RefusesHead, of_record};
 
 use crate::{RecordError, RecordFault, replay};
-use book_record::{is_ended, rack_line, read_head, session_limit, sum_of};
+use book_record::{is_torn, rack_line, read_head, session_limit, sum_of};
 use exchange_limits::WorkerCount;
 use module_memory::Rack;
 use plan_answers::Answer;
@@ -39,11 +39,12 @@ pub struct Replayed {
 }
 
 /// The refusal of what is wrong with a record.
-fn refusal_of(fault: RecordFault) -> Refusal
+pub fn refusal_of(fault: RecordFault) -> Refusal
     ensures { result ≡ of_record fault }
 {
     match fault {
         RecordFault::Head => Refusal::RecordHead,
+        RecordFault::Sum(e) => Refusal::RecordSum(e),
         RecordFault::Call(e) => Refusal::RecordCall(e),
         RecordFault::Reply(e) => Refusal::RecordReply(e),
         RecordFault::More => Refusal::RecordMore,
@@ -153,10 +154,10 @@ fn behind_head(head: usize, error: RecordError) -> RecordError
 /// Where a record was torn off behind these entries: nowhere, where it ends by its last line, or
 /// has all entries that are wanted.
 fn torn_at(recorded: &[u8], first: Option<usize>, entries: usize, rest: &[u8]) -> Option<Torn>
-    requires { (first ≡ Some entries) ⊎ AreFewer entries first }
+    requires { (first ≡ Some entries) ⊎ (AreFewer entries first × Ends entries rest.now) }
     ensures { IsTornSo recorded.now first entries rest.now result }
 {
-    if first == Some(entries) || is_ended(rest) {
+    if first == Some(entries) || !is_torn(rest) {
         return None;
     }
     Some(Torn {

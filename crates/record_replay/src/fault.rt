@@ -1,15 +1,13 @@
-use module_memory::Rack;
 use std::alloc::AllocError;
 use thiserror::Error;
 
-/// Why no whole entry stands in front of a text that is the one that comes.
+/// Why the lines of an entry aren't those of the one that comes.
 #[derive(Drop)]
 pub(crate) enum EntryFault<'a> {
-    /// This stands behind the call, and neither begins with this line, which is that of its reply,
-    /// nor is it a front of that.
+    /// No call stands there.
+    Call,
+    /// This stands behind the call, and not this line, which is that of its reply.
     Reply(&'a [u8], Vec<u8>),
-    /// The text is a front of the one that comes.
-    Torn,
     /// There was no memory.
     NoMemory,
 }
@@ -31,7 +29,10 @@ pub enum RecordFault {
     /// Its head isn't that of the rack, or there is none.
     #[error("head")]
     Head,
-    /// No call stands where that of this entry should, nor the last line, nor a front of either.
+    /// The sum of this entry isn't that of its number and its lines.
+    #[error("sum {0}")]
+    Sum(usize),
+    /// No call stands where that of this entry should, nor the last line.
     #[error("call {0}")]
     Call(usize),
     /// The reply of this entry isn't the one that comes.
@@ -69,28 +70,5 @@ impl From<AllocError> for RecordError {
             offset: 0,
             due: None,
         }
-    }
-}
-
-/// Why the entries of a record aren't made again.
-#[derive(Drop)]
-pub(crate) enum Unmade {
-    /// It was torn off behind so many entries, within one whose call was made. Its rack was this.
-    Torn(usize, Rack),
-    /// Something is wrong, or there was no memory.
-    Wrong(RecordError),
-}
-
-impl From<AllocError> for Unmade {
-    ghost use Rattle.std.specs.Prelude.{◌≡◌};
-    ghost use Rattle.record_replay.specs.declared.fault.RecordFault.TheVariants.{NoMemory};
-    ghost use Rattle.record_replay.specs.declared.fault.RecordError.{RecordError};
-    ghost use Rattle.record_replay.specs.declared.fault.Unmade.TheVariants.{Wrong};
-
-    ghost from_gives = { λ _ gives. (error : RecordError) × (gives ≡ Wrong error)
-        × (error.fault ≡ NoMemory) };
-
-    fn from(error: AllocError) -> Unmade {
-        Unmade::Wrong(RecordError::from(error))
     }
 }

@@ -55,6 +55,7 @@ refusal_words refusal.Shape = codes "shape"
 refusal_words (refusal.Image is wanted) = codes "image " ++ two_numbers is wanted
 refusal_words (refusal.Overlap i j) = codes "overlap " ++ two_numbers i j
 refusal_words refusal.RecordHead = codes "record head"
+refusal_words (refusal.RecordSum e) = codes "record sum " ++ decimal e
 refusal_words (refusal.RecordCall e) = codes "record call " ++ decimal e
 refusal_words (refusal.RecordReply e) = codes "record reply " ++ decimal e
 refusal_words refusal.RecordMore = codes "record more"

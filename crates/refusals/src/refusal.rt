@@ -67,6 +67,9 @@ pub enum Refusal {
     Overlap(usize, usize),
     /// `record head`: the record doesn't begin as one of this rack, these words and these clients.
     RecordHead,
+    /// `record sum E`: the sum of this entry, or of the end in its place, isn't that of its number
+    /// and its lines.
+    RecordSum(usize),
     /// `record call E`: no call stands where that of this entry should.
     RecordCall(usize),
     /// `record reply E`: another line than that of the call's reply stands in this entry.
@@ -256,6 +259,7 @@ impl Refusal {
             Refusal::Image { is, wanted } => put_two(line, b"image ", is, wanted),
             Refusal::Overlap(i, j) => put_two(line, b"overlap ", i, j),
             Refusal::RecordHead => line.put(b"record head"),
+            Refusal::RecordSum(e) => line.put_numbered(b"record sum ", e),
             Refusal::RecordCall(e) => line.put_numbered(b"record call ", e),
             Refusal::RecordReply(e) => line.put_numbered(b"record reply ", e),
             Refusal::RecordMore => line.put(b"record more"),

@@ -1,5 +1,5 @@
 use Rattle.std.proofs.Common.{◌≡◌, ◌<◌, drop}
-use Rattle.book_record.specs.Heads.{sums, adler}
+use Rattle.book_record.specs.Sums.{adler, sums}
 use Rattle.book_record.proofs.sum.sum_of.Given as goal
 
 abbrev pub invariant-loop-byte : goal.invariant-loop-byte

@@ -1,12 +1,13 @@
-use Rattle.std.proofs.Common.{ℕ, ap, length, refl, rules, subst, sym}
+use Rattle.std.proofs.Common.{◌≡◌, ◌⊎◌, ℕ, Some, ap, length, refl, rules, subst, sym}
 use Rattle.plan_answers.specs.Refusals.{Refuses}
 use Rattle.refusals.specs.declared.refusal.Refusal.{Refusal}
 use Rattle.record_replay.specs.ReplayAnswers.{IsTornSo, led, of_record, record_wrong}
-use Rattle.record_replay.proofs.Entries.{fewer_or_all}
+use Rattle.record_replay.specs.Replays.{AreFewer, Ends}
 use Rattle.record_replay.proofs.answering.answer_record.Goals as goal
 
 pub torn_at-requires : goal.torn_at-requires
-torn_at-requires g c = fewer_or_all c.args.first (length c.in-Ok.remade.book.history) c.in-Ok.remade.entries _ c.in-Ok.ensures.counted c.in-Ok.ensures.remade.ends
+torn_at-requires g c =
+    subst (λ (n : ℕ). (c.args.first ≡ Some n) ⊎ (AreFewer n c.args.first × Ends n c.in-Ok.remade.rest.now)) c.in-Ok.ensures.counted c.in-Ok.ensures.remade.ends
 
 pub returns-in_ok-image-in-Ok : goal.returns-in_ok-image-in-Ok
 returns-in_ok-image-in-Ok g c =

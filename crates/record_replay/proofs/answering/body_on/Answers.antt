@@ -1,6 +1,6 @@
 use Rattle.std.proofs.Common.{◌∙◌, ap, sym}
 use Rattle.module_memory.proofs.Blocks.{all_blocks}
-use Rattle.book_record.specs.Heads.{adler}
+use Rattle.book_record.specs.Sums.{adler}
 use Rattle.record_replay.proofs.Heads.{no_record, other_record, same_shape}
 use Rattle.record_replay.proofs.answering.body_on.Goals.{then-ne-via-then-ne, then-ne-via-else-ne+then-sum-sum_of}
 use Rattle.record_replay.proofs.answering.body_on.Goals as goal

@@ -1,5 +1,6 @@
 use Rattle.std.proofs.Common.{◌∙◌, ap}
-use Rattle.book_record.specs.Heads.{adler, rack_line}
+use Rattle.book_record.specs.Heads.{rack_line}
+use Rattle.book_record.specs.Sums.{adler}
 use Rattle.book_record.proofs.Heads.{few_number}
 use Rattle.record_replay.proofs.Heads.{line_due}
 use Rattle.record_replay.proofs.answering.head_due.Goals as goal

@@ -1,0 +1,123 @@
+//! What stands in front of a text of a record, by the lines of sums.
+
+ghost use Rattle.std.specs.Prelude.{◌≡◌, ◌≤◌, ◌+◌, ◌++◌, ◌∷◌, ◌↔◌, ℕ, All, IfSome, IfNone, IsTrue, length};
+ghost use Rattle.batch.specs.Text.{line_feed};
+ghost use Rattle.client_session.specs.Bytes.{HasNoFeed};
+ghost use Rattle.line_words.specs.declared.limits.TheConstants.{LINE_ROOM};
+ghost use Rattle.book_record.specs.Fronts.{StandsInFront, IsLineByte, IsTorn, IsUnfinished, end_line, last_lines};
+ghost use Rattle.book_record.specs.Sums.{HasNoMark, sum_mark, numbered};
+
+use crate::sum::{sum_at, sum_line};
+use batch::position_of;
+use line_words::{Line, behind, hex8_of};
+
+/// What stands in front of a text of a record.
+#[derive(Drop)]
+pub enum Front<'a> {
+    /// These lines, after which their sum stands, and the rest.
+    Whole(&'a [u8], &'a [u8]),
+    /// Other bytes: another sum, or what no line has.
+    Damaged,
+    /// No sum: the text was torn off.
+    Torn,
+}
+
+/// What stands before the first sum, that sum's line without its mark and its line feed, and what
+/// follows it.
+fn parts(text: &[u8]) -> Option<(&[u8], &[u8], &[u8])>
+    ensures some { IfSome result (λ x. HasNoMark x.0.now × HasNoFeed x.1.now
+        × (text.now ≡ x.0.now ++ sum_mark ∷ (x.1.now ++ line_feed ∷ x.2.now))) }
+    ensures none { IfNone result (IsUnfinished text.now) }
+{
+    let at = position_of(text, b'=')?;
+    let after = &text[at + 1..];
+    let end = position_of(after, b'\n')?;
+    Some((&text[..at], &after[..end], &after[end + 1..]))
+}
+
+/// Whether lines of a record have this byte.
+fn is_line_byte(byte: &u8) -> bool
+    ensures { IsTrue result ↔ IsLineByte byte.now }
+{
+    let byte = *byte;
+    byte == b'\n' || (byte >= b' ' && byte <= b'~')
+}
+
+/// Whether each byte is one that lines of a record have.
+fn is_lined(text: &[u8]) -> bool
+    ensures { IsTrue result ↔ All IsLineByte text.now }
+{
+    text.iter().all(is_line_byte)
+}
+
+/// Whether no line of a sum ends there, right or wrong.
+fn is_unfinished(text: &[u8]) -> bool
+    ensures { IsTrue result ↔ IsUnfinished text.now }
+{
+    parts(text).is_none()
+}
+
+/// Whether a record was torn off there. Takes time by the bytes.
+pub fn is_torn(text: &[u8]) -> bool
+    ensures { IsTrue result ↔ IsTorn text.now }
+{
+    is_unfinished(text) && is_lined(text)
+}
+
+/// What a text is in which no line of a sum ends.
+fn unsummed<'a>(text: &[u8]) -> Front<'a>
+    requires { IsUnfinished text.now }
+    ensures { (n : ℕ) → StandsInFront n text.now result }
+{
+    if is_lined(text) {
+        return Front::Torn;
+    }
+    Front::Damaged
+}
+
+/// What stands in front of a text that so many entries stand before.
+pub fn read_front(text: &[u8], number: u64) -> Front<'_>
+    ensures { StandsInFront number text.now result }
+{
+    let Some((lines, sum, rest)) = parts(text) else {
+        return unsummed(text);
+    };
+    let due = hex8_of(sum_at(number, lines));
+    if sum == due.as_slice() {
+        return Front::Whole(lines, rest);
+    }
+    Front::Damaged
+}
+
+/// The line that ends a record of so many entries.
+fn end_line(entries: u64) -> Line
+    ensures line { (n : ℕ) → entries ≡ numbered n → result ≡ end_line n }
+    ensures room { length result + 10 ≤ LINE_ROOM }
+{
+    let mut line = Line::new();
+    line.put(b"end ");
+    line.put_number(entries);
+    line.put(b"\n");
+    line
+}
+
+/// Whether this is the line that ends a record of so many entries.
+pub fn is_end(lines: &[u8], entries: u64) -> bool
+    ensures { (n : ℕ) → entries ≡ numbered n → IsTrue result ↔ (lines.now ≡ end_line n) }
+{
+    if behind(lines, b"end ").is_none() {
+        return false;
+    }
+    let line = end_line(entries);
+    lines == line.as_bytes()
+}
+
+/// The last lines of a record of so many entries.
+pub fn last_lines(entries: u64) -> Line
+    ensures { (n : ℕ) → entries ≡ numbered n → result ≡ last_lines n }
+{
+    let mut line = end_line(entries);
+    let sum = sum_line(sum_at(entries, line.as_bytes()));
+    line.put(sum.as_bytes());
+    line
+}
