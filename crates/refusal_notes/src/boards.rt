@@ -1,8 +1,7 @@
 //! What is told of a transfer that needs a module, or a link, that a board hasn't.
 
-use crate::lines::{line_at, number_at};
-use crate::pieces::TextLine;
-use crate::told::Note;
+use crate::lines::{entry_line, line_at, number_at};
+use crate::told::{Note, TextLine};
 use board_wiring::{WiredModule, read_wiring};
 use refusals::Refusal;
 use std::fmt::{self, Formatter, Write};
@@ -18,34 +17,25 @@ fn leaves_out(on: &WiredModule, link: usize) -> bool {
     }
 }
 
-/// Writes which module of a transfer a board hasn't, or else which link of one.
-pub(crate) fn write_missing<W: Write>(
-    f: &mut Formatter<W>,
-    note: Note<'_>,
-    t: usize,
-) -> fmt::Result {
-    let (list, wiring, number) = (note.texts.list, note.texts.wiring, t.saturating_add(2));
-    let board = read_wiring(wiring.text).or(Err(fmt::Error))?;
-    let line = line_at(list.text, number);
-    let place = TextLine(list, number.saturating_add(note.above));
-    for (word, link) in ENDS {
-        let Some(module) = number_at(line, word) else {
-            continue;
-        };
-        let at = board.modules().iter().position(|on| on.number == module);
-        match (note.refusal, at) {
-            (Refusal::NoModule(_), None) => {
-                return write!(f, "{place}: module {module}; {wiring} doesn't have it");
+impl<'a> Note<'a> {
+    /// Writes which module of a transfer a board hasn't, or else which link of one.
+    #[rattlefmt::skip]
+    pub(crate) fn write_missing<W: Write>(&self, f: &mut Formatter<W>, t: usize) -> fmt::Result {
+        let (wiring, place) = (self.texts.wiring, self.line_of(t));
+        let board = read_wiring(wiring.text).or(Err(fmt::Error))?;
+        let line = line_at(self.texts.list.text, entry_line(t));
+        for (word, link) in ENDS {
+            let module = number_at(line, word).ok_or(fmt::Error)?;
+            let at = board.modules().iter().position(|on| on.number == module);
+            match (self.refusal, at) {
+                (Refusal::NoModule(_), None) =>
+                    return write!(f, "{place}: module {module}; {wiring} doesn't have it"),
+                (Refusal::NoLink(_), Some(k)) if leaves_out(&board.modules()[k], link) =>
+                    return write!(f, "{place}: link {link} of module {module}; {} leaves it out",
+                        TextLine(wiring, entry_line(k))),
+                _ => {}
             }
-            (Refusal::NoLink(_), Some(k)) if leaves_out(&board.modules()[k], link) => {
-                let at = TextLine(wiring, k + 2);
-                return write!(
-                    f,
-                    "{place}: link {link} of module {module}; {at} leaves it out"
-                );
-            }
-            _ => {}
         }
+        Err(fmt::Error)
     }
-    Err(fmt::Error)
 }

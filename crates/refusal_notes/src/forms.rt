@@ -1,122 +1,129 @@
-//! The forms that lines may have, and their English.
+//! The forms that lines may have, in English, and where a line stops being of one.
+//!
+//! A form stands between two backticks. A space stands between its words. A word of one letter, or
+//! `ID`, is a number; but `A` and `D` are eight hexadecimal digits each, and `U` is more numbers,
+//! or none, up to the line's end. `at_A` and `at_B` are `at` and a number, or `none`. Each other
+//! word is itself.
 
-use Part::{Hex8, Many, Numbers, Port, Words};
+use batch::number_from_digits;
 use std::fmt::{self, Display, Formatter, Write};
 
-/// A part of a form. A space stands before each but the first, and before each number.
+/// What has to stand at a byte of a line.
 #[derive(Clone, Copy)]
-pub(crate) enum Part {
-    /// These words.
-    Words(&'static str),
-    /// These words, and a number for each of the names.
-    Numbers(&'static str, &'static str),
-    /// This word, and one number or more, of these names.
-    Many(&'static str, &'static str),
-    /// Eight hexadecimal digits of this name.
-    Hex8(&'static str),
-    /// These words, and `at` with a number of this name, or `none`.
-    Port(&'static str, &'static str),
+pub(crate) enum Due {
+    /// This byte.
+    Byte(u8),
+    /// A number.
+    Number,
+    /// Eight hexadecimal digits.
+    Hex8,
+    /// The line's end.
+    End,
 }
 
-/// A form, and what is told behind it.
-pub(crate) type Form = (&'static [Part], &'static str);
+/// Where a line stops being of a form: what has to stand there, and what does from there on.
+pub(crate) type Stop<'a> = (Due, &'a [u8]);
 
-/// The first line of a batch.
-pub(crate) const BATCH: &[Form] = &[(&[Numbers("batch", "N")], ", where N counts the transfers")];
-
-/// The first line of a text of moves.
-pub(crate) const MOVES: &[Form] = &[(&[Numbers("moves", "N")], ", where N counts the moves")];
-
-/// The first line of a schedule.
-pub(crate) const SETTINGS: &[Form] = &[(
-    &[Numbers("settings", "S")],
-    ", where S counts the settings",
-)];
-
-/// The first line of a wiring.
-pub(crate) const WIRING: &[Form] = &[(
-    &[Numbers("wiring", "N")],
-    ", where N counts the modules, 1 to 16",
-)];
-
-/// The line of a transfer.
-pub(crate) const TRANSFER: &[Form] = &[
-    (&[Numbers("push", "I b R c")], " or "),
-    (&[Numbers("pull", "I b R c")], ""),
-];
-
-/// The line of a move.
-pub(crate) const MOVE: &[Form] = &[(&[Numbers("move", "M b N c")], "")];
-
-/// The line of a setting.
-pub(crate) const SETTING: &[Form] = &[
-    (
-        &[Many("setting", "T U ..")],
-        ", where T, U .. are transfers, or ",
-    ),
-    (&[Words("setting")], " alone"),
-];
-
-/// The line of a module.
-pub(crate) const MODULE: &[Form] = &[(
-    &[
-        Numbers("module", "M"),
-        Port("link 0", "A"),
-        Port("link 3", "B"),
-    ],
-    ", where M rises from line to line up to 15, A and B are 0 to 31, each used once, and \"none\" may replace \"at A\" or \"at B\"",
-)];
-
-/// The link of a certificate.
-pub(crate) const BUSIEST: &[Form] = &[
-    (
-        &[Numbers("busiest link", "E"), Numbers("module", "M")],
-        ", where E is 0 or 3 and M 0 to 31, or ",
-    ),
-    (&[Words("busiest none")], ""),
-];
-
-/// The transfers of a certificate.
-pub(crate) const NAMED: &[Form] = &[(
-    &[Many("named", "T U ..")],
-    ", where T, U .. are transfers, one at least",
-)];
-
-/// The lines of a session.
-pub(crate) const SENT: &[Form] = &[
-    (&[Numbers("batch", "N")], " and the batch's lines, "),
-    (&[Numbers("plan", "ID")], ", "),
-    (&[Numbers("run", "ID")], ", "),
-    (&[Numbers("show", "ID")], ", "),
-    (&[Numbers("drop", "ID")], ", "),
-    (&[Numbers("peek", "M"), Hex8("A")], ", "),
-    (&[Numbers("poke", "M"), Hex8("A"), Hex8("D")], ", "),
-    (&[Words("progress")], " or "),
-    (&[Words("bye")], ""),
-];
-
-/// Some forms in words.
-#[derive(Clone, Copy)]
-pub(crate) struct English(pub &'static [Form]);
-
-impl Display for Part {
-    fn fmt<W: Write>(&self, f: &mut Formatter<W>) -> fmt::Result {
-        match *self {
-            Words(words) | Hex8(words) => f.write_str(words),
-            Numbers(words, names) | Many(words, names) => write!(f, "{words} {names}"),
-            Port(words, name) => write!(f, "{words} at {name}"),
+/// What stands behind these words, where a line begins with them.
+fn behind_words<'a>(line: &'a [u8], words: &[u8]) -> Result<&'a [u8], Stop<'a>> {
+    let mut rest = line;
+    for byte in words {
+        match rest {
+            [first, behind @ ..] if first == byte => rest = behind,
+            _ => return Err((Due::Byte(*byte), rest)),
         }
+    }
+    Ok(rest)
+}
+
+/// What stands behind a number.
+fn behind_number(line: &[u8]) -> Result<&[u8], Stop<'_>> {
+    let end = line.iter().position(|b| !b.is_ascii_digit());
+    let (digits, behind) = line.split_at(end.unwrap_or(line.len()));
+    match number_from_digits(digits) {
+        Some(_) => Ok(behind),
+        None => Err((Due::Number, line)),
     }
 }
 
+/// What stands behind eight hexadecimal digits.
+fn behind_hex8(line: &[u8]) -> Result<&[u8], Stop<'_>> {
+    let end = line
+        .iter()
+        .position(|b| !b.is_ascii_digit() && !(*b >= b'a' && *b <= b'f'));
+    match line.split_at(end.unwrap_or(line.len())) {
+        (digits, behind) if digits.len() == 8 => Ok(behind),
+        _ => Err((Due::Hex8, line)),
+    }
+}
+
+/// Where numbers, each of them after a space, don't fill a line, if they don't.
+fn stop_of_numbers(line: &[u8]) -> Result<(), Stop<'_>> {
+    let mut rest = line;
+    for _ in 0..line.len() {
+        if rest.is_empty() {
+            break;
+        }
+        rest = behind_number(behind_words(rest, b" ")?)?;
+    }
+    Ok(())
+}
+
+/// What stands behind a word of a form.
+fn behind_word<'a>(line: &'a [u8], word: &[u8]) -> Result<&'a [u8], Stop<'a>> {
+    match (word, line) {
+        (b"at_A" | b"at_B", [b'n', ..]) => behind_words(line, b"none"),
+        (b"at_A" | b"at_B", _) => behind_number(behind_words(line, b"at ")?),
+        (b"A" | b"D", _) => behind_hex8(line),
+        (b"ID" | [b'A'..=b'z'], _) => behind_number(line),
+        _ => behind_words(line, word),
+    }
+}
+
+/// Where a line stops being of a form, if it does.
+fn stop_of<'a>(line: &'a [u8], form: &str) -> Result<(), Stop<'a>> {
+    let mut rest = line;
+    for (k, word) in form.split(' ').enumerate() {
+        if word == "U" {
+            return stop_of_numbers(rest);
+        }
+        if k > 0 {
+            rest = behind_words(rest, b" ")?;
+        }
+        rest = behind_word(rest, word.as_bytes())?;
+    }
+    match rest {
+        [] => Ok(()),
+        _ => Err((Due::End, rest)),
+    }
+}
+
+/// Where a line stops being of that of some forms of which it is the longest; nothing where it is
+/// of one, or there is none.
+pub(crate) fn last_stop<'a>(line: &'a [u8], forms: &str) -> Option<Stop<'a>> {
+    let mut last: Option<Stop<'a>> = None;
+    for form in forms.split('`').skip(1).step_by(2) {
+        let stop = stop_of(line, form).err()?;
+        last = match last {
+            Some(last) if last.1.len() <= stop.1.len() => Some(last),
+            _ => Some(stop),
+        };
+    }
+    last
+}
+
+/// Some forms, as they are told.
+#[derive(Clone, Copy)]
+pub(crate) struct English(pub &'static str);
+
 impl Display for English {
     fn fmt<W: Write>(&self, f: &mut Formatter<W>) -> fmt::Result {
-        for (form, behind) in self.0 {
-            for (k, part) in form.iter().enumerate() {
-                let before = if k == 0 { '"' } else { ' ' };
-                write!(f, "{before}{part}")?;
+        for c in self.0.chars() {
+            match c {
+                '`' => f.write_char('"')?,
+                '_' => f.write_char(' ')?,
+                _ => f.write_char(c)?,
             }
-            write!(f, "\"{behind}")?;
         }
         Ok(())
     }

@@ -2,34 +2,27 @@
 //!
 //! [`second_line`] is the one call for a command that was refused, [`session_line`] for a line of a
 //! session. They are handed the refusal itself and the texts that it is of, and change no answer.
-//! What they give begins with `exchange: ` and ends with a line feed, and they give nothing for
-//! lack of memory. No contract says which words stand there.
+//! What they give begins with `exchange: ` and ends with a line feed (`line_told` of
+//! `specs/Told.antt`), and they give nothing for lack of memory. No contract says which words stand
+//! between: they are compared with rows (`notes.rows`), and with those of a second implementation
+//! (`notes.py` of `tools/hostile`).
 //!
-//! The contracts of their parts say what is found out, and not that it is told. What is found out
-//! of a line has the number and the beginning of the line that the refusal means, and what is
-//! wanted there (`IsLineTold` of `specs/Told.antt`). A number that is too great stands there, and
-//! isn't below the limit that goes with it (`IsNoteAbove` of `specs/Notes.antt`). Where a line
-//! differs at a byte, what stands there is the line from there on (`IsDifferenceOf` of
-//! `specs/Differences.antt`). A link that is taken is in both lines (`IsTaken`), and a module that
-//! doesn't rise isn't above that of the line before (`IsFallen`). Two transfers that clash stand at
-//! two places of the setting, and both use the link (`Clashes`).
+//! A refusal has the number of the line that is wrong, or of the transfer. That line alone is
+//! compared with what is wanted there (`forms.rt`, `differences.rt`). Where settings of a schedule,
+//! or a block, are named, the texts are read once more (`schedules.rt`).
 #![tactic(auto)]
 
 mod boards;
-mod clashes;
 mod differences;
 mod forms;
-mod limit;
+mod line_note;
 mod lines;
 mod listed;
-mod note;
-mod pieces;
 mod quote;
 mod recorded;
 mod schedules;
 mod second;
 mod sentences;
-mod taken;
 mod told;
 mod wanted;
 

@@ -1,8 +1,5 @@
 //! How many lines list an entry.
 
-ghost use Rattle.std.specs.Prelude.{◌≡◌, filter, length};
-ghost use Rattle.refusal_notes.specs.Lines.{is_listed as the_listed, lines};
-
 /// What a text lists.
 #[derive(Clone, Copy)]
 pub enum Listing {
@@ -29,23 +26,17 @@ impl Listing {
 }
 
 /// Whether a line begins as that of an entry.
-pub(crate) fn is_listed(listing: Listing, line: &[u8]) -> bool
-    ensures { result ≡ the_listed listing line.now }
-{
+pub(crate) fn is_listed(listing: Listing, line: &[u8]) -> bool {
     match listing {
         Listing::Transfers => line.starts_with(b"push ") || line.starts_with(b"pull "),
         Listing::Moves => line.starts_with(b"move "),
         Listing::Modules => line.starts_with(b"module "),
-        Listing::Settings => {
-            line.starts_with(b"setting ") || line.starts_with(b"setting") && line.len() == 7
-        }
+        Listing::Settings => { line.starts_with(b"setting ") || line == b"setting".as_slice() }
     }
 }
 
 /// How many lines of the text begin as that of an entry.
-pub(crate) fn listed(listing: Listing, text: &[u8]) -> usize
-    ensures { result ≡ length (filter (the_listed listing) (lines text.now)) }
-{
+pub(crate) fn listed(listing: Listing, text: &[u8]) -> usize {
     text.split(|b| *b == b'\n')
         .filter(|line| is_listed(listing, line))
         .count()

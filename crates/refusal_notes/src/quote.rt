@@ -1,40 +1,25 @@
 //! The beginning of a line.
 
-ghost use Rattle.refusal_notes.specs.Notes.{IsQuoteOf};
-
 use std::fmt::{self, Display, Formatter, Write};
 
 /// How many bytes of a line are quoted. This is the project's choice.
-pub const MAX_QUOTED: usize = 60;
+const MAX_QUOTED: usize = 60;
 
-/// The beginning of a line.
+/// The beginning of this line, between quotation marks: two dots are behind it if the line goes on.
 #[derive(Clone, Copy)]
-pub struct Quote<'a> {
-    /// At most [`MAX_QUOTED`] bytes.
-    pub bytes: &'a [u8],
-    /// Whether the line goes on behind them.
-    pub is_cut: bool,
-}
-
-impl<'a> Quote<'a> {
-    /// The beginning of this line.
-    pub(crate) fn of(line: &'a [u8]) -> Quote<'a>
-        ensures { IsQuoteOf line.entry.now result }
-    {
-        Quote {
-            bytes: &line[..MAX_QUOTED.min(line.len())],
-            is_cut: line.len() > MAX_QUOTED,
-        }
-    }
-}
+pub(crate) struct Quote<'a>(pub &'a [u8]);
 
 impl<'a> Display for Quote<'a> {
     fn fmt<W: Write>(&self, f: &mut Formatter<W>) -> fmt::Result {
         f.write_char('"')?;
-        for byte in self.bytes {
+        for byte in self.0.iter().take(MAX_QUOTED) {
             write_byte(f, *byte)?;
         }
-        f.write_str(if self.is_cut { "\".." } else { "\"" })
+        f.write_str(if self.0.len() > MAX_QUOTED {
+            "\".."
+        } else {
+            "\""
+        })
     }
 }
 

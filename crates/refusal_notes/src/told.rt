@@ -1,14 +1,7 @@
 //! What a command was asked, and what is told of its refusal.
 
-ghost use Rattle.refusal_notes.specs.Told.{IsLineTold, IsShapeOf};
-
-use crate::limit::Limit;
-use crate::lines::{announced, line_at};
 use crate::listed::Listing;
-use crate::note::LineNote;
-use crate::quote::{Quote, write_shown};
-use crate::recorded::{note_of_head, note_wanting};
-use crate::wanted::Wanted;
+use crate::quote::write_shown;
 use batch::Shape;
 use refusals::{Refusal, Validity};
 use std::alloc::Global;
@@ -88,9 +81,7 @@ impl<'a> Texts<'a> {
     };
 
     /// The shape of the rack: the widest where no shape is asked for.
-    pub(crate) fn rack(&self) -> Shape
-        ensures { IsShapeOf self.now.shape.now result }
-    {
+    pub(crate) fn rack(&self) -> Shape {
         match Shape::read(self.shape.as_bytes()) {
             Ok(shape) => shape,
             Err(_) => Shape::WIDEST,
@@ -111,40 +102,6 @@ pub(crate) struct Note<'a> {
     pub alloc: Global,
 }
 
-impl<'a> Note<'a> {
-    /// What is told of the line that the refusal is of: none where it isn't of the form of a line,
-    /// or of the numbers in one. Where there are fewer or more lines than announced, it is the line
-    /// behind the last.
-    pub(crate) fn line(&self) -> Option<LineNote<'a>>
-        ensures { IsLineTold self.now.refusal self.now.texts result }
-    {
-        let (list, listing) = (self.texts.list, self.texts.listing);
-        match self.refusal {
-            Refusal::BatchLine(n) | Refusal::MovesLine(n) => Some(LineNote::of(list, n, listing)),
-            Refusal::ScheduleLine(n) => Some(LineNote::of(self.texts.other, n, Listing::Settings)),
-            Refusal::WiringLine(n) => Some(LineNote::of(self.texts.wiring, n, Listing::Modules)),
-            Refusal::Count => Some(LineNote::of(list, announced(list.text) + 2, listing)),
-            Refusal::TooMany => Some(LineNote::above(list, 1, listing, Limit::Announced)),
-            Refusal::NoModule(t) => {
-                let limit = Limit::Modules(self.texts.rack().modules());
-                Some(LineNote::above(list, t.saturating_add(2), listing, limit))
-            }
-            Refusal::NoBlock(t) => {
-                let limit = Limit::Blocks(self.texts.rack().blocks());
-                Some(LineNote::above(list, t.saturating_add(2), listing, limit))
-            }
-            Refusal::RecordHead => Some(note_of_head(self.texts)),
-            Refusal::RecordCall(e) => Some(note_wanting(self.texts, Wanted::Call(e))),
-            Refusal::RecordReply(e) => {
-                let due = Quote::of(line_at(self.texts.due, 1));
-                Some(note_wanting(self.texts, Wanted::Reply(e, due)))
-            }
-            Refusal::RecordMore => Some(note_wanting(self.texts, Wanted::RecordEnd)),
-            _ => None,
-        }
-    }
-}
-
 /// The name, escaped as what is quoted is, but with the characters beyond ASCII that can be seen.
 impl<'a> Display for Named<'a> {
     fn fmt<W: Write>(&self, f: &mut Formatter<W>) -> fmt::Result {
@@ -155,5 +112,46 @@ impl<'a> Display for Named<'a> {
             write_shown(f, c)?;
         }
         Ok(())
+    }
+}
+
+/// The line of this number in a text.
+#[derive(Clone, Copy)]
+pub(crate) struct TextLine<'a>(pub Named<'a>, pub usize);
+
+impl<'a> Display for TextLine<'a> {
+    fn fmt<W: Write>(&self, f: &mut Formatter<W>) -> fmt::Result {
+        let TextLine(named, n) = *self;
+        match named.name {
+            "" => write!(f, "line {n} of the batch"),
+            _ => write!(f, "{named}:{n}"),
+        }
+    }
+}
+
+/// So many of this, with an `s` where it isn't one.
+#[derive(Clone, Copy)]
+pub(crate) struct Many(pub usize, pub &'static str);
+
+impl Display for Many {
+    fn fmt<W: Write>(&self, f: &mut Formatter<W>) -> fmt::Result {
+        match *self {
+            Many(1, what) => write!(f, "1 {what}"),
+            Many(n, what) => write!(f, "{n} {what}s"),
+        }
+    }
+}
+
+/// So many of this, by their numbers.
+#[derive(Clone, Copy)]
+pub(crate) struct Numbered(pub usize, pub &'static str);
+
+impl Display for Numbered {
+    fn fmt<W: Write>(&self, f: &mut Formatter<W>) -> fmt::Result {
+        match *self {
+            Numbered(0, _) => f.write_str("none"),
+            Numbered(1, what) => write!(f, "{what} 0 alone"),
+            Numbered(n, what) => write!(f, "{what}s 0 to {}", n - 1),
+        }
     }
 }

@@ -1,9 +1,6 @@
 //! What may stand in a line.
 
-ghost use Rattle.std.specs.Prelude.{◌≡◌};
-ghost use Rattle.refusal_notes.specs.Wanted.{IsWantedAt, certificate_line, is_none_line as none_line};
-
-use crate::forms::{self, English, Form};
+use crate::forms::English;
 use crate::lines::{announced, line_at};
 use crate::listed::Listing;
 use crate::quote::Quote;
@@ -17,7 +14,7 @@ const _: () = prove!(MAX_MODULES == 32 && PORTS == 32 && JOINED_MODULES == 16);
 
 /// The first line of a record, and what goes on behind it.
 const RECORD_HEAD: &str =
-    "\"record MxKxW SUM N\", where MxKxW is its shape, SUM the sum of its image, of eight digits, and N counts the lines \"client NAME\" after it";
+    "\"record-2 MxKxW SUM N\", where MxKxW is its shape, SUM the sum of its image, of eight digits, and N counts the lines \"client NAME\" after it, and then \"=SUM\", the sum of these lines";
 
 /// The call of an entry of a record.
 const CALL: &str =
@@ -44,89 +41,74 @@ pub(crate) enum Wanted<'a> {
     RecordHead,
     /// The line of the head of a record on this rack, which begins so.
     HeadLine(Opening, Quote<'a>),
+    /// What follows in a record that has so many entries, with its sum.
+    Sum(usize),
     /// The call of this entry of a record.
     Call(usize),
     /// The reply of this entry of a record, whose line begins so.
     Reply(usize, Quote<'a>),
-    /// The end of a record.
-    RecordEnd,
     /// A line of a session.
     Sent,
 }
 
 impl<'a> Wanted<'a> {
     /// What is wanted in the line of this number, counted from 1.
-    pub(crate) fn at(listing: Listing, text: &[u8], number: usize) -> Wanted<'a>
-        ensures { IsWantedAt listing text.now number result }
-    {
-        let n = announced(text);
-        match listing {
+    pub(crate) fn at(listing: Listing, text: &[u8], number: usize) -> Wanted<'a> {
+        let behind = number.saturating_sub(announced(text).saturating_add(1));
+        let last = line_at(text, number.saturating_sub(1));
+        match (listing, behind) {
             _ if number <= 1 => Wanted::Head(listing),
-            _ if number <= n + 1 => Wanted::Entry(listing),
-            Listing::Settings => {
-                Wanted::of_certificate(number - (n + 2), is_none_line(line_at(text, n + 2)))
-            }
+            (_, 0) => Wanted::Entry(listing),
+            (Listing::Settings, 1) => Wanted::BusiestLink,
+            (Listing::Settings, 2) if last != b"busiest none".as_slice() => Wanted::Named,
             _ => Wanted::End,
         }
     }
 
     /// The forms that the line may have; none where it is told otherwise.
-    pub(crate) fn forms(self) -> &'static [Form] {
+    #[rattlefmt::skip]
+    pub(crate) fn forms(self) -> &'static str {
         match self {
-            Wanted::Head(Listing::Transfers) => forms::BATCH,
-            Wanted::Head(Listing::Moves) => forms::MOVES,
-            Wanted::Head(Listing::Settings) => forms::SETTINGS,
-            Wanted::Head(Listing::Modules) => forms::WIRING,
-            Wanted::Entry(Listing::Transfers) => forms::TRANSFER,
-            Wanted::Entry(Listing::Moves) => forms::MOVE,
-            Wanted::Entry(Listing::Settings) => forms::SETTING,
-            Wanted::Entry(Listing::Modules) => forms::MODULE,
-            Wanted::BusiestLink => forms::BUSIEST,
-            Wanted::Named => forms::NAMED,
-            Wanted::Sent => forms::SENT,
+            Wanted::Head(Listing::Transfers) => "`batch N`, where N counts the transfers",
+            Wanted::Head(Listing::Moves) => "`moves N`, where N counts the moves",
+            Wanted::Head(Listing::Settings) => "`settings S`, where S counts the settings",
+            Wanted::Head(Listing::Modules) => "`wiring N`, where N counts the modules, 1 to 16",
+            Wanted::Entry(Listing::Transfers) => "`push I b R c` or `pull I b R c`",
+            Wanted::Entry(Listing::Moves) => "`move M b N c`",
+            Wanted::Entry(Listing::Settings) =>
+                "`setting T U ..`, where T, U .. are transfers, or `setting` alone",
+            Wanted::Entry(Listing::Modules) =>
+                "`module M link 0 at_A link 3 at_B`, where M rises from line to line up to 15, A and B are 0 to 31, each used once, and \"none\" may replace \"at A\" or \"at B\"",
+            Wanted::BusiestLink =>
+                "`busiest link E module M`, where E is 0 or 3 and M 0 to 31, or `busiest none`",
+            Wanted::Named => "`named T U ..`, where T, U .. are transfers, one at least",
+            Wanted::Sent =>
+                "`batch N` and the batch's lines, `plan ID`, `run ID`, `show ID`, `drop ID`, `peek M A`, `poke M A D`, `progress` or `bye`",
             Wanted::End
             | Wanted::RecordHead
             | Wanted::HeadLine(..)
+            | Wanted::Sum(_)
             | Wanted::Call(_)
-            | Wanted::Reply(..)
-            | Wanted::RecordEnd => &[],
+            | Wanted::Reply(..) => "",
         }
     }
-
-    /// What is wanted in this line behind the last setting, counted from 0.
-    fn of_certificate(k: usize, none: bool) -> Wanted<'a>
-        ensures { result ≡ certificate_line k none }
-    {
-        match k {
-            0 => Wanted::BusiestLink,
-            1 if !none => Wanted::Named,
-            _ => Wanted::End,
-        }
-    }
-}
-
-/// Whether this is the line `busiest none`.
-fn is_none_line(line: &[u8]) -> bool
-    ensures { result ≡ none_line line.now }
-{
-    line.starts_with(b"busiest none") && line.len() == 12
 }
 
 /// What is wanted. Names in the lines of a session aren't explained.
 impl<'a> Display for Wanted<'a> {
+    #[rattlefmt::skip]
     fn fmt<W: Write>(&self, f: &mut Formatter<W>) -> fmt::Result {
         match *self {
             Wanted::RecordHead => f.write_str(RECORD_HEAD),
             Wanted::HeadLine(_, due) => due.fmt(f),
-            Wanted::Call(e) => {
-                write!(
-                    f,
-                    "the call of entry {e}, {CALL}, {RULES}, a line feed at its end"
-                )
-            }
+            Wanted::Sum(e) => write!(f,
+                "entry {e} or the end, with the sum of that number and of its lines after it: something was changed, left out or added"),
+            Wanted::Call(e) =>
+                write!(f, "the call of entry {e}, {CALL}, {RULES}, a line feed at its end"),
             Wanted::Reply(e, due) => write!(f, "the reply of entry {e}, {due}"),
-            Wanted::End | Wanted::RecordEnd => f.write_str("the end of the text"),
-            _ => write!(f, "{}", English(self.forms())),
+            Wanted::End => f.write_str("the end of the text"),
+            Wanted::Head(_) | Wanted::Entry(_) | Wanted::BusiestLink | Wanted::Named
+            | Wanted::Sent => English(self.forms()).fmt(f),
         }
     }
 }
