@@ -1,12 +1,10 @@
 -- A job by whose sessions nothing is written.
-use Rattle.std.proofs.Common.{◌≡◌, ℕ, List, [], Option, None, false, refl}
-use Rattle.std.specs.Prelude.{option_map}
+use Rattle.std.proofs.Common.{ℕ, List, [], Option, None, refl}
 use Rattle.command_words.specs.declared.jobs.Job.{Job}
 use Rattle.command_words.specs.declared.jobs.Job.TheVariants.{Host, Talk}
 use Rattle.exchange.specs.Keeping.{AreKept}
-use Rattle.named_files.specs.Outputs.{AreOpened, begins_with, is_live, output_of, record_of}
-use Rattle.named_files.specs.Streams.{Closed, closed}
-use Rattle.named_files.specs.declared.outputs.OutFile.{OutFile}
+use Rattle.named_files.specs.Outputs.{AreOpened, IsLeftOfAny, begins_with, is_live, output_of, record_of, stream_of}
+use Rattle.named_files.specs.Streams.{Closed}
 use Rattle.named_files.specs.declared.outputs.Outputs.{Outputs}
 use Rattle.named_files.specs.declared.outputs.Receipts.{Receipts}
 use Rattle.named_files.proofs.Written.{nothing_gone}
@@ -15,8 +13,7 @@ use Rattle.kept_sessions.proofs.Held.{as_held}
 -- nothing was written of what was opened for a job
 pub kept_none : {F C : Type 0} (holds : List ℕ → List ℕ → Type 0) (contents : F → Option (List ℕ)) (received : C → Closed) (job : Job) (outputs : Outputs F) (receipts : Receipts C)
     → AreOpened contents (begins_with holds (is_live job)) (record_of job) (output_of job) outputs
-    → option_map received receipts.recorded ≡ option_map (λ (o : OutFile F). closed (contents o.file) false) outputs.recorded
-    → option_map received receipts.image ≡ option_map (λ (o : OutFile F). closed (contents o.file) false) outputs.image
+    → IsLeftOfAny contents received (stream_of outputs.recorded) receipts.recorded → IsLeftOfAny contents received (stream_of outputs.image) receipts.image
     → AreKept holds received job None receipts
 kept_none holds contents received (Host rack clients workers) outputs receipts opened one two =
     (as_held holds contents received rack.record_out clients outputs.recorded receipts.recorded opened.0 one, nothing_gone contents received rack.image_out outputs.image receipts.image opened.1 two, refl)

@@ -1,6 +1,6 @@
 -- The promises of `serve`, `host` and `talk`: what the files of a record and of an image hold, and how
 -- the program ends.
-use Rattle.std.proofs.Common.{◌≡◌, ◌≢◌, ◌≤◌, ◌∙◌, ◌++◌, ◌+◌, ◌||◌, ℕ, true, false, List, [], ◌∷◌, length, map, fold, Option, Some, None, inl, inr, ◌⊎◌, refl, sym, ap, ap₂, subst, append-nil}
+use Rattle.std.proofs.Common.{◌≡◌, ◌≢◌, ◌≤◌, ◌∙◌, ◌++◌, ◌+◌, ◌||◌, ℕ, Bool, true, false, List, [], ◌∷◌, length, map, fold, Option, Some, None, inl, inr, ◌⊎◌, refl, sym, ap, ap₂, subst, append-nil}
 use Rattle.std.specs.Prelude.{IfSome, codes, is_some, option_map, option_to_list, slice_get}
 use Rattle.std.specs.List.{AllByRecursion, flat_map, list_any}
 use Rattle.std.proofs.lemmas.List.Elements.{recursion_from_All}
@@ -11,7 +11,7 @@ use Rattle.batch_book.specs.Machine.{Machine, opened}
 use Rattle.batch_book.specs.Seats.{own}
 use Rattle.batch_book.specs.Values.{greatest}
 use Rattle.batch_book.specs.declared.entry.Entry.{Entry}
-use Rattle.book_record.specs.Fronts.{end_line}
+use Rattle.book_record.specs.Fronts.{last_lines}
 use Rattle.book_record.specs.Heads.{session_limit}
 use Rattle.clap.specs.Words.{Text}
 use Rattle.client_session.specs.Turns.{AreReadings, turn_text}
@@ -37,7 +37,7 @@ use Rattle.named_files.specs.Clients.{clients_by, ends_of}
 use Rattle.named_files.specs.Contents.{AreContents, Holding}
 use Rattle.named_files.specs.Notes.{unanswered}
 use Rattle.named_files.specs.Outputs.{HasNothingGone, IsFileWritten, IsUnput as IsPutNowhere, lost_none}
-use Rattle.named_files.specs.Streams.{Closed}
+use Rattle.named_files.specs.Streams.{Closed, closed}
 use Rattle.named_files.specs.declared.lost.Lost.{Lost}
 use Rattle.named_files.specs.declared.lost.Reason.{Reason}
 use Rattle.named_files.specs.declared.outputs.Receipts.{Receipts}
@@ -62,39 +62,45 @@ use Rattle.session_answers.specs.declared.ended_session.Ending.TheVariants.{Serv
 
 -- ---- the files of a record and of an image
 
+the_left : (left : Closed) (name : Text) (bytes : Option (List ℕ)) (stands : Bool) → left.name ≡ name → left.bytes ≡ bytes → left.stands ≡ stands → left ≡ closed name bytes stands
+the_left left name bytes stands named held in_place = ap₂ (λ (n : Text) (b : Option (List ℕ)). closed n b left.stands) named held ∙ ap (λ (s : Bool). closed name bytes s) in_place
+
 module _ {C : Type 0} (received : C → Closed) where
-  whole_kept : (name : Option Text) (bytes : List ℕ) (receipt : Option C) → IsFileWritten received name bytes receipt None → IsKept (is_some name) bytes (option_map received receipt)
+  whole_kept : (name : Option Text) (bytes : List ℕ) (receipt : Option C) → IsFileWritten received name bytes receipt None → IsKept name bytes (option_map received receipt)
   whole_kept None bytes receipt is = ap (λ (r : Option C). option_map received r) is.0
   whole_kept (Some name) bytes None is = absurd is
-  whole_kept (Some name) bytes (Some receipt) is = (is.0, is.1)
+  whole_kept (Some name) bytes (Some receipt) is = ap Some (the_left (received receipt) name (Some bytes) true is.2 is.0 is.1)
 
-  part_kept : (name : Option Text) (bytes : List ℕ) (receipt : Option C) (lost : Option Reason) → IsFileWritten received name bytes receipt lost → IsKeptInPart (is_some name) bytes (option_map received receipt)
+  part_kept : (name : Option Text) (bytes : List ℕ) (receipt : Option C) (lost : Option Reason) → IsFileWritten received name bytes receipt lost → IsKeptInPart name bytes (option_map received receipt)
   part_kept None bytes receipt lost is = ap (λ (r : Option C). option_map received r) is.0
   part_kept (Some name) bytes None lost is = absurd is
-  part_kept (Some name) bytes (Some receipt) None is = ((bytes, [], sym (append-nil bytes), is.0), λ stands. is.0)
-  part_kept (Some name) bytes (Some receipt) (Some lost) is = (is.0, λ stands. absurd (let bad : true ≡ false = sym stands ∙ is.1 in cc))
+  part_kept (Some name) bytes (Some receipt) None is = (is.2, (bytes, [], sym (append-nil bytes), is.0), λ stands. is.0)
+  part_kept (Some name) bytes (Some receipt) (Some lost) is = (is.2, is.0, λ stands. absurd (let bad : true ≡ false = sym stands ∙ is.1 in cc))
 
   front_kept : (name : Option Text) (bytes : List ℕ) (receipt : Option C) (lost : Option Reason) (names : List Text) (book : Account) (calls : Calls) → AreCallsOf calls book → IsFileWritten received name bytes receipt lost → IfSome receipt (λ r. HasAllTold names book (received r).bytes)
-      → IsBegun (is_some name) (record_of names calls.opening (calls.earlier ++ calls.standing)) (option_map received receipt)
+      → IsBegun name (record_of names calls.opening (calls.earlier ++ calls.standing)) (option_map received receipt)
   front_kept None bytes receipt lost names book calls are is told = ap (λ (r : Option C). option_map received r) is.0
   front_kept (Some name) bytes None lost names book calls are is told = absurd is
   front_kept (Some name) bytes (Some receipt) lost names book calls are is told =
-      let r = told.2 in (r.rest, told.1 ∙ ap (λ (x : List ℕ). Some x) r.has ∙ ap₂ (λ (o : Store) (es : List Entry). Some (record_of names o es ++ r.rest)) (sym are.opening) (sym are.stand))
+      let r = told.2 in
+      let text = told.1 ∙ ap (λ (x : List ℕ). Some x) r.has ∙ ap₂ (λ (o : Store) (es : List Entry). Some (record_of names o es ++ r.rest)) (sym are.opening) (sym are.stand) in
+      (r.rest, (received receipt).stands, ap Some (the_left (received receipt) name _ (received receipt).stands is.2 text refl))
 
   unput : (name : Option Text) (receipt : Option C) → HasNothingGone received name receipt → IsUnput (option_map received receipt)
   unput name None is = tt
-  unput name (Some receipt) is = ap (λ (c : Closed). c.stands) is.1
+  unput None (Some receipt) is = absurd is
+  unput (Some name) (Some receipt) is = ap (λ (c : Closed). c.stands) is
 
   put_nowhere : (image : Option C) → IsPutNowhere received image → IsUnput (option_map received image)
   put_nowhere None is = tt
   put_nowhere (Some receipt) is = is
 
-  whole_or_unput : (name : Option Text) (bytes : List ℕ) (recorded image : Option C) (lost : Option Reason) → IsFileWritten received name bytes recorded lost → (is_some lost ≡ true → IsPutNowhere received image) → IsKept (is_some name) bytes (option_map received recorded) ⊎ IsUnput (option_map received image)
+  whole_or_unput : (name : Option Text) (bytes : List ℕ) (recorded image : Option C) (lost : Option Reason) → IsFileWritten received name bytes recorded lost → (is_some lost ≡ true → IsPutNowhere received image) → IsKept name bytes (option_map received recorded) ⊎ IsUnput (option_map received image)
   whole_or_unput name bytes recorded image None is nowhere = inl (whole_kept name bytes recorded is)
   whole_or_unput name bytes recorded image (Some lost) is nowhere = inr (put_nowhere image (nowhere refl))
 
   record_is : (names : List Text) (calls : Calls) (book : Account) → AreCallsOf calls book → whole_of names book ≡ whole_record names calls
-  record_is names calls book are = ap₂ (λ (o : Store) (es : List Entry). record_of names o es ++ end_line) (sym are.opening) (sym are.entries)
+  record_is names calls book are = ap₂ (λ (o : Store) (es : List Entry). record_of names o es ++ last_lines (length es)) (sym are.opening) (sym are.entries)
 
   image_is : (calls : Calls) (book : Account) → AreCallsOf calls book → image_of book.machine.store ≡ image_of calls.left.store
   image_is calls book are = ap (λ (m : Machine). image_of m.store) (sym are.machine)
@@ -152,14 +158,15 @@ none_begun {C} received receipts ends run is_wrong is_left none_left none = reco
 -- what is left of the file for a record then
 is_empty : {C : Type 0} (received : C → Closed) (name : Option Text) (receipt : Option C) → HasNothingGone received name receipt → IsEmpty (option_map received receipt)
 is_empty received name None gone = tt
-is_empty received name (Some receipt) gone = (ap (λ (c : Closed). c.bytes) gone.1, ap (λ (c : Closed). c.stands) gone.1)
+is_empty received None (Some receipt) gone = absurd gone
+is_empty received (Some name) (Some receipt) gone = (ap (λ (c : Closed). c.bytes) gone, ap (λ (c : Closed). c.stands) gone)
 
 as_it_was : {C : Type 0} (holds : Holding) (received : C → Closed) (record_out : Option RecordFile) (names : List Text) (receipt : Option C) (run : Run) → ((out : RecordFile) (text : List ℕ) → record_out ≡ Some out → holds out.name text → run.holds out.name text)
     → IsAsBegun holds received record_out names receipt → IsAsItWas run record_out names (option_map received receipt)
 as_it_was holds received record_out names None run by_name is = tt
 as_it_was holds received None names (Some receipt) run by_name is = absurd is
 as_it_was holds received (Some out) names (Some receipt) run by_name (held, text, holds_so, so, begins) =
-    (held, text, by_name out held refl holds_so, ap (λ (c : Closed). c.bytes) so, begins)
+    (held, text, by_name out held refl holds_so, so, begins)
 
 -- a refusal was printed
 refused_so : {C : Type 0} (received : C → Closed) (receipts : Receipts C) (name : Option Text) (run : Run) (is_wrong : Refusal → Type 0) (is_left : Option Closed → Type 0) (refusal : Refusal) (printed : Printed) → is_wrong refusal → Refuses refusal printed → run.prints printed.text → run.status ≡ printed.status → is_left (option_map received receipts.recorded) → HasNothingGone received name receipts.image

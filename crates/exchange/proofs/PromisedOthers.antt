@@ -64,7 +64,7 @@ left_by named given job response (inr none) = record { rest = none_opened_for jo
 
 none_gone : {C : Type 0} (received : C → Closed) (receipt : Option C) → HasNothingGone received None receipt → option_map received receipt ≡ None
 none_gone received None is = refl
-none_gone received (Some receipt) is = absurd (let bad : false ≡ true = is.0 in cc)
+none_gone received (Some receipt) is = absurd is
 
 gone_named : {C : Type 0} (received : C → Closed) (name : Option Text) (receipt : Option C) → HasNothingGone received name receipt → name ≡ None → option_map received receipt ≡ None
 gone_named received name receipt gone none = none_gone received receipt (subst (λ (n : Option Text). HasNothingGone received n receipt) none gone)

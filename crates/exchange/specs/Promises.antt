@@ -117,10 +117,10 @@ use Rattle.client_session.specs.declared.limits.TheConstants.{HELD_BYTES}
 use Rattle.client_session.specs.declared.fault.ServeFault.{ServeFault}
 use Rattle.client_session.specs.declared.fault.ServeFault.TheVariants.{Record, Write}
 use Rattle.command_words.specs.declared.jobs.RecordFile.{RecordFile}
-use Rattle.named_files.specs.Streams.{Closed, IsFrontOf}
+use Rattle.named_files.specs.Streams.{Closed, IsFrontOf, closed}
 use Rattle.named_files.specs.declared.outputs.Receipts.{Receipts}
 use Rattle.kept_sessions.specs.Records.{IsBegun as BeginsRecord, head_for}
-use Rattle.book_record.specs.Fronts.{end_line}
+use Rattle.book_record.specs.Fronts.{last_lines}
 use Rattle.book_record.specs.Heads.{AreNames, BeginsWithNoHead, IsHeadOf, session_limit}
 use Rattle.kept_sessions.specs.Records.{IsWrongFor}
 use Rattle.rack_answers.specs.Openings.{IsRackOf, IsWrongRack}
@@ -767,25 +767,25 @@ kept_by received receipts =
       image = option_map received receipts.image;
     }
 
--- Where a file is asked for, one was opened, holds the text, and was put in its place. Else none was
--- opened.
-abbrev pub IsKept : (asked : Bool) → List ℕ → Option Closed → Type 0
-IsKept false text file = file ≡ None
-IsKept true text None = ⊥
-IsKept true text (Some file) = (file.bytes ≡ Some text) × (file.stands ≡ true)
+-- Where a file of a name is asked for, one was opened by this name, holds the text, and was put in its
+-- place. Else none was opened.
+abbrev pub IsKept : Option Text → List ℕ → Option Closed → Type 0
+IsKept None text file = file ≡ None
+IsKept (Some name) text file = file ≡ Some (closed name (Some text) true)
 
 -- it holds a front of the text, and then it wasn't put there; or all of it
-abbrev pub IsKeptInPart : (asked : Bool) → List ℕ → Option Closed → Type 0
-IsKeptInPart false text file = file ≡ None
-IsKeptInPart true text None = ⊥
-IsKeptInPart true text (Some file) =
-    IsFrontOf text file.bytes × (file.stands ≡ true → file.bytes ≡ Some text)
+abbrev pub IsKeptInPart : Option Text → List ℕ → Option Closed → Type 0
+IsKeptInPart None text file = file ≡ None
+IsKeptInPart (Some name) text None = ⊥
+IsKeptInPart (Some name) text (Some file) =
+    (file.name ≡ name) × IsFrontOf text file.bytes
+    × (file.stands ≡ true → file.bytes ≡ Some text)
 
 -- it begins with the text
-abbrev pub IsBegun : (asked : Bool) → List ℕ → Option Closed → Type 0
-IsBegun false text file = file ≡ None
-IsBegun true text None = ⊥
-IsBegun true text (Some file) = (rest : List ℕ) × (file.bytes ≡ Some (text ++ rest))
+abbrev pub IsBegun : Option Text → List ℕ → Option Closed → Type 0
+IsBegun None text file = file ≡ None
+IsBegun (Some name) text file =
+    (rest : List ℕ) × (stands : Bool) × (file ≡ Some (closed name (Some (text ++ rest)) stands))
 
 -- a file that was opened wasn't put in its place
 abbrev pub IsUnput : Option Closed → Type 0
@@ -793,7 +793,8 @@ IsUnput file = IfSome file (λ file. file.stands ≡ false)
 
 -- all that a record tells of calls, of clients with these names
 abbrev pub whole_record : List Text → Calls → List ℕ
-whole_record names calls = record_of names calls.opening (all_calls calls) ++ end_line
+whole_record names calls =
+    record_of names calls.opening (all_calls calls) ++ last_lines (length (all_calls calls))
 
 -- what sessions leave of the calls of clients with these names
 abbrev pub Leave : Type 1
@@ -803,23 +804,23 @@ Leave = SharedRack → List Text → Calls → Type 0
 -- which they lead.
 abbrev pub AreKept : Kept → SharedRack → List Text → Calls → Type 0
 AreKept kept rack names calls =
-    IsKept (is_some (recorded_in rack)) (whole_record names calls) kept.recorded
-    × IsKept (is_some rack.image_out) (image_of calls.left.store) kept.image
+    IsKept (recorded_in rack) (whole_record names calls) kept.recorded
+    × IsKept rack.image_out (image_of calls.left.store) kept.image
 
 -- both hold fronts of that
 abbrev pub AreKeptInPart : Kept → SharedRack → List Text → Calls → Type 0
 AreKeptInPart kept rack names calls =
-    IsKeptInPart (is_some (recorded_in rack)) (whole_record names calls) kept.recorded
-    × IsKeptInPart (is_some rack.image_out) (image_of calls.left.store) kept.image
+    IsKeptInPart (recorded_in rack) (whole_record names calls) kept.recorded
+    × IsKeptInPart rack.image_out (image_of calls.left.store) kept.image
 
 -- Both do, and the record of live sessions has all calls that are to stand there. Where it isn't
 -- whole, no image was put in its place.
 abbrev pub AreToldKept : Kept → SharedRack → List Text → Calls → Type 0
 AreToldKept kept rack names calls =
     AreKeptInPart kept rack names calls
-    × IsBegun (is_some (recorded_in rack))
+    × IsBegun (recorded_in rack)
     (record_of names calls.opening (calls.earlier ++ calls.standing)) kept.recorded
-    × (IsKept (is_some (recorded_in rack)) (whole_record names calls) kept.recorded
+    × (IsKept (recorded_in rack) (whole_record names calls) kept.recorded
     ⊎ IsUnput kept.image)
 
 -- what a session was told, below its heading; where a fault ended it, a line says so behind that
@@ -856,7 +857,7 @@ IsEmpty file = IfSome file (λ file. (file.bytes ≡ Some []) × (file.stands �
 abbrev pub IsAsItWas : Run → Option RecordFile → List Text → Option Closed → Type 0
 IsAsItWas run record_out names file =
     IfSome file (λ file. MatchOption record_out ⊥ (λ out. (held text : List ℕ)
-    × run.holds out.name held × (file.bytes ≡ Some text)
+    × run.holds out.name held × (file ≡ closed out.name (Some text) false)
     × ((text ≡ held) ⊎ BeginsRecord out.resumes held names text)))
 
 -- the rack of sessions is none: its word is that of no shape, or its file hasn't just its words

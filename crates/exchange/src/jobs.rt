@@ -31,7 +31,7 @@ use exchange_limits::WorkerCount;
 use kept_sessions::{Found, Kept, host, serve, talk};
 use link_ends::{EndFault, SwitchEnd, answer_commands};
 use named_files::{
-    Contents, Lost, NoAnswer, Outputs, Receipts, Runtime, System, Unwritten, open_apart,
+    Apart, Contents, Lost, NoAnswer, Outputs, Receipts, Runtime, System, Unwritten, open_apart,
     read_contents, reason_line, slice_of, source_with, tell_note, text_of,
 };
 use plan_answers::{Answer, answer_check, answer_direct, answer_draw, answer_plan, answer_prices};
@@ -110,7 +110,7 @@ fn answer_alone<R: AllocGlobal + Threads + Sync, S: System, P: Ports, I: Read, O
     let (alloc, job) = (rt.alloc(), &request.job);
     let (outputs, opened) = open_apart(system, alloc, job);
     let contents = match read_opened(system, alloc, job, opened, input) {
-        Ok(contents) => contents,
+        Ok((_, contents)) => contents,
         Err(missed) => {
             return Ended {
                 end: Err(missed),
@@ -149,8 +149,8 @@ fn wait_for_sessions<R: Runtime, S: System, P: Ports, I: Read, O: Write, E: Writ
 {
     let (alloc, job) = (rt.alloc(), &request.job);
     let (outputs, opened) = open_apart(system, alloc, job);
-    let contents = match read_opened(system, alloc, job, opened, input) {
-        Ok(contents) => contents,
+    let (apart, contents) = match read_opened(system, alloc, job, opened, input) {
+        Ok(read) => read,
         Err(missed) => {
             return Ended {
                 end: Err(missed),
@@ -164,7 +164,7 @@ fn wait_for_sessions<R: Runtime, S: System, P: Ports, I: Read, O: Write, E: Writ
         lost,
         cut: _,
     } = hold_sessions(
-        rt, system, peers, request, &contents, outputs, input, out, err,
+        rt, system, peers, request, &apart, &contents, outputs, input, out, err,
     );
     Ended {
         end: finished(alloc, end, lost, job, &contents),
@@ -177,20 +177,21 @@ fn read_opened<S: System, I: Read>(
     system: &S,
     alloc: Global,
     job: &Job,
-    opened: Result<(), NoAnswer>,
+    opened: Result<Apart, NoAnswer>,
     input: &mut I,
-) -> Result<Contents, NoAnswer>
+) -> Result<(Apart, Contents), NoAnswer>
     requires { IfErr opened (λ missed. IsRefused missed) }
-    ensures contents { IfOk result (λ contents. AreContents (S.holds system.now)
-        (I.remaining input.old) (files_of job.now) (contents_in contents)
+    ensures contents { IfOk result (λ read. AreContents (S.holds system.now)
+        (I.remaining input.old) (files_of job.now) (contents_in read.1)
         (I.remaining input.new)) }
-    ensures scripts { IfOk result (λ contents. length (contents_in contents).scripts
+    ensures scripts { IfOk result (λ read. length (contents_in read.1).scripts
         ≡ length (files_of job.now).scripts) }
     ensures note { IfErr result (λ missed. IsRefused missed) }
     ensures opened { OnOk result (IsOk opened) }
 {
-    opened?;
-    read_contents(system, alloc, job.files(), input)
+    let apart = opened?;
+    let contents = read_contents(system, alloc, job.files(), input)?;
+    Ok((apart, contents))
 }
 
 /// What comes of the sessions of a job whose files contain this, and of the files that are open for
@@ -200,6 +201,7 @@ fn hold_sessions<R: Runtime, S: System, P: Ports, I: Read, O: Write, E: Write>(
     system: &S,
     peers: &mut Peers<P>,
     request: &Request,
+    apart: &Apart,
     contents: &Contents,
     outputs: Outputs<'_, S::Stream>,
     input: &mut I,
@@ -260,6 +262,7 @@ fn hold_sessions<R: Runtime, S: System, P: Ports, I: Read, O: Write, E: Write>(
                 system,
                 rack,
                 clients,
+                apart,
                 *workers,
                 contents,
                 lacks,

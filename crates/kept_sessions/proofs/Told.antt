@@ -1,21 +1,21 @@
 -- What a record holds of the entries that were told.
-use Rattle.std.proofs.Common.{◌≡◌, ◌∙◌, ◌++◌, ℕ, Bool, List, [], Option, Some, None, IfSome, Result, Ok, Err, OnErr, OnOk, append-nil, append_assoc, ap, sym, subst, refl}
+use Rattle.std.proofs.Common.{◌≡◌, ◌∙◌, ◌++◌, ℕ, Bool, true, false, is_some, List, [], Option, Some, None, IfSome, Result, Ok, Err, OnErr, OnOk, append-nil, append_assoc, length, ap, sym, subst, refl}
 use Rattle.std.specs.Prelude.{MatchOption}
-use Rattle.std.specs.List.{flat_map}
 use Rattle.std.specs.Io.KnownBytes.{Appends}
 use Rattle.byte_streams.specs.Writing.{IsCutShort}
 use Rattle.clap.specs.Words.{Text}
 use Rattle.batch_book.specs.History.{Account}
-use Rattle.book_record.specs.RecordText.{entry_text}
+use Rattle.book_record.specs.RecordText.{texts}
 use Rattle.book_record.specs.Streams.{IsWritten as IsStreamed}
 use Rattle.record_replay.specs.SessionRecords.{record_of}
 use Rattle.kept_sessions.specs.Keeping.{HasAllTold, HasGrown}
 use Rattle.kept_sessions.specs.Live.{IsOver}
-use Rattle.kept_sessions.specs.Records.{record_front, whole_record}
+use Rattle.kept_sessions.specs.Records.{IsSoFar, record_front, whole_record}
 use Rattle.kept_sessions.specs.declared.live.Over.{Over}
 use Rattle.kept_sessions.proofs.Lived.{come_is, front_on}
 use Rattle.named_files.specs.Outputs.{IsFileWritten}
-use Rattle.named_files.specs.Streams.{Closed, IsFrontOf, closed}
+use Rattle.named_files.proofs.Named.{by_more}
+use Rattle.named_files.specs.Streams.{Closed, IsFrontOf, IsLeftOf, gone_by, gone_to}
 use Rattle.named_files.specs.declared.lost.Reason.{Reason}
 use Rattle.named_files.proofs.Written.{grown}
 
@@ -24,9 +24,18 @@ pub grown_by : {E : Type 0} (r : Result Unit E) (old new : Option (List ℕ)) (b
 grown_by (Ok u) old new bytes went cut = (bytes, went)
 grown_by (Err e) old new bytes went cut = (cut.front, cut.appended)
 
--- so it is once the file is closed
-pub grown_closed : {C : Type 0} (received : C → Closed) (receipt : C) (old new : Option (List ℕ)) (stands : Bool) → received receipt ≡ closed new stands → HasGrown old new → HasGrown old (received receipt).bytes
-grown_closed received receipt old new stands is g = (g.0, subst (λ (b : Option (List ℕ)). Appends old b g.0) (sym (ap (λ (c : Closed). c.bytes) is)) g.1)
+-- so it is once the file of a name is closed
+so_some : (whole : Bool) (text : List ℕ) (after : Option (List ℕ)) → IsSoFar whole text after → (held : List ℕ) × (after ≡ Some held)
+so_some true text after is = (text, is)
+so_some false text after is = (is.0, is.3)
+
+pub grown_closed : {C : Type 0} (received : C → Closed) (name : Option Text) (receipt : C) (old new : Option (List ℕ)) (stands whole : Bool) (text : List ℕ) → is_some name ≡ true → IsSoFar whole text (gone_by name old) → IsLeftOf new stands (received receipt) → HasGrown old new → HasGrown (gone_by name old) (received receipt).bytes
+grown_closed received None receipt old new stands whole text has so is g = absurd (let bad : false ≡ true = has in cc)
+grown_closed received (Some name) receipt old new stands whole text has so is g =
+    let s = so_some whole text (gone_to name old) so in
+    let more : gone_to name new ≡ Some (s.0 ++ g.0) = by_more (Some name) old new s.0 g.0 s.1 g.1 in
+    let bytes : (received receipt).bytes ≡ Some (s.0 ++ g.0) = ap (λ (c : Closed). c.bytes) (is name (s.0 ++ g.0) more) in
+    (g.0, subst (λ (o : Option (List ℕ)). Appends o (received receipt).bytes g.0) (sym s.1) (subst (λ (o : Option (List ℕ)). Appends (Some s.0) o g.0) (sym bytes) refl))
 
 -- a file that was written has a front of what was to be written
 front_written : {C : Type 0} (received : C → Closed) (name : Option Text) (bytes : List ℕ) (receipt : C) (lost : Option Reason) → IsFileWritten received name bytes (Some receipt) lost → IsFrontOf bytes (received receipt).bytes
@@ -38,7 +47,7 @@ front_written received (Some name) bytes receipt (Some why) is = is.0
 has_at : (names : List Text) (was left : Account) (bytes after : Option (List ℕ)) → left.opening ≡ was.opening → IsStreamed (Some (record_front names was)) bytes was.history left.stands left.history left.whole → HasGrown bytes after → (rest : List ℕ) × (after ≡ Some (record_of names left.opening left.stands ++ rest))
 has_at names was left bytes after same w g =
     let before = record_front names was in
-    let added = flat_map entry_text w.added in (
+    let added = texts (length was.history) w.added in (
       w.front ++ g.0,
       grown bytes after (before ++ (added ++ w.front)) g.0 (come_is names was left bytes w) g.1
           ∙ ap Some (ap (λ (x : List ℕ). x ++ g.0) (sym (append_assoc before added w.front)) ∙ append_assoc (before ++ added) w.front g.0

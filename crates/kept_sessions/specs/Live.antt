@@ -1,10 +1,11 @@
 -- Live sessions while their record is open.
-use Rattle.std.specs.Prelude.{◌≡◌, ℕ, Bool, true, List, [], Option, Some, None, Result, Ok, Err, IfOk, IfErr, IfSome, is_some}
+use Rattle.std.specs.Prelude.{◌≡◌, ℕ, Bool, true, List, [], Option, Some, None, Result, Ok, Err, IfOk, IfErr, IfSome, is_some, length}
 use Rattle.clap.specs.Words.{Text}
 use Rattle.module_memory.specs.Store.{Store}
 use Rattle.batch_book.specs.History.{Account, AreUnstopped}
 use Rattle.plan_answers.specs.Refusals.{Printed, Refuses}
 use Rattle.book_record.specs.Streams.{IsWritten as IsStreamed}
+use Rattle.book_record.specs.Sums.{numbered}
 use Rattle.refusals.specs.declared.refusal.Refusal.{Refusal}
 use Rattle.command_words.specs.declared.jobs.RecordFile.{RecordFile}
 use Rattle.command_words.specs.declared.jobs.SharedRack.{SharedRack}
@@ -47,6 +48,7 @@ pub record IsStarted {F : Type 0} (holds : Holding) (contents : F → Option (Li
   pub ready : IsReady start.book
   pub stream : is_some start.stream ≡ is_some record_out
   pub front : HasFront contents names start.book start.stream
+  pub entries : start.entries ≡ numbered (length start.book.history)
   pub cut : IsCutFromRecord holds record_out names start.book start.cut
 
 -- they don't begin, and the file of their record is left so
@@ -75,6 +77,7 @@ pub record IsOverAt {F : Type 0} (contents : F → Option (List ℕ)) (before : 
   pub all : left.whole ≡ true → left.stands ≡ left.history
   pub text : IfSome over.stream (λ file. IsStreamed before (contents file) was.history left.stands
       left.history left.whole)
+  pub entries : IfSome over.stream (λ file. over.entries ≡ numbered (length left.history))
 
 -- the same from their beginning: they have a stream where that has one
 abbrev pub IsOverFrom : {F : Type 0} → (F → Option (List ℕ)) → Start F → Account → Over F → Type 0

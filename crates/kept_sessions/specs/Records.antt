@@ -5,8 +5,9 @@ use Rattle.batch.specs.Text.{line_feed}
 use Rattle.module_memory.specs.Images.{image_of}
 use Rattle.module_memory.specs.Store.{Store}
 use Rattle.batch_book.specs.History.{Account, new_account}
-use Rattle.book_record.specs.Fronts.{end_line}
-use Rattle.book_record.specs.Heads.{adler, head_of, session_limit}
+use Rattle.book_record.specs.Fronts.{last_lines}
+use Rattle.book_record.specs.Heads.{head_of, session_limit}
+use Rattle.book_record.specs.Sums.{adler}
 use Rattle.record_replay.specs.Replays.{IsRecordError, IsRemade}
 use Rattle.record_replay.specs.SessionRecords.{record_of}
 use Rattle.record_replay.specs.declared.fault.RecordError.{RecordError}
@@ -27,7 +28,7 @@ record_front names book = record_of names book.opening book.history
 
 -- the whole record of a book whose sessions have ended
 abbrev pub whole_record : List Text → Account → List ℕ
-whole_record names book = record_front names book ++ end_line
+whole_record names book = record_front names book ++ last_lines (length book.history)
 
 -- the head stands there, and the entries behind it, of sessions below this, were made again
 pub record IsResumed (limit : ℕ) (held head : List ℕ) (opening : Store)
@@ -47,27 +48,29 @@ BeginsAs resumes held opening names was =
     ⊎ ((resumes ≡ true)
     × IsResumed (session_limit (length names)) held (head_for opening names) opening was)
 
--- What is told of a rest that was cut off behind this front of a record: how many bytes it had, and
--- the line with which it began, counted from 1. Of the last line nothing is told.
-abbrev pub IsCutOf : List ℕ → List ℕ → Option Cut → Type 0
-IsCutOf front rest None = (rest ≡ []) ⊎ (rest ≡ end_line)
-IsCutOf front rest (Some cut) =
-    (rest ≢ []) × (rest ≢ end_line) × (cut.bytes ≡ length rest)
+-- What is told of a rest that was cut off after this front of a record, which has so many entries:
+-- how many bytes it had, and the line with which it began, counted from 1. Of the last lines nothing
+-- is told.
+abbrev pub IsCutOf : ℕ → List ℕ → List ℕ → Option Cut → Type 0
+IsCutOf n front rest None = (rest ≡ []) ⊎ (rest ≡ last_lines n)
+IsCutOf n front rest (Some cut) =
+    (rest ≢ []) × (rest ≢ last_lines n) × (cut.bytes ≡ length rest)
     × (cut.line ≡ count_by (λ byte. byte == line_feed) front + 1)
 
--- The same of a file that held this, whose record goes on behind this front: that stood there, and a
+-- The same of a file that held this, whose record goes on after this front: that stood there, and a
 -- rest; or only a front of it, and then nothing was cut off.
-pub data IsCutFrom (held front : List ℕ) (cut : Option Cut) : Type 0 where
+pub data IsCutFrom (n : ℕ) (held front : List ℕ) (cut : Option Cut) : Type 0 where
   begun_anew : (missing : List ℕ) → front ≡ held ++ missing → cut ≡ None
-      → IsCutFrom held front cut
-  gone_on : (rest : List ℕ) → held ≡ front ++ rest → IsCutOf front rest cut
-      → IsCutFrom held front cut
+      → IsCutFrom n held front cut
+  gone_on : (rest : List ℕ) → held ≡ front ++ rest → IsCutOf n front rest cut
+      → IsCutFrom n held front cut
 
 -- the same where sessions began with this book, whose record goes to this file, or to none
 abbrev pub IsCutFromRecord : Holding → Option RecordFile → List Text → Account → Option Cut → Type 0
 IsCutFromRecord holds None names was cut = cut ≡ None
 IsCutFromRecord holds (Some out) names was cut =
-    (held : List ℕ) × holds out.name held × IsCutFrom held (record_front names was) cut
+    (held : List ℕ) × holds out.name held
+    × IsCutFrom (length was.history) held (record_front names was) cut
 
 -- the book with which sessions begin, where their record goes to this file, or to none
 abbrev pub BeginsFor : Holding → Option RecordFile → Store → List Text → Account → Type 0
@@ -111,7 +114,7 @@ abbrev pub IsAsBegun : {C : Type 0} → Holding → (C → Closed) → Option Re
     → Option C → Type 0
 IsAsBegun holds received record_out names receipt =
     IfSome receipt (λ receipt. MatchOption record_out ⊥ (λ out. (held text : List ℕ)
-    × holds out.name held × (received receipt ≡ closed (Some text) false)
+    × holds out.name held × (received receipt ≡ closed out.name (Some text) false)
     × ((text ≡ held) ⊎ IsBegun out.resumes held names text)))
 
 -- what a record tells so far stands there; where it isn't whole, a front

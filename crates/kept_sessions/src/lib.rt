@@ -2,9 +2,9 @@
 //!
 //! [`serve`] answers scripts, and then writes what they leave (`AreScriptsKept` of
 //! `specs/Keeping.antt`). [`host`] and [`talk`] begin with a new book, or with that of a record
-//! that they go on with (`BeginsFor` of `specs/Records.antt`). What they cut off behind its entries
-//! is a front of the text of entries that could come, or of the last line (`IsResumed`); how much
-//! that was, they tell (`IsCutTold` of `specs/Live.antt`). What is left of their files in the end
+//! that they go on with (`BeginsFor` of `specs/Records.antt`). What they cut off after its entries
+//! was torn off, or is the last lines (`IsResumed`); how much that was, they tell (`IsCutTold` of
+//! `specs/Live.antt`). What is left of their files in the end
 //! stands in `AreLiveKept`: also where something of the record is lost, it is a front of the whole
 //! one, and has each entry that was told (`IsRecorded` of `record_replay`, from which its laws go
 //! on). No contract says when it was written. What they answer stands in `IsLiveAnswer`

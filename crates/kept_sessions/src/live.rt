@@ -1,6 +1,6 @@
 //! Live sessions over a book whose entries go to a record, if they go anywhere.
 
-ghost use Rattle.std.specs.Prelude.{◌≡◌, ◌⊎◌, ◌++◌, ◌≤◌, ℕ, List, None, Some, IfOk, IfErr, IfSome, MatchOption, OnErr, OnOk, false, is_some, length, option_map, take, true};
+ghost use Rattle.std.specs.Prelude.{◌≡◌, ◌⊎◌, ◌++◌, ◌≤◌, ℕ, List, None, Some, IfOk, IfErr, IfSome, MatchOption, OnErr, OnOk, Option, false, is_some, length, take, true};
 ghost use Rattle.batch.specs.Text.{IsNumber};
 ghost use Rattle.batch_book.specs.History.{Account};
 ghost use Rattle.clap.specs.Words.{Text};
@@ -9,22 +9,23 @@ ghost use Rattle.module_memory.specs.Images.{image_of};
 ghost use Rattle.module_memory.specs.Store.{Store};
 ghost use Rattle.plan_answers.specs.Refusals.{Refuses};
 ghost use Rattle.rack_answers.specs.Openings.{IsRackOf};
-ghost use Rattle.book_record.specs.Fronts.{end_line};
+ghost use Rattle.book_record.specs.Fronts.{last_lines};
 ghost use Rattle.book_record.specs.Heads.{session_limit};
 ghost use Rattle.book_record.specs.Streams.{IsWritten as IsStreamed};
+ghost use Rattle.book_record.specs.Sums.{numbered};
 ghost use Rattle.named_files.specs.Contents.{contents_in};
 ghost use Rattle.kept_sessions.specs.Live.{HasFront, IsOver, IsReady, IsStarted, IsUnserved, IsUnstarted, left_by};
 ghost use Rattle.named_files.specs.Notes.{IsRefused};
 ghost use Rattle.kept_sessions.specs.Outcomes.{IsToldBy, IsToldOf, IsUnbegun};
 ghost use Rattle.kept_sessions.specs.Keeping.{AreLiveKept, AreWritten, HasGrown};
-ghost use Rattle.named_files.specs.Outputs.{AreNamed, AreOpened, IsFileWritten, IsOpened, IsUnput, is_new, name_of};
+ghost use Rattle.named_files.specs.Outputs.{AreNamed, AreOpened, IsFileWritten, IsLeftOfAny, IsOpened, IsUnput, is_new, name_of};
 ghost use Rattle.kept_sessions.specs.Records.{BeginsAs, BeginsFor, IsBegun, IsCutFrom, IsSoFar, head_for, record_front};
-ghost use Rattle.named_files.specs.Streams.{IsWrittenBy, closed};
+ghost use Rattle.named_files.specs.Streams.{IsWrittenBy, closed, gone_at, gone_by, gone_to};
 
 use crate::found::{Cut, Found};
-use crate::recording::{Begun, Unbegun, begin, new_book, refusal_of};
+use crate::recording::{Begun, Unbegun, begin, new_book};
 use batch_book::{BareBook, Book, History, Silent};
-use book_record::{StreamName, Streamed, stream_off};
+use book_record::{StreamName, Streamed, last_lines, stream_off};
 use byte_streams::write_bytes;
 use command_words::{SharedRack, Text};
 use exchange_limits::WorkerCount;
@@ -35,6 +36,7 @@ use named_files::{
 };
 use plan_answers::Answer;
 use rack_answers::read_rack;
+use record_replay::refusal_of;
 use refusals::Refusal;
 use std::alloc::Global;
 use std::io;
@@ -53,6 +55,8 @@ pub struct Kept<C> {
 /// What sessions begin with.
 pub(crate) struct Start<F> {
     pub(crate) book: Book<Silent>,
+    /// How many entries the book has.
+    pub(crate) entries: u64,
     /// The stream of their record, which has what the book has.
     pub(crate) stream: Option<F>,
     /// What was cut off there.
@@ -72,6 +76,8 @@ pub(crate) struct Unstarted<C> {
 pub(crate) struct Over<F> {
     pub(crate) end: Result<Answer, Refusal>,
     pub(crate) bare: BareBook,
+    /// How many entries the book has, where there is a stream.
+    pub(crate) entries: u64,
     pub(crate) stream: Option<F>,
     /// Whether each entry stands where it belongs.
     pub(crate) is_whole: bool,
@@ -85,11 +91,15 @@ fn write_front<S: System>(
     kept: usize,
     head: &[u8],
 ) -> io::Result<()>
-    requires held { S.Stream.contents file.old ≡ Some held.now }
+    requires held { (name : List ℕ)
+        × (gone_to name (S.Stream.contents file.old) ≡ Some held.now) }
     requires kept { kept ≤ length held.now }
-    ensures written { OnOk result
-        (S.Stream.contents file.new ≡ Some (take kept held.now ++ head.now)) }
-    ensures cut { OnErr result ((text : List ℕ) × (S.Stream.contents file.new ≡ Some text)
+    ensures written { OnOk result ((name : List ℕ)
+        → gone_to name (S.Stream.contents file.old) ≡ Some held.now
+        → gone_to name (S.Stream.contents file.new) ≡ Some (take kept held.now ++ head.now)) }
+    ensures cut { OnErr result ((name : List ℕ)
+        → gone_to name (S.Stream.contents file.old) ≡ Some held.now
+        → (text : List ℕ) × (gone_to name (S.Stream.contents file.new) ≡ Some text)
         × ((text ≡ held.now) ⊎ ((front rest : List ℕ) × (head.now ≡ front ++ rest)
         × (text ≡ take kept held.now ++ front)))) }
 {
@@ -105,8 +115,7 @@ fn not_started<S: System>(
     file: S::Stream,
 ) -> Unstarted<S::Receipt>
     ensures why { result.why ≡ why }
-    ensures receipt { option_map S.received result.receipt
-        ≡ Some (closed (S.Stream.contents file) false) }
+    ensures receipt { IsLeftOfAny S.Stream.contents S.received (Some file) result.receipt }
 {
     Unstarted {
         why,
@@ -127,18 +136,21 @@ fn start_in<R: Threads + Sync, S: System>(
     out: OutFile<'_, S::Stream>,
 ) -> Result<Start<S::Stream>, Unstarted<S::Receipt>>
     requires number { IsNumber (length names.now) }
-    requires contents { S.Stream.contents out.file ≡ Some out.held.items }
+    requires contents { gone_to out.name.now (S.Stream.contents out.file) ≡ Some out.held.items }
     ensures started { IfOk result (λ start.
         BeginsAs resumes out.entry.held.items rack names.now start.book
         × IsReady start.book × (is_some start.stream ≡ true)
-        × HasFront S.Stream.contents names.now start.book start.stream) }
-    ensures cut { IfOk result (λ start. IsCutFrom out.entry.held.items
-        (record_front names.now start.book) start.cut) }
+        × HasFront (gone_at S.Stream.contents (Some out.entry.name.now)) names.now start.book
+        start.stream) }
+    ensures cut { IfOk result (λ start. IsCutFrom (length start.book.history)
+        out.entry.held.items (record_front names.now start.book) start.cut) }
+    ensures entries { IfOk result (λ start.
+        start.entries ≡ numbered (length start.book.history)) }
     ensures unstarted { IfErr result (λ end.
         IsUnbegun resumes (session_limit (length names.now)) out.entry.held.items
         (head_for rack names.now) rack end.why
         × IfSome end.receipt (λ receipt. (text : List ℕ)
-        × (S.received receipt ≡ closed (Some text) false)
+        × (S.received receipt ≡ closed out.entry.name.now (Some text) false)
         × ((text ≡ out.entry.held.items)
         ⊎ IsBegun resumes out.entry.held.items names.now text))) }
 {
@@ -159,6 +171,7 @@ fn start_in<R: Threads + Sync, S: System>(
     );
     let Begun {
         book,
+        entries,
         kept,
         head,
         cut,
@@ -169,6 +182,7 @@ fn start_in<R: Threads + Sync, S: System>(
     match write_front(system, &mut file, held.as_slice(), kept, head.as_slice()) {
         Ok(()) => Ok(Start {
             book,
+            entries,
             stream: Some(file),
             cut,
         }),
@@ -203,8 +217,8 @@ fn start_on<R: Threads + Sync, S: System>(
     requires number { IsNumber (length names.now) }
     requires opened { IsOpened S.Stream.contents (S.holds system.now) (recorded_in shared.now) out }
     requires named { name_of out ≡ recorded_in shared.now }
-    ensures started { IfOk result (IsStarted (S.holds system.now) S.Stream.contents
-        shared.now.record_out rack names.now) }
+    ensures started { IfOk result (IsStarted (S.holds system.now)
+        (gone_at S.Stream.contents (recorded_in shared.now)) shared.now.record_out rack names.now) }
     ensures unstarted { IfErr result (IsUnstarted (S.holds system.now) S.received
         shared.now.record_out rack names.now) }
 {
@@ -222,6 +236,7 @@ fn start_on<R: Threads + Sync, S: System>(
         None => match new_book(alloc, rack) {
             Ok(book) => Ok(Start {
                 book,
+                entries: 0,
                 stream: None,
                 cut: None,
             }),
@@ -276,8 +291,8 @@ pub(crate) fn begin_live<'a, R: AllocGlobal + Threads + Sync, S: System>(
     requires named { AreNamed (recorded_in shared.now) shared.now.image_out outputs }
     ensures started { IfOk result (λ begun. (opening : Store)
         × IsRackOf shared.now.shape (contents_in contents.now).image opening
-        × IsStarted (S.holds system.now) S.Stream.contents shared.now.record_out opening names.now
-        begun.0) }
+        × IsStarted (S.holds system.now) (gone_at S.Stream.contents (recorded_in shared.now))
+        shared.now.record_out opening names.now begun.0) }
     ensures image { IfOk result (λ begun. begun.1 ≡ outputs.entry.image) }
     ensures unserved { IfErr result (IsUnserved (S.holds system.now) S.received shared.now names.now
         (contents_in contents.now).image) }
@@ -325,6 +340,7 @@ pub(crate) fn over_silent<F>(end: Result<Answer, Refusal>, book: Book<Silent>) -
     Over {
         end,
         bare,
+        entries: 0,
         stream: None,
         is_whole,
     }
@@ -341,25 +357,35 @@ pub(crate) fn over_recorded<F: Write + Send, N: StreamName + Send>(
     ensures stream { is_some result.stream ≡ true }
     ensures text { IfSome result.stream (λ file.
         IsStreamed N.held (F.contents file) N.earlier book.stands book.history book.whole) }
+    ensures entries { result.entries ≡ numbered (length book.history) }
 {
     let is_whole = book.log().is_whole();
-    let (bare, stream) = stream_off(book);
+    let (bare, stream, entries) = stream_off(book);
     Over {
         end,
         bare,
+        entries,
         stream: Some(stream),
         is_whole,
     }
 }
 
-/// Writes the last line of a record whose sessions have ended, if each entry stands there.
-fn write_end<S: System>(system: &S, file: &mut S::Stream, is_whole: bool) -> io::Result<()>
-    ensures end { (text : List ℕ) → IsSoFar is_whole text (S.Stream.contents file.old)
-        → IsWrittenBy result (text ++ end_line) (S.Stream.contents file.new) }
+/// Writes the last lines of a record of so many entries whose sessions have ended, if each entry
+/// stands there.
+fn write_end<S: System>(
+    system: &S,
+    file: &mut S::Stream,
+    entries: u64,
+    is_whole: bool,
+) -> io::Result<()>
+    ensures end { (n : ℕ) → (name : Option Text) → (text : List ℕ) → entries ≡ numbered n
+        → IsSoFar is_whole text (gone_by name (S.Stream.contents file.old))
+        → IsWrittenBy result (text ++ last_lines n)
+        (gone_by name (S.Stream.contents file.new)) }
     ensures grown { HasGrown (S.Stream.contents file.old) (S.Stream.contents file.new) }
 {
     if is_whole {
-        return write_bytes(file, b"end\n");
+        return write_bytes(file, last_lines(entries).as_bytes());
     }
     match system.failure(file) {
         Some(error) => Err(error),
@@ -367,25 +393,29 @@ fn write_end<S: System>(system: &S, file: &mut S::Stream, is_whole: bool) -> io:
     }
 }
 
-/// Ends the record of sessions, where they have one.
+/// Ends the record of sessions, of so many entries, where they have one.
 fn end_record<S: System>(
     system: &S,
     alloc: Global,
     shared: &SharedRack,
     stream: Option<S::Stream>,
+    entries: u64,
     is_whole: bool,
 ) -> (Option<S::Receipt>, Option<Reason>)
     requires { is_some stream ≡ is_some shared.now.record_out }
-    ensures end { (text : List ℕ)
-        → IfSome stream (λ file. IsSoFar is_whole text (S.Stream.contents file))
-        → IsFileWritten S.received (recorded_in shared.now) (text ++ end_line) result.0 result.1 }
-    ensures grown { MatchOption stream (result.0 ≡ None) (λ file. IfSome result.0
-        (λ receipt. HasGrown (S.Stream.contents file) (S.received receipt).bytes)) }
+    ensures { (n : ℕ) → (text : List ℕ) → IfSome stream (λ file.
+        IsSoFar is_whole text (gone_at S.Stream.contents (recorded_in shared.now) file)
+        × (entries ≡ numbered n))
+        → IsFileWritten S.received (recorded_in shared.now) (text ++ last_lines n) result.0
+        result.1
+        × MatchOption stream (result.0 ≡ None) (λ file. IfSome result.0
+        (λ receipt. HasGrown (gone_at S.Stream.contents (recorded_in shared.now) file)
+        (S.received receipt).bytes)) }
 {
     let Some(mut file) = stream else {
         return (None, None);
     };
-    let end = write_end(system, &mut file, is_whole);
+    let end = write_end(system, &mut file, entries, is_whole);
     let (receipt, end) = put_written(system, file, end);
     (
         Some(receipt),
@@ -424,6 +454,7 @@ fn keep_live<S: System>(
     shared: &SharedRack,
     bare: &BareBook,
     stream: Option<S::Stream>,
+    entries: u64,
     is_whole: bool,
     image: Option<OutFile<'_, S::Stream>>,
 ) -> (Receipts<S::Receipt>, Lost)
@@ -432,15 +463,17 @@ fn keep_live<S: System>(
     requires named { name_of image ≡ shared.now.image_out }
     ensures written { (names : List Text) → (left : Account) → bare.now.machine ≡ left.machine
         → IfSome stream (λ file. IsSoFar is_whole (record_front names left)
-        (S.Stream.contents file))
+        (gone_at S.Stream.contents (recorded_in shared.now) file)
+        × (entries ≡ numbered (length left.history)))
         → AreWritten S.received (recorded_in shared.now) shared.now.image_out names left result.0
-        result.1 }
-    ensures grown { MatchOption stream (result.0.recorded ≡ None) (λ file. IfSome result.0.recorded
-        (λ receipt. HasGrown (S.Stream.contents file) (S.received receipt).bytes)) }
+        result.1
+        × MatchOption stream (result.0.recorded ≡ None) (λ file. IfSome result.0.recorded
+        (λ receipt. HasGrown (gone_at S.Stream.contents (recorded_in shared.now) file)
+        (S.received receipt).bytes)) }
     ensures broken { is_whole ≡ false → IsUnput S.received result.0.image }
     ensures lost { is_some result.1.recorded ≡ true → IsUnput S.received result.0.image }
 {
-    let (recorded, unrecorded) = end_record(system, alloc, shared, stream, is_whole);
+    let (recorded, unrecorded) = end_record(system, alloc, shared, stream, entries, is_whole);
     let is_kept = is_whole && unrecorded.is_none();
     let (image, unput) = keep_image(system, alloc, bare.rack(), is_kept, image);
     let lost = Lost {
@@ -467,7 +500,7 @@ pub(crate) fn end_live<S: System>(
     ensures cut { result.cut ≡ cut }
     ensures kept { (opening : Store) → (names : List Text) → (was : Account) → (left : Account)
         → BeginsFor (S.holds system.now) shared.now.record_out opening names was
-        → IsOver S.Stream.contents names was left over
+        → IsOver (gone_at S.Stream.contents (recorded_in shared.now)) names was left over
         → OnErr over.end (left.history ≡ was.history)
         → AreLiveKept (S.holds system.now) S.received shared.now names (left_by over.end left)
         result.receipts result.lost }
@@ -475,12 +508,15 @@ pub(crate) fn end_live<S: System>(
     let Over {
         end,
         bare,
+        entries,
         stream,
         is_whole,
     } = over;
     match end {
         Ok(answer) => {
-            let (receipts, lost) = keep_live(system, alloc, shared, &bare, stream, is_whole, image);
+            let (receipts, lost) = keep_live(
+                system, alloc, shared, &bare, stream, entries, is_whole, image,
+            );
             Kept {
                 end: Ok(Found::alone(answer)),
                 receipts,

@@ -1,10 +1,10 @@
 //! How the record of live sessions begins.
 
-ghost use Rattle.std.specs.Prelude.{◌≡◌, ◌==◌, ◌⊎◌, [], ◌≤◌, ◌+◌, ◌++◌, ◌-◌, IfErr, IfOk, Some, true, count_by, drop, length, map, take};
+ghost use Rattle.std.specs.Prelude.{◌≡◌, ◌==◌, ◌⊎◌, [], ◌≤◌, ◌+◌, ◌++◌, ◌-◌, IfErr, IfOk, Some, true, count_by, drop, ℕ, length, map, take};
 ghost use Rattle.batch.specs.Text.{IsNumber, line_feed};
 ghost use Rattle.batch_book.specs.History.{new_account};
 ghost use Rattle.book_record.specs.Heads.{session_limit};
-ghost use Rattle.record_replay.specs.ReplayAnswers.{of_record};
+ghost use Rattle.book_record.specs.Sums.{numbered};
 ghost use Rattle.record_replay.specs.declared.fault.RecordFault.TheVariants.{Head};
 ghost use Rattle.named_files.specs.Notes.{IsRefused};
 ghost use Rattle.kept_sessions.specs.Live.{IsReady};
@@ -13,7 +13,7 @@ ghost use Rattle.kept_sessions.specs.Records.{BeginsAs, IsCommonFront, IsCutFrom
 
 use crate::found::Cut;
 use batch_book::{Book, Silent};
-use book_record::{head_text, is_ended, session_limit, sum_of};
+use book_record::{head_text, last_lines, session_limit, sum_of};
 use command_words::Text;
 use exchange_limits::WorkerCount;
 use line_words::behind;
@@ -21,7 +21,6 @@ use module_memory::Rack;
 use named_files::{NoAnswer, Unanswered};
 use record_replay::{RecordError, RecordFault, Remade, replay};
 use refusal_notes::file_line;
-use refusals::Refusal;
 use std::alloc::{AllocError, Global};
 use std::thread::Threads;
 
@@ -29,11 +28,13 @@ use std::thread::Threads;
 #[derive(Drop)]
 pub(crate) struct Begun {
     pub(crate) book: Book<Silent>,
+    /// How many entries it has.
+    pub(crate) entries: u64,
     /// How many bytes of the file stay.
     pub(crate) kept: usize,
     /// What is written behind them.
     pub(crate) head: Vec<u8>,
-    /// What of the file isn't kept, but for its last line.
+    /// What of the file isn't kept, but for its last lines.
     pub(crate) cut: Option<Cut>,
 }
 
@@ -56,19 +57,6 @@ impl From<AllocError> for Unbegun {
 
     fn from(error: AllocError) -> Unbegun {
         Unbegun::Missed(NoAnswer::from(error))
-    }
-}
-
-/// The refusal of what is wrong with a record.
-pub(crate) fn refusal_of(fault: RecordFault) -> Refusal
-    ensures { result ≡ of_record fault }
-{
-    match fault {
-        RecordFault::Head => Refusal::RecordHead,
-        RecordFault::Call(e) => Refusal::RecordCall(e),
-        RecordFault::Reply(e) => Refusal::RecordReply(e),
-        RecordFault::More => Refusal::RecordMore,
-        RecordFault::NoMemory => Refusal::NoMemory,
     }
 }
 
@@ -156,8 +144,16 @@ fn other_head(held: &[u8], head: Vec<u8>) -> RecordError
     }
 }
 
-/// The book of the entries that stand behind this head, which is that of the rack's record, and by
-/// which the numbers of sessions are below this; and how many bytes the head and they have.
+/// So many entries, as their numbers count them.
+fn count_of(entries: usize) -> u64
+    ensures { result ≡ numbered entries }
+{
+    entries as u64
+}
+
+/// The book of the entries that follow this head, which is that of the rack's record, and by which
+/// the numbers of sessions are below this; how many there are; and how many bytes the head and they
+/// have.
 fn resume<R: Threads + Sync>(
     rt: &R,
     alloc: Global,
@@ -166,9 +162,10 @@ fn resume<R: Threads + Sync>(
     head: Vec<u8>,
     limit: usize,
     workers: WorkerCount,
-) -> Result<(Book<Silent>, usize), Unbegun>
+) -> Result<(Book<Silent>, u64, usize), Unbegun>
     ensures resumed { IfOk result (λ r. (resumed : IsResumed limit held.now head.items rack r.0)
-        × (r.1 ≡ length held.now - length resumed.rest)) }
+        × (r.2 ≡ length held.now - length resumed.rest)) }
+    ensures entries { IfOk result (λ r. r.1 ≡ numbered (length r.0.history)) }
     ensures whole { IfOk result (λ r. r.0.whole ≡ true) }
     ensures all { IfOk result (λ r. r.0.stands ≡ r.0.history) }
     ensures unbegun { IfErr result (IsUnbegun true limit held.now head.items rack) }
@@ -177,11 +174,21 @@ fn resume<R: Threads + Sync>(
         return Err(Unbegun::Wrong(other_head(held, head)));
     };
     match replay(rt, alloc, rack, text, limit, None, workers) {
-        Ok(Remade { book, rest, .. }) => {
+        Ok(
+            Remade {
+                book,
+                entries,
+                rest,
+            },
+        ) => {
             // Asked for only for its contract, which says that the book is whole, and that no entry
             // of it waits.
             book.log();
-            Ok((book, held.len().saturating_sub(rest.len())))
+            Ok((
+                book,
+                count_of(entries),
+                held.len().saturating_sub(rest.len()),
+            ))
         }
         Err(error) => Err(wrong_behind(head.len(), error)),
     }
@@ -194,16 +201,19 @@ fn line_behind(front: &[u8]) -> usize
     front.iter().filter(|byte| **byte == b'\n').count() + 1
 }
 
-/// What is told of what stands in a record behind so many bytes: of its last line nothing.
-fn cut_of(held: &[u8], kept: usize) -> Option<Cut>
+/// What is told of what stands in a record after so many entries, and so many bytes: of its last
+/// lines nothing.
+fn cut_of(held: &[u8], kept: usize, entries: u64) -> Option<Cut>
     requires { kept ≤ length held.now }
-    ensures { IsCutOf (take kept held.now) (drop kept held.now) result }
+    ensures { (n : ℕ) → entries ≡ numbered n
+        → IsCutOf n (take kept held.now) (drop kept held.now) result }
 {
     let (front, rest) = held.split_at(kept);
     if rest.is_empty() {
         return None;
     }
-    if is_ended(rest) {
+    let end = last_lines(entries);
+    if rest == end.as_bytes() {
         return None;
     }
     Some(Cut {
@@ -232,8 +242,10 @@ pub(crate) fn begin<R: Threads + Sync>(
         take begun.kept held.now ++ begun.head.items ≡ record_front names.now begun.book) }
     ensures new { IfOk result (λ begun. ((begun.kept ≡ 0) × (begun.book ≡ new_account rack))
         ⊎ (begun.head.items ≡ [])) }
-    ensures cut { IfOk result (λ begun.
-        IsCutFrom held.now (record_front names.now begun.book) begun.cut) }
+    ensures cut { IfOk result (λ begun. IsCutFrom (length begun.book.history) held.now
+        (record_front names.now begun.book) begun.cut) }
+    ensures entries { IfOk result (λ begun.
+        begun.entries ≡ numbered (length begun.book.history)) }
     ensures ready { IfOk result (λ begun. IsReady begun.book) }
     ensures unbegun { IfErr result
         (IsUnbegun resumes (session_limit (length names.now)) held.now
@@ -243,6 +255,7 @@ pub(crate) fn begin<R: Threads + Sync>(
     if head.as_slice().starts_with(held) {
         return Ok(Begun {
             book: new_book(alloc, rack)?,
+            entries: 0,
             kept: 0,
             head,
             cut: None,
@@ -252,11 +265,12 @@ pub(crate) fn begin<R: Threads + Sync>(
         return Err(Unbegun::Missed(holds_more(alloc, name)));
     }
     let limit = session_limit(names.len());
-    let (book, kept) = resume(rt, alloc, rack, held, head, limit, workers)?;
+    let (book, entries, kept) = resume(rt, alloc, rack, held, head, limit, workers)?;
     Ok(Begun {
         book,
+        entries,
         kept,
         head: Vec::new(alloc),
-        cut: cut_of(held, kept),
+        cut: cut_of(held, kept, entries),
     })
 }

@@ -1,6 +1,7 @@
 //! The jobs that have sessions.
 
-ghost use Rattle.std.specs.Prelude.{◌≡◌, [], List, ℕ, Option, None, IfErr, IfOk, is_some, true};
+ghost use Rattle.std.specs.Prelude.{◌≡◌, [], List, ℕ, Option, None, IfErr, IfOk, is_some, length, true};
+ghost use Rattle.book_record.specs.Sums.{numbered};
 ghost use Rattle.std.specs.Io.KnownBytes.{Appends};
 ghost use Rattle.batch_book.specs.History.{Account};
 ghost use Rattle.client_session.specs.Listening.{TellsOfRefusals};
@@ -26,8 +27,8 @@ use client_session::Listener;
 use command_words::{SharedRack, Text};
 use exchange_limits::WorkerCount;
 use named_files::{
-    ClientFiles, Contents, FileStreams, Lack, Lost, NoAnswer, OutFile, Outputs, Reason, Receipts,
-    Runtime, System, close_file, keep_file, slice_of,
+    Apart, ClientFiles, Contents, FileStreams, Lack, Lost, NoAnswer, OutFile, Outputs, Reason,
+    Receipts, Runtime, System, close_file, keep_file, slice_of,
 };
 use plan_answers::Answer;
 use refusals::Refusal;
@@ -169,6 +170,7 @@ fn host_recorded<N: StreamName + Send, R: Threads + Wait + Sync, S: System>(
     rt: &R,
     alloc: Global,
     book: Book<Silent>,
+    entries: u64,
     stream: S::Stream,
     gathers: bool,
     workers: WorkerCount,
@@ -177,6 +179,7 @@ fn host_recorded<N: StreamName + Send, R: Threads + Wait + Sync, S: System>(
 ) -> Over<S::Stream>
     requires held { S.Stream.contents stream ≡ N.held }
     requires earlier { book.history ≡ N.earlier }
+    requires entries { entries ≡ numbered (length book.history) }
     requires clients { CanBeServed streams.now.clients.now }
     requires ready { IsReady book }
     ensures stream { is_some result.stream ≡ true }
@@ -185,7 +188,7 @@ fn host_recorded<N: StreamName + Send, R: Threads + Wait + Sync, S: System>(
         (clients_by (S.says streams.now.system.now) (S.had streams.now.system.now)
         streams.now.clients.now) endings.old.items endings.new.items result.end left }
 {
-    let book = stream_on::<S::Stream, N>(alloc, book, stream, gathers);
+    let book = stream_on::<S::Stream, N>(alloc, book, entries, stream, gathers);
     let (end, book) = host_over(rt, alloc, book, workers, streams, endings);
     over_recorded(end, book)
 }
@@ -207,6 +210,7 @@ fn host_from<R: Threads + Wait + Sync, S: System>(
 ) -> Over<S::Stream>
     requires clients { CanBeServed streams.now.clients.now }
     requires ready { IsReady start.book }
+    requires entries { start.entries ≡ numbered (length start.book.history) }
     ensures over { (left : Account) × IsOverFrom S.Stream.contents start left result
         × IsHostOver (is_some start.stream) start.book
         (clients_by (S.says streams.now.system.now) (S.had streams.now.system.now)
@@ -214,12 +218,13 @@ fn host_from<R: Threads + Wait + Sync, S: System>(
 {
     let Start {
         book,
+        entries,
         stream,
         cut: _,
     } = start;
     match stream {
         Some(stream) => host_recorded::<Brand, R, S>(
-            rt, alloc, book, stream, gathers, workers, streams, endings,
+            rt, alloc, book, entries, stream, gathers, workers, streams, endings,
         ),
         None => {
             let (end, book) = host_over(rt, alloc, book, workers, streams, endings);
@@ -235,6 +240,7 @@ pub fn host<R: Runtime, S: System>(
     system: &S,
     shared: &SharedRack,
     clients: &[Text],
+    apart: &Apart,
     workers: WorkerCount,
     contents: &Contents,
     unopened: &[OnceLock<Lack>],
@@ -261,6 +267,7 @@ pub fn host<R: Runtime, S: System>(
         system,
         alloc,
         clients,
+        apart,
         unopened,
     };
     let cut = start.cut;
@@ -310,6 +317,7 @@ fn talk_recorded<
     rt: &R,
     alloc: Global,
     book: Book<Silent>,
+    entries: u64,
     stream: F,
     input: &mut I,
     out: &mut O,
@@ -317,6 +325,7 @@ fn talk_recorded<
 ) -> Over<F>
     requires held { F.contents stream ≡ N.held }
     requires earlier { book.history ≡ N.earlier }
+    requires entries { entries ≡ numbered (length book.history) }
     requires ready { IsReady book }
     ensures stream { is_some result.stream ≡ true }
     ensures session { (told : List ℕ) × (left : Account)
@@ -326,7 +335,7 @@ fn talk_recorded<
         left }
     ensures beside { TellsOfRefusals H.may_tell (H.told listener.old) (H.told listener.new) }
 {
-    let book = stream_on::<F, N>(alloc, book, stream, false);
+    let book = stream_on::<F, N>(alloc, book, entries, stream, false);
     let (end, book) = talk_over(rt, alloc, book, input, out, listener);
     over_recorded(end, book)
 }
@@ -341,6 +350,7 @@ fn talk_from<R: Threads + Wait + Sync, F: Write + Send, I: Read, O: Write, H: Li
     listener: &mut H,
 ) -> Over<F>
     requires ready { IsReady start.book }
+    requires entries { start.entries ≡ numbered (length start.book.history) }
     ensures session { (told : List ℕ) × (left : Account)
         × Appends (O.contents out.old) (O.contents out.new) told
         × IsOverFrom F.contents start left result
@@ -350,12 +360,13 @@ fn talk_from<R: Threads + Wait + Sync, F: Write + Send, I: Read, O: Write, H: Li
 {
     let Start {
         book,
+        entries,
         stream,
         cut: _,
     } = start;
     match stream {
         Some(stream) => talk_recorded::<Brand, R, F, I, O, H>(
-            rt, alloc, book, stream, input, out, listener,
+            rt, alloc, book, entries, stream, input, out, listener,
         ),
         None => {
             let (end, book) = talk_over(rt, alloc, book, input, out, listener);

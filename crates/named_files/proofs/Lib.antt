@@ -1,4 +1,5 @@
 pub mod Written
+pub mod Named
 pub mod Reading
 pub mod Told
 pub mod Seen

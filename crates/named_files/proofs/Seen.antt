@@ -1,10 +1,11 @@
 -- Files that are seen to be apart.
-use Rattle.std.proofs.Common.{◌≡◌, ◌∙◌, ◌++◌, List, [], ◌∷◌, Option, Some, None, append-nil, codes, map, ap, sym, subst}
-use Rattle.std.specs.Prelude.{option_to_list}
+use Rattle.std.proofs.Common.{◌≡◌, ◌∙◌, ◌++◌, List, [], ◌∷◌, Option, Some, None, append-nil, codes, map, ap, ap₂, sym, subst}
+use Rattle.std.specs.Prelude.{Contains, option_to_list}
 use Rattle.std.proofs.lemmas.List.Elements.{Contains-append_left, Contains-append_right, Contains-push}
 use Rattle.clap.specs.Words.{Text}
 use Rattle.command_words.specs.Jobs.{file, kept_files, recorded_in}
 use Rattle.command_words.specs.declared.jobs.SharedRack.{SharedRack}
+use Rattle.command_words.specs.declared.uses.Access.{Access}
 use Rattle.command_words.specs.declared.uses.Access.TheVariants.{Write}
 use Rattle.command_words.specs.declared.uses.FileUse.{FileUse}
 use Rattle.named_files.specs.Apart.{AreSeenApart, HaveNoClash, IsNoneOf, Leading, MayBeWritten}
@@ -39,3 +40,8 @@ kept_written uses before after rack are =
 pub kept_last : (uses before : List FileUse) (rack : SharedRack) → uses ≡ before ++ kept_files rack → MayBeWritten uses (recorded_in rack) × MayBeWritten uses rack.image_out
 kept_last uses before rack are =
     kept_written uses before [] rack (are ∙ ap (λ (xs : List FileUse). before ++ xs) (sym (append-nil (kept_files rack))))
+
+-- a file of this name that is written stands among them
+pub stands_written : (uses : List FileUse) (use_at : FileUse) (name : Text) → Contains uses use_at → (use_at.access ≡ Write) × (use_at.name ≡ name) → Contains uses (file Write name)
+stands_written uses use_at name stands is =
+    subst (Contains uses) (ap₂ (λ (a : Access) (n : Text). file a n) is.0 is.1) stands

@@ -1,11 +1,12 @@
 -- What goes to files.
-use Rattle.std.proofs.Common.{◌≡◌, ◌∙◌, ◌++◌, ℕ, not, List, [], Option, Some, None, Result, Ok, Err, OnOk, OnErr, IsErrAnd, false, true, is_ok, is_some, append-nil, append_assoc, ap, sym, refl}
-use Rattle.std.specs.Prelude.{option_map}
+use Rattle.std.proofs.Common.{◌≡◌, ◌∙◌, ◌++◌, ◌∷◌, ℕ, Bool, not, List, [], Option, Some, None, Result, Ok, Err, OnOk, OnErr, IfOk, IsErrAnd, false, true, is_ok, is_some, append-nil, append_assoc, ap, ap₂, length, subst, sym, refl}
+use Rattle.std.specs.Prelude.{⊤}
 use Rattle.std.specs.Io.KnownBytes.{Appends}
 use Rattle.byte_streams.specs.Writing.{IsCutShort}
 use Rattle.clap.specs.Words.{Text}
-use Rattle.named_files.specs.Outputs.{HasNothingGone, IsFileWritten, IsOpened, is_new, name_of}
-use Rattle.named_files.specs.Streams.{Closed, IsFrontOf, IsWrittenBy, closed}
+use Rattle.named_files.specs.Outputs.{HasNothingGone, IsFileWritten, IsLeftOfAny, IsOpened, is_new, name_of, stream_of}
+use Rattle.named_files.proofs.Named.{by_more, gone_front, one_name}
+use Rattle.named_files.specs.Streams.{Closed, IsFrontOf, IsLeftOf, IsWrittenBy, closed, gone_by, gone_to, named_text}
 use Rattle.named_files.specs.declared.lost.Reason.{Reason}
 use Rattle.named_files.specs.declared.outputs.OutFile.{OutFile}
 
@@ -17,10 +18,10 @@ grown (Some xs) (Some ys) front bytes is appended =
     let same : xs ≡ front = cc in ap Some (appended ∙ ap (λ (f : List ℕ). f ++ bytes) same)
 
 -- what was written behind a text
-pub written_behind : {E : Type 0} (r : Result Unit E) (old new : Option (List ℕ)) (text bytes : List ℕ) → old ≡ Some text → OnOk r (Appends old new bytes) → OnErr r (IsCutShort old new bytes) → IsWrittenBy r (text ++ bytes) new
-written_behind (Ok u) old new text bytes is went cut = grown old new text bytes is went
-written_behind (Err e) old new text bytes is went cut =
-    (text ++ cut.front, cut.missing, ap (λ (x : List ℕ). text ++ x) cut.bytes_are ∙ sym (append_assoc text cut.front cut.missing), grown old new text cut.front is cut.appended)
+pub written_behind : {E : Type 0} (r : Result Unit E) (name : Option Text) (old new : Option (List ℕ)) (text bytes : List ℕ) → gone_by name old ≡ Some text → OnOk r (Appends old new bytes) → OnErr r (IsCutShort old new bytes) → IsWrittenBy r (text ++ bytes) (gone_by name new)
+written_behind (Ok u) name old new text bytes is went cut = by_more name old new text bytes is went
+written_behind (Err e) name old new text bytes is went cut =
+    (text ++ cut.front, cut.missing, ap (λ (x : List ℕ). text ++ x) cut.bytes_are ∙ sym (append_assoc text cut.front cut.missing), by_more name old new text cut.front is cut.appended)
 
 -- nothing was written behind it
 pub left_behind : (old : Option (List ℕ)) (text bytes : List ℕ) → IsFrontOf text old → IsFrontOf (text ++ bytes) old
@@ -33,32 +34,40 @@ stands_where (Ok u) (Some why) is = absurd (let bad : true ≡ false = is in cc)
 stands_where (Err e) None is = absurd (let bad : false ≡ true = is in cc)
 stands_where (Err e) (Some why) is = refl
 
+-- what is left of a file that was written
+left_is : {E : Type 0} (first : Result Unit E) (name : Text) (bytes : List ℕ) (contents : Option (List ℕ)) (stands : Bool) (left : Closed)
+    → IsWrittenBy first bytes (gone_to name contents) → IsLeftOf contents stands left → left ≡ closed name (gone_to name contents) stands
+left_is (Ok u) name bytes contents stands left wrote is = is name bytes wrote ∙ ap (λ (b : Option (List ℕ)). closed name b stands) (sym wrote)
+left_is (Err e) name bytes contents stands left wrote is = is name wrote.0 wrote.3 ∙ ap (λ (b : Option (List ℕ)). closed name b stands) (sym wrote.3)
+
 -- a file that was written and put in its place, or why not
 file_written : {C E : Type 0} (received : C → Closed) (name : Text) (bytes : List ℕ) (receipt : C) (lost : Option Reason) (first end : Result Unit E) (after : Option (List ℕ))
-    → IsWrittenBy first bytes after → received receipt ≡ closed after (is_ok end) → OnErr first (is_ok end ≡ false) → is_some lost ≡ not (is_ok end) → IsFileWritten received (Some name) bytes (Some receipt) lost
+    → IsWrittenBy first bytes after → received receipt ≡ closed name after (is_ok end) → OnErr first (is_ok end ≡ false) → is_some lost ≡ not (is_ok end) → IsFileWritten received (Some name) bytes (Some receipt) lost
 file_written received name bytes receipt None (Ok u) end after wrote is cut lost_is =
-    (ap (λ (c : Closed). c.bytes) is ∙ wrote, ap (λ (c : Closed). c.stands) is ∙ stands_where end None lost_is)
+    (ap (λ (c : Closed). c.bytes) is ∙ wrote, ap (λ (c : Closed). c.stands) is ∙ stands_where end None lost_is, ap (λ (c : Closed). c.name) is)
 file_written received name bytes receipt (Some why) (Ok u) end after wrote is cut lost_is =
-    ((bytes, [], sym (append-nil bytes), ap (λ (c : Closed). c.bytes) is ∙ wrote), ap (λ (c : Closed). c.stands) is ∙ stands_where end (Some why) lost_is)
+    ((bytes, [], sym (append-nil bytes), ap (λ (c : Closed). c.bytes) is ∙ wrote), ap (λ (c : Closed). c.stands) is ∙ stands_where end (Some why) lost_is, ap (λ (c : Closed). c.name) is)
 file_written received name bytes receipt None (Err e) end after wrote is cut lost_is =
     absurd (let one : is_ok end ≡ false = cut in let bad : false ≡ not (is_ok end) = lost_is in let no : false ≡ true = bad ∙ ap not one in cc)
 file_written received name bytes receipt (Some why) (Err e) end after wrote is cut lost_is =
-    ((wrote.0, wrote.1, wrote.2, ap (λ (c : Closed). c.bytes) is ∙ wrote.3), ap (λ (c : Closed). c.stands) is ∙ stands_where end (Some why) lost_is)
+    ((wrote.0, wrote.1, wrote.2, ap (λ (c : Closed). c.bytes) is ∙ wrote.3), ap (λ (c : Closed). c.stands) is ∙ stands_where end (Some why) lost_is, ap (λ (c : Closed). c.name) is)
 
 -- the same of a file that has a name
-pub named_written : {C E : Type 0} (received : C → Closed) (name : Option Text) (bytes : List ℕ) (receipt : C) (lost : Option Reason) (first end : Result Unit E) (after : Option (List ℕ))
-    → is_some name ≡ true → IsWrittenBy first bytes after → received receipt ≡ closed after (is_ok end) → OnErr first (is_ok end ≡ false) → is_some lost ≡ not (is_ok end) → IsFileWritten received name bytes (Some receipt) lost
-named_written received None bytes receipt lost first end after has wrote is cut lost_is = absurd (let bad : false ≡ true = has in cc)
-named_written received (Some name) bytes receipt lost first end after has wrote is cut lost_is = file_written received name bytes receipt lost first end after wrote is cut lost_is
+pub named_written : {C E : Type 0} (received : C → Closed) (name : Option Text) (bytes : List ℕ) (receipt : C) (lost : Option Reason) (first end : Result Unit E) (contents : Option (List ℕ))
+    → is_some name ≡ true → IsWrittenBy first bytes (gone_by name contents) → IsLeftOf contents (is_ok end) (received receipt) → OnErr first (is_ok end ≡ false) → is_some lost ≡ not (is_ok end) → IsFileWritten received name bytes (Some receipt) lost
+named_written received None bytes receipt lost first end contents has wrote is cut lost_is = absurd (let bad : false ≡ true = has in cc)
+named_written received (Some name) bytes receipt lost first end contents has wrote is cut lost_is =
+    file_written received name bytes receipt lost first end (gone_to name contents) wrote (left_is first name bytes contents (is_ok end) (received receipt) wrote is) cut lost_is
 
 -- a new file that was closed as it was opened
 pub nothing_gone : {F C : Type 0} (contents : F → Option (List ℕ)) (received : C → Closed) (name : Option Text) (out : Option (OutFile F)) (receipt : Option C)
-    → IsOpened contents is_new name out → option_map received receipt ≡ option_map (λ (o : OutFile F). closed (contents o.file) false) out → HasNothingGone received name receipt
-nothing_gone contents received name out None opened same = tt
-nothing_gone contents received name None (Some r) opened same = absurd cc
-nothing_gone contents received name (Some o) (Some r) opened same =
-    let is : received r ≡ closed (contents o.file) false = cc in
-    (ap is_some opened.0, is ∙ ap (λ (b : Option (List ℕ)). closed b false) (opened.2 ∙ ap Some opened.1))
+    → IsOpened contents is_new name out → IsLeftOfAny contents received (stream_of out) receipt → HasNothingGone received name receipt
+nothing_gone {F} {C} contents received name None receipt opened none = subst (HasNothingGone received name) (sym none) tt
+nothing_gone contents received name (Some o) None opened left = absurd left
+nothing_gone contents received None (Some o) (Some r) opened left = absurd (let bad : None ≡ Some o.name.now = opened.0 in cc)
+nothing_gone contents received (Some name) (Some o) (Some r) opened left =
+    let same : o.name.now ≡ name = (let e : Some name ≡ Some o.name.now = opened.0 in cc) in
+    left o.name.now [] (opened.2 ∙ ap Some opened.1) ∙ ap (λ (n : Text). closed n (Some []) false) same
 
 -- where something failed before, nothing was written
 pub unwritten : {E : Type 0} (r : Result Unit E) (P : E → Type 0) (bytes : List ℕ) (after : Option (List ℕ)) → IsErrAnd r P → after ≡ Some [] → IsWrittenBy r bytes after
@@ -67,8 +76,39 @@ unwritten (Err e) P bytes after err is = ([], bytes, refl, is)
 
 -- a new file that was closed as it was opened, since something is lost
 pub left_new : {F C : Type 0} (contents : F → Option (List ℕ)) (received : C → Closed) (out : Option (OutFile F)) (o : OutFile F) (wanted : List ℕ) (receipt : C) (lost : Reason)
-    → out ≡ Some o → IsOpened contents is_new (name_of out) out → received receipt ≡ closed (contents o.file) false → IsFileWritten received (name_of out) wanted (Some receipt) (Some lost)
+    → out ≡ Some o → IsOpened contents is_new (name_of out) out → IsLeftOf (contents o.file) false (received receipt) → IsFileWritten received (name_of out) wanted (Some receipt) (Some lost)
 left_new {F} {C} contents received None o wanted receipt lost is opened left = absurd cc
 left_new {F} {C} contents received (Some x) o wanted receipt lost is opened left =
     let same : x ≡ o = cc in
-    (([], wanted, refl, ap (λ (c : Closed). c.bytes) left ∙ ap (λ (y : OutFile F). contents y.file) (sym same) ∙ opened.2 ∙ ap Some opened.1), ap (λ (c : Closed). c.stands) left)
+    let begun : gone_to x.name.now (contents o.file) ≡ Some [] = ap (λ (y : OutFile F). gone_to x.name.now (contents y.file)) (sym same) ∙ opened.2 ∙ ap Some opened.1 in
+    let so = left x.name.now [] begun in
+    (([], wanted, refl, ap (λ (c : Closed). c.bytes) so), ap (λ (c : Closed). c.stands) so, ap (λ (c : Closed). c.name) so)
+
+-- ---- files of the real system
+
+-- what contracts see of one says what has gone to it
+opened_named : (name named sent held : List ℕ) → named ≡ name → sent ≡ held → gone_to name (Some (named_text named sent)) ≡ Some held
+opened_named name named sent held same are = rw (same, are) (gone_front name held)
+
+pub opened_new : {X E : Type 0} (r : Result X E) (named sent held : X → List ℕ) (name : List ℕ) → IfOk r (λ x. (sent x ≡ held x) × (named x ≡ name)) → IfOk r (λ x. gone_to name (Some (named_text (named x) (sent x))) ≡ Some (held x))
+opened_new (Ok x) named sent held name is = opened_named name (named x) (sent x) (held x) is.1 is.0
+opened_new (Err e) named sent held name is = tt
+
+pub opened_held : {X E : Type 0} (r : Result X E) (named sent held : X → List ℕ) (name : List ℕ) → IfOk r (λ x. (sent x ≡ held x) × (named x ≡ name)) → IfOk r (λ x. ⊤ × (gone_to name (Some (named_text (named x) (sent x))) ≡ Some (held x)))
+opened_held (Ok x) named sent held name is = (tt, opened_named name (named x) (sent x) (held x) is.1 is.0)
+opened_held (Err e) named sent held name is = tt
+
+pub cut_named : {E : Type 0} (r : Result Unit E) (named after sent new kept held : List ℕ) → OnOk r (new ≡ kept) → after ≡ named → OnOk r ((name : List ℕ) → gone_to name (Some (named_text named sent)) ≡ Some held → gone_to name (Some (named_text after new)) ≡ Some kept)
+cut_named (Ok u) named after sent new kept held is same = λ name gone. opened_named name after new kept (same ∙ one_name named name sent held gone) is
+cut_named (Err e) named after sent new kept held is same = tt
+
+pub same_named : {E : Type 0} (r : Result Unit E) (named after sent new : List ℕ) → OnErr r (new ≡ sent) → after ≡ named → OnErr r (Some (named_text after new) ≡ Some (named_text named sent))
+same_named (Ok u) named after sent new is same = tt
+same_named (Err e) named after sent new is same = ap₂ (λ (n : List ℕ) (x : List ℕ). Some (named_text n x)) same is
+
+pub left_named : (named sent after went : List ℕ) (stands is : Bool) → (went ≡ sent) × (after ≡ named) × (is ≡ stands) → IsLeftOf (Some (named_text named sent)) stands (closed after (Some went) is)
+left_named named sent after went stands is same = λ name bytes gone.
+    let one : named ≡ name = one_name named name sent bytes gone in
+    let rest : Some sent ≡ Some bytes = sym (opened_named name named sent sent one refl) ∙ gone in
+    let all : Some went ≡ Some bytes = ap Some same.0 ∙ rest in
+    rw (same.1 ∙ one, all, same.2) refl

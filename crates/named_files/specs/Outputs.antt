@@ -1,10 +1,10 @@
 -- The files to which go the record of sessions and the image that they leave.
-use Rattle.std.specs.Prelude.{◌≡◌, ℕ, List, [], Option, Some, None, ⊤, codes, Bool, true, false, IfSome, is_some, not, option_map, string_bytes, unwrap_or}
+use Rattle.std.specs.Prelude.{◌≡◌, ℕ, List, [], Option, Some, None, ⊤, codes, Bool, true, false, IfSome, MatchOption, is_some, not, option_map, string_bytes, unwrap_or}
 use Rattle.command_words.specs.declared.jobs.Job.{Job}
 use Rattle.command_words.specs.Jobs.{recorded_in}
 use Rattle.named_files.specs.Notes.{IsToldInPart}
 use Rattle.named_files.specs.Contents.{Holding}
-use Rattle.named_files.specs.Streams.{Closed, IsFrontOf, closed}
+use Rattle.named_files.specs.Streams.{Closed, IsFrontOf, IsLeftOf, closed, gone_to}
 use Rattle.named_files.specs.declared.outputs.Receipts.{Receipts}
 use Rattle.named_files.specs.declared.unwritten.Unwritten.{Unwritten}
 use Rattle.named_files.specs.declared.unwritten.Unwritten.TheVariants.{Answer, Kept, Nowhere, Setting}
@@ -71,7 +71,7 @@ abbrev pub IsOpened : {F : Type 0} → (F → Option (List ℕ)) → Holding →
     → Option (OutFile F) → Type 0
 IsOpened contents begins name out =
     IfSome out (λ out. (name ≡ Some out.name.now) × begins out.name.now out.held.items
-    × (contents out.file ≡ Some out.held.items))
+    × (gone_to out.name.now (contents out.file) ≡ Some out.held.items))
 
 -- the file of the record is open so, and for the image a new file is
 abbrev pub AreOpened : {F : Type 0} → (F → Option (List ℕ)) → Holding → Option Text → Option Text
@@ -93,27 +93,39 @@ none_open = record { recorded = None; image = None }
 abbrev pub none_opened : {C : Type 0} → Receipts C
 none_opened = record { recorded = None; image = None }
 
+-- the streams that are open, if there are any
+abbrev pub stream_of : {F : Type 0} → Option (OutFile F) → Option F
+stream_of out = option_map (λ out. out.file) out
+
+-- what is left of a stream that was closed and put nowhere, if one was open
+abbrev pub IsLeftOfAny : {F C : Type 0} → (F → Option (List ℕ)) → (C → Closed) → Option F
+    → Option C → Type 0
+IsLeftOfAny contents received None receipt = receipt ≡ None
+IsLeftOfAny contents received (Some file) None = ⊥
+IsLeftOfAny contents received (Some file) (Some receipt) =
+    IsLeftOf (contents file) false (received receipt)
+
 -- nothing went to the new file for this name, if one was opened, and it was put nowhere; and no
 -- other was opened
 abbrev pub HasNothingGone : {C : Type 0} → (C → Closed) → Option Text → Option C → Type 0
 HasNothingGone received name receipt =
-    IfSome receipt (λ receipt. (is_some name ≡ true)
-    × (received receipt ≡ closed (Some []) false))
+    IfSome receipt (λ receipt. MatchOption name ⊥ (λ name.
+    received receipt ≡ closed name (Some []) false))
 
 -- these bytes are what a file holds; or a front of them, where it is told why not all stand there
 abbrev pub IsWritten : List ℕ → Option (List ℕ) → Option Reason → Type 0
 IsWritten bytes after None = after ≡ Some bytes
 IsWritten bytes after (Some lost) = IsFrontOf bytes after
 
--- So it is of the file of this name, and it was put in its place where all stands there, and only
--- then. Where there is no name, none was opened.
+-- So it is of the file that was opened by this name, and it was put in its place where all stands
+-- there, and only then. Where there is no name, none was opened.
 abbrev pub IsFileWritten : {C : Type 0} → (C → Closed) → Option Text → List ℕ → Option C
     → Option Reason → Type 0
 IsFileWritten received None bytes receipt lost = (receipt ≡ None) × (lost ≡ None)
 IsFileWritten received (Some name) bytes None lost = ⊥
 IsFileWritten received (Some name) bytes (Some receipt) lost =
     IsWritten bytes (received receipt).bytes lost
-    × ((received receipt).stands ≡ not (is_some lost))
+    × ((received receipt).stands ≡ not (is_some lost)) × ((received receipt).name ≡ name)
 
 -- a new file, if one was opened, was put nowhere
 abbrev pub IsUnput : {C : Type 0} → (C → Closed) → Option C → Type 0

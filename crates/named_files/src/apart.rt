@@ -2,9 +2,9 @@
 
 ghost use Rattle.std.specs.Prelude.{◌≡◌, ◌↔◌, All, IfErr, IfOk, IfSome, IsTrue, OnOk, codes, false, string_bytes};
 ghost use Rattle.command_words.specs.Jobs.{file_uses as the_uses};
-ghost use Rattle.command_words.specs.declared.uses.Access.TheVariants.{Port};
+ghost use Rattle.command_words.specs.declared.uses.Access.TheVariants.{Port, Write};
 ghost use Rattle.named_files.specs.declared.place.FileKind.TheVariants.{Null, Plain};
-ghost use Rattle.named_files.specs.Apart.{HaveNoClash, AreSeenApart, Clash, IsBarred, IsBarredSeen, IsClashSeen, IsNoneOf, IsOther, IsSeen};
+ghost use Rattle.named_files.specs.Apart.{HaveNoClash, AreSeenApart, Clash, IsBarred, IsBarredSeen, IsClashSeen, IsNoneOf, IsOther, IsSeen, IsWrittenOf};
 ghost use Rattle.named_files.specs.Notes.{IsWholeLine, IsRefused};
 
 use crate::notes::NoAnswer;
@@ -13,6 +13,8 @@ use crate::unanswered::Unanswered;
 use command_words::{Access, FileUse, Job, RoleClash, Text, file_uses};
 use refusal_notes::{Named, file_line};
 use std::alloc::{AllocError, Global};
+use std::io;
+use std::io::ErrorKind;
 
 /// Shows that the files of a job are apart, as far as that can be told: it is made of that look
 /// alone.
@@ -21,12 +23,31 @@ pub struct Apart {
     files: Vec<FileUse>,
 }
 
+/// Whether this is a file of this name that is written.
+fn is_written(file: &FileUse, name: &str) -> bool
+    ensures { IsTrue result → (file.now.access ≡ Write) × (file.now.name ≡ name.now) }
+{
+    matches!(file.access, Access::Write) && file.name.as_str() == name
+}
+
 impl Apart {
     /// All files that the job names.
     pub(crate) fn files(&self) -> &[FileUse]
         ensures { result.now ≡ self.now.files.items }
     {
         self.files.as_slice()
+    }
+
+    /// Looks whether the job writes a file of this name.
+    pub(crate) fn look_written(&self, name: &str) -> io::Result<()>
+        ensures { OnOk result (IsWrittenOf self.now.files.items name.now) }
+    {
+        for file in self.files.as_slice() {
+            if is_written(file, name) {
+                return Ok(());
+            }
+        }
+        Err(io::Error::from(ErrorKind::PermissionDenied))
     }
 }
 

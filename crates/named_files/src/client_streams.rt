@@ -1,7 +1,9 @@
 //! The files of the clients of a host.
 
 ghost use Rattle.std.specs.Prelude.{◌≡◌, ℕ, List, Option, IfOk};
+ghost use Rattle.named_files.specs.Apart.{IsWrittenOf};
 
+use crate::apart::Apart;
 use crate::lack::Lack;
 use crate::sent_file::SentFile;
 use byte_streams::PassedBytes;
@@ -27,8 +29,10 @@ pub trait ClientFiles: Sync {
     fn open_heard(&self, there: &AllThere, name: &str) -> io::Result<Self::Heard>
         ensures { IfOk result (λ heard. Self.Heard.remaining heard ≡ says self.now name.now) };
 
-    /// Opens the file by which a client is told: it is made where it isn't there, and emptied.
-    fn open_told(&self, there: &AllThere, name: &str) -> io::Result<SentFile>
+    /// Opens the file by which a client is told: it is made where it isn't there, and emptied. It is
+    /// one that the job writes.
+    fn open_told(&self, there: &AllThere, apart: &Apart, name: &str) -> io::Result<SentFile>
+        requires { IsWrittenOf apart.now.files.items name.now }
         ensures { IfOk result (λ told. told.sent ≡ had self.now name.now) };
 }
 
@@ -39,6 +43,8 @@ pub struct FileStreams<'a, S> {
     pub system: &'a S,
     pub alloc: Global,
     pub clients: &'a [Text],
+    /// The files of the job, among which are those of the clients.
+    pub apart: &'a Apart,
     /// Of each client the file that couldn't be opened, where one couldn't, and why.
     pub unopened: &'a [OnceLock<Lack>],
 }
@@ -94,7 +100,9 @@ impl<'a, S: ClientFiles> ClientStreams for FileStreams<'a, S> {
                 return Err(error);
             }
         };
-        match self.system.open_told(&there, told.as_str()) {
+        let out = told.as_str();
+        self.apart.look_written(out)?;
+        match self.system.open_told(&there, self.apart, out) {
             Ok(writer) => Ok((reader, writer)),
             Err(error) => {
                 self.keep(client, told, &error);

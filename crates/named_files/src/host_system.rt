@@ -19,7 +19,7 @@ impl System for HostRuntime {
 
     ghost holds = { λ _ _ _. ⊤ };
 
-    ghost received = { λ file. closed (Some file.sent) file.stands };
+    ghost received = { λ file. closed file.named (Some file.sent) file.stands };
 
     fn read(&self, name: &str) -> io::Result<Vec<u8>> {
         fs::read(self, name)
@@ -68,7 +68,7 @@ impl ClientFiles for HostRuntime {
         File::open(self, name)
     }
 
-    fn open_told(&self, _there: &AllThere, name: &str) -> io::Result<SentFile> {
+    fn open_told(&self, _there: &AllThere, _apart: &Apart, name: &str) -> io::Result<SentFile> {
         let file = OpenOptions::new()
             .write(true)
             .create(true)

@@ -44,16 +44,20 @@ enum Opened {
 #[derive(Drop)]
 pub struct OutputFile {
     pub(crate) sent: SentFile,
+    /// The name by which it was opened.
+    pub(crate) named: PassedBytes,
     opened: Opened,
     syncs: bool,
     /// Why something couldn't be written, where that was so.
     pub(crate) failure: Option<io::Error>,
 }
 
-/// What went to a file that is closed, and whether it stands where it belongs.
+/// What went to a file that is closed, by which name it was opened, and whether it stands where it
+/// belongs.
 #[derive(Drop)]
 pub struct ClosedFile {
     pub(crate) sent: PassedBytes,
+    pub(crate) named: PassedBytes,
     pub(crate) stands: bool,
 }
 
@@ -215,12 +219,14 @@ fn put_new(rt: &HostRuntime, new: &NewFile) -> io::Result<()> {
 }
 
 impl OutputFile {
-    /// This file, to which nothing has gone.
-    fn of(file: File, opened: Opened) -> OutputFile
-        ensures { result.sent.sent ≡ [] }
+    /// The file that was opened by this name, to which nothing has gone.
+    fn of(file: File, name: &str, opened: Opened) -> OutputFile
+        ensures sent { result.sent.sent ≡ [] }
+        ensures named { result.named ≡ name.now }
     {
         OutputFile {
             sent: SentFile::of(file),
+            named: passed(name.as_bytes()),
             opened,
             syncs: false,
             failure: None,
@@ -229,10 +235,10 @@ impl OutputFile {
 
     /// The device or the pipe of a name.
     fn device(rt: &HostRuntime, name: &str) -> io::Result<OutputFile>
-        ensures { IfOk result (λ it. it.sent.sent ≡ []) }
+        ensures { IfOk result (λ it. (it.sent.sent ≡ []) × (it.named ≡ name.now)) }
     {
         let file = OpenOptions::new().write(true).open(rt, name)?;
-        Ok(OutputFile::of(file, Opened::Device))
+        Ok(OutputFile::of(file, name, Opened::Device))
     }
 
     /// The file of a name, to be written behind its end, and what it holds. No other record may be
@@ -242,7 +248,8 @@ impl OutputFile {
         name: &str,
         syncs: bool,
     ) -> io::Result<(OutputFile, Vec<u8>)>
-        ensures { IfOk result (λ opened. opened.0.sent.sent ≡ opened.1.items) }
+        ensures { IfOk result (λ opened.
+            (opened.0.sent.sent ≡ opened.1.items) × (opened.0.named ≡ name.now)) }
     {
         let mut held = Vec::new(rt.alloc());
         if let Some(false) = is_file_at(rt, name)? {
@@ -261,6 +268,7 @@ impl OutputFile {
         let sent = passed(held.as_slice());
         let it = OutputFile {
             sent: SentFile { file, sent },
+            named: passed(name.as_bytes()),
             opened: Opened::Held(String::from_str(rt.alloc(), name)?),
             syncs,
             failure: None,
@@ -271,7 +279,7 @@ impl OutputFile {
     /// A new file that goes to the place to which a name leads, and may be used as the file there,
     /// where one is. A device or a pipe itself.
     pub(crate) fn open_new(rt: &HostRuntime, apart: &Apart, name: &str) -> io::Result<OutputFile>
-        ensures { IfOk result (λ it. it.sent.sent ≡ []) }
+        ensures { IfOk result (λ it. (it.sent.sent ≡ []) × (it.named ≡ name.now)) }
     {
         let permissions = match is_file_at(rt, name)? {
             Some(false) => return OutputFile::device(rt, name),
@@ -282,11 +290,12 @@ impl OutputFile {
         if is_of_new_file(place.as_str()) {
             return Err(io::Error::other("names that end in .exchange-N are for new files"));
         }
-        let (file, name) = make_beside(rt, apart, &place)?;
+        let (file, new) = make_beside(rt, apart, &place)?;
         if let Some(permissions) = permissions {
             let _ = file.set_permissions(permissions);
         }
-        Ok(OutputFile::of(file, Opened::New(NewFile { name, place })))
+        let opened = Opened::New(NewFile { name: new, place });
+        Ok(OutputFile::of(file, name, opened))
     }
 
     /// Cuts off what it holds behind so many bytes.
@@ -294,6 +303,7 @@ impl OutputFile {
         requires { kept ≤ length held.now }
         ensures cut { OnOk result (self.new.sent.sent ≡ take kept held.now) }
         ensures same { OnErr result (self.new.sent.sent ≡ self.old.sent.sent) }
+        ensures named { self.new.named ≡ self.old.named }
     {
         match &self.opened {
             Opened::Device => {}
@@ -305,22 +315,26 @@ impl OutputFile {
 
     /// What has gone to it. It is let go, and a new file with it.
     pub(crate) fn close(self, rt: &HostRuntime) -> ClosedFile
-        ensures { (result.sent ≡ self.sent.sent) × (result.stands ≡ false) }
+        ensures { (result.sent ≡ self.sent.sent) × (result.named ≡ self.named)
+            × (result.stands ≡ false) }
     {
         self.forget(rt);
         ClosedFile {
             sent: self.sent.into_sent(),
+            named: self.named,
             stands: false,
         }
     }
 
     /// What has gone to it. Once the disk has it, a new file is put in its place, or else let go.
     pub(crate) fn put(self, rt: &HostRuntime) -> (ClosedFile, io::Result<()>)
-        ensures { (result.0.sent ≡ self.sent.sent) × (result.0.stands ≡ is_ok result.1) }
+        ensures { (result.0.sent ≡ self.sent.sent) × (result.0.named ≡ self.named)
+            × (result.0.stands ≡ is_ok result.1) }
     {
         let end = self.settle(rt);
         let closed = ClosedFile {
             sent: self.sent.into_sent(),
+            named: self.named,
             stands: end.is_ok(),
         };
         (closed, end)
@@ -365,6 +379,7 @@ impl OutputFile {
     fn noted<T: Drop>(&mut self, end: io::Result<T>) -> io::Result<T>
         ensures end { result ≡ end }
         ensures sent { self.new.sent.sent ≡ self.old.sent.sent }
+        ensures named { self.new.named ≡ self.old.named }
     {
         if let Err(error) = &end {
             self.failure = Some(*error);
@@ -375,8 +390,9 @@ impl OutputFile {
 
 impl Write for OutputFile {
     ghost use Rattle.std.specs.Prelude.{Some};
+    ghost use Rattle.named_files.specs.Streams.{named_text};
 
-    ghost contents = { λ it. Some it.sent.sent };
+    ghost contents = { λ it. Some (named_text it.named it.sent.sent) };
 
     fn write(&mut self, buf: &[u8]) -> io::Result<usize> {
         let end = self.sent.write(buf);

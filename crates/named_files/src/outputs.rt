@@ -1,11 +1,11 @@
 //! The files to which go the record of sessions and the image that they leave.
 
-ghost use Rattle.std.specs.Prelude.{◌≡◌, ℕ, List, [], Some, IfErr, IfOk, None, OnErr, OnOk, false, is_ok, option_map};
+ghost use Rattle.std.specs.Prelude.{◌≡◌, ℕ, List, [], Some, IfErr, IfOk, None, OnErr, OnOk, false, is_ok};
 ghost use Rattle.command_words.specs.Jobs.{file_uses as the_uses, recorded_in};
 ghost use Rattle.named_files.specs.Apart.{AreSeenApart, IsWrittenOf, MayBeWritten};
 ghost use Rattle.named_files.specs.Notes.{IsRefused};
-ghost use Rattle.named_files.specs.Outputs.{AreNamed, AreOpened, IsFileWritten, IsOpened, IsUnput, begins_with, is_live as live, is_new, name_of, none_open, none_opened, output_of, record_of};
-ghost use Rattle.named_files.specs.Streams.{IsWrittenBy, closed};
+ghost use Rattle.named_files.specs.Outputs.{AreNamed, AreOpened, IsFileWritten, IsLeftOfAny, IsOpened, IsUnput, begins_with, is_live as live, is_new, name_of, none_open, none_opened, output_of, record_of, stream_of};
+ghost use Rattle.named_files.specs.Streams.{IsLeftOf, IsWrittenBy, gone_to};
 
 use crate::apart::{Apart, look_apart};
 use crate::lost::Reason;
@@ -208,12 +208,12 @@ fn open_outputs<'a, S: System>(
 }
 
 /// The same, where the files that the job writes are others than those that it reads, and than each
-/// other; else none is opened.
+/// other; else none is opened. It gives what shows that.
 pub fn open_apart<'a, S: System>(
     system: &S,
     alloc: Global,
     job: &'a Job,
-) -> (Outputs<'a, S::Stream>, Result<(), NoAnswer>)
+) -> (Outputs<'a, S::Stream>, Result<Apart, NoAnswer>)
     ensures opened { AreOpened S.Stream.contents
         (begins_with (S.holds system.now) (live job.entry.now)) (record_of job.entry.now)
         (output_of job.entry.now) result.0 }
@@ -223,15 +223,17 @@ pub fn open_apart<'a, S: System>(
     ensures note { IfErr result.1 (λ missed. IsRefused missed) }
 {
     match look_apart(system, alloc, job) {
-        Ok(apart) => open_outputs(system, alloc, &apart, job),
+        Ok(apart) => {
+            let (outputs, end) = open_outputs(system, alloc, &apart, job);
+            (outputs, end.map(|()| apart))
+        }
         Err(missed) => (Outputs::none(), Err(missed)),
     }
 }
 
 /// Closes a stream, where there is one.
 pub fn close_stream<S: System>(system: &S, stream: Option<S::Stream>) -> Option<S::Receipt>
-    ensures { option_map S.received result
-        ≡ option_map (λ file. closed (S.Stream.contents file) false) stream }
+    ensures { IsLeftOfAny S.Stream.contents S.received stream result }
 {
     match stream {
         Some(file) => Some(system.close(file)),
@@ -241,8 +243,7 @@ pub fn close_stream<S: System>(system: &S, stream: Option<S::Stream>) -> Option<
 
 /// Closes a file, where one is open.
 pub fn close_file<S: System>(system: &S, out: Option<OutFile<'_, S::Stream>>) -> Option<S::Receipt>
-    ensures { option_map S.received result
-        ≡ option_map (λ out. closed (S.Stream.contents out.file) false) out.entry }
+    ensures { IsLeftOfAny S.Stream.contents S.received (stream_of out.entry) result }
 {
     match out {
         Some(
@@ -262,8 +263,7 @@ pub fn put_written<S: System>(
     file: S::Stream,
     end: io::Result<()>,
 ) -> (S::Receipt, io::Result<()>)
-    ensures received { S.received result.0
-        ≡ closed (S.Stream.contents file) (is_ok result.1) }
+    ensures received { IsLeftOf (S.Stream.contents file) (is_ok result.1) (S.received result.0) }
     ensures cut { OnErr end (is_ok result.1 ≡ false) }
 {
     match end {
@@ -274,9 +274,9 @@ pub fn put_written<S: System>(
 
 /// Writes these bytes to a file that is empty. Where they couldn't be had, nothing is written.
 fn write_new<W: Write>(file: &mut W, bytes: Result<Vec<u8>, AllocError>) -> io::Result<()>
-    requires { W.contents file.old ≡ Some [] }
-    ensures { (wanted : List ℕ) → IfOk bytes (λ bytes. bytes.items ≡ wanted)
-        → IsWrittenBy result wanted (W.contents file.new) }
+    ensures { (name : List ℕ) → (wanted : List ℕ) → gone_to name (W.contents file.old) ≡ Some []
+        → IfOk bytes (λ bytes. bytes.items ≡ wanted)
+        → IsWrittenBy result wanted (gone_to name (W.contents file.new)) }
 {
     let bytes = bytes?;
     write_bytes(file, bytes.as_slice())

@@ -2,7 +2,7 @@
 
 ghost use Rattle.std.specs.Prelude.{◌≡◌, ◌≤◌, ℕ, false, is_ok, length, take, List, [], Some, IfOk, OnOk, OnErr};
 ghost use Rattle.named_files.specs.Apart.{IsWrittenOf};
-ghost use Rattle.named_files.specs.Streams.{Closed, closed};
+ghost use Rattle.named_files.specs.Streams.{Closed, IsLeftOf, gone_to};
 
 use crate::apart::Apart;
 use crate::client_streams::ClientFiles;
@@ -19,7 +19,8 @@ impl<R: AllocGlobal + Threads + Wait + Sync> Runtime for R {}
 
 /// What the program asks of the system by name. It is shared, so no call changes what contracts see
 /// of it. A stream of a record or an image isn't `Drop`, and neither is its receipt: who is handed
-/// any system can let neither go, so each is closed, and its receipt handed out.
+/// any system can let neither go, so each is closed, and its receipt handed out. What contracts see
+/// of a stream begins with the name by which it was opened, and its receipt has that name.
 pub trait System: Places + ClientFiles + Sync {
     /// What was opened to be written.
     type Stream: Write + Send;
@@ -47,20 +48,24 @@ pub trait System: Places + ClientFiles + Sync {
     ) -> io::Result<(Self::Stream, Vec<u8>)>
         requires { IsWrittenOf apart.now.files.items name.now }
         ensures { IfOk result (λ opened. holds self.now name.now opened.1.items
-            × (Self.Stream.contents opened.0 ≡ Some opened.1.items)) };
+            × (gone_to name.now (Self.Stream.contents opened.0) ≡ Some opened.1.items)) };
 
     /// Opens a new file, to be written and put in the place of the file of this name, which is as
     /// it was until then. A device or a pipe of this name is opened itself. The new file is none
     /// of the job's files, of which it was looked before that they are apart.
     fn open_new(&self, apart: &Apart, name: &str) -> io::Result<Self::Stream>
         requires { IsWrittenOf apart.now.files.items name.now }
-        ensures { IfOk result (λ stream. Self.Stream.contents stream ≡ Some []) };
+        ensures { IfOk result (λ stream.
+            gone_to name.now (Self.Stream.contents stream) ≡ Some []) };
 
     /// Cuts off what a file holds behind so many bytes.
     fn cut(&self, stream: &mut Self::Stream, held: &[u8], kept: usize) -> io::Result<()>
-        requires held { Self.Stream.contents stream.old ≡ Some held.now }
+        requires held { (name : List ℕ)
+            × (gone_to name (Self.Stream.contents stream.old) ≡ Some held.now) }
         requires kept { kept ≤ length held.now }
-        ensures cut { OnOk result (Self.Stream.contents stream.new ≡ Some (take kept held.now)) }
+        ensures cut { OnOk result ((name : List ℕ)
+            → gone_to name (Self.Stream.contents stream.old) ≡ Some held.now
+            → gone_to name (Self.Stream.contents stream.new) ≡ Some (take kept held.now)) }
         ensures same { OnErr result
             (Self.Stream.contents stream.new ≡ Self.Stream.contents stream.old) };
 
@@ -69,10 +74,9 @@ pub trait System: Places + ClientFiles + Sync {
 
     /// Closes a stream. A new file is put nowhere: it goes.
     fn close(&self, stream: Self::Stream) -> Self::Receipt
-        ensures { received result ≡ closed (Self.Stream.contents stream) false };
+        ensures { IsLeftOf (Self.Stream.contents stream) false (received result) };
 
     /// Closes a stream that is whole: once the disk has it, a new file is put in its place.
     fn put(&self, stream: Self::Stream) -> (Self::Receipt, io::Result<()>)
-        ensures { received result.0
-            ≡ closed (Self.Stream.contents stream) (is_ok result.1) };
+        ensures { IsLeftOf (Self.Stream.contents stream) (is_ok result.1) (received result.0) };
 }

@@ -29,7 +29,7 @@ pub returns : goal.returns
 returns g c =
     let given = given_by (g.I.Read.remaining c.args.input.now) (g.P.Ports.ways c.args.peers.now.ports) (clients_by (g.S.ClientFiles.says c.args.system.now) (g.S.ClientFiles.had c.args.system.now)) in
     let held = c.hold_sessions-end in
-    let files = contents_in c.in-Ok.contents in
+    let files = contents_in c.in-Ok.read.1 in
     let rest = g.I.Read.remaining c.read_opened.new.input in
     record {
       response = finish held.result.end c.finished.result _ _ (g.S.System.holds c.args.system.now) g.S.System.received c.args.request.now.job files rest given (g.P.Ports.ways held.new.peers.ports) (ends_of held.new.peers.endings.items) held.result.receipts held.result.lost

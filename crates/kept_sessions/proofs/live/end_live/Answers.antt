@@ -2,6 +2,7 @@ use Rattle.std.proofs.Common.{◌∙◌, Option, subst}
 use Rattle.clap.specs.Words.{Text}
 use Rattle.command_words.specs.Jobs.{recorded_in}
 use Rattle.named_files.specs.Outputs.{IsOpened, is_new}
+use Rattle.named_files.specs.Streams.{gone_at}
 use Rattle.named_files.proofs.Written.{nothing_gone}
 use Rattle.kept_sessions.proofs.Lived.{as_begun, so_far}
 use Rattle.kept_sessions.proofs.Told.{all_told}
@@ -9,8 +10,9 @@ use Rattle.kept_sessions.proofs.live.end_live.Goals as goal
 
 pub returns-in-Ok-clause-kept : goal.returns-in-Ok-clause-kept
 returns-in-Ok-clause-kept g c = λ opening names was left begins over none.
-    let written = c.keep_live-receipts.ensures.written names left over.machine (so_far g.S.Stream.Write.contents names was left c.args.over over) in
-    rw c.in-Ok.is (written, (λ broken. c.keep_live-receipts.ensures.broken (over.whole ∙ broken)), c.keep_live-receipts.ensures.lost, all_told g.S.Stream.Write.contents g.S.System.received (recorded_in c.args.shared.now) names was left c.args.over c.keep_live-receipts.result.0.recorded c.keep_live-receipts.result.1.recorded over c.keep_live-receipts.ensures.grown written.0)
+    let contents = gone_at g.S.Stream.Write.contents (recorded_in c.args.shared.now) in
+    let kept = c.keep_live-receipts.ensures.written names left over.machine (so_far contents names was left c.args.over over) in
+    rw c.in-Ok.is (kept.0, (λ broken. c.keep_live-receipts.ensures.broken (over.whole ∙ broken)), c.keep_live-receipts.ensures.lost, all_told contents g.S.System.received (recorded_in c.args.shared.now) names was left c.args.over c.keep_live-receipts.result.0.recorded c.keep_live-receipts.result.1.recorded over kept.1 kept.0.0)
 
 pub returns-clause-kept : goal.returns-clause-kept
 returns-clause-kept g c = λ opening names was left begins over none.

@@ -1,6 +1,7 @@
-use Rattle.std.proofs.Common.{◌∙◌, ℕ, List, [], append-nil, drop, inl, length, refl, sym, take}
+use Rattle.std.proofs.Common.{◌∙◌, ap, ℕ, List, [], append-nil, drop, inl, length, refl, sym, take}
 use Rattle.std.proofs.lemmas.Slice.Eq.{starts_is}
 use Rattle.std.proofs.lemmas.Bool.Decides.{Decides-eqb}
+use Rattle.book_record.specs.Sums.{numbered}
 use Rattle.kept_sessions.proofs.Begun.{cut_from, cut_none, resumed_front}
 use Rattle.kept_sessions.proofs.recording.begin.Goals as goal
 
@@ -29,4 +30,7 @@ returns-clause-cut g c =
     let t = c.in_ok-book.ensures.resumed in
     let kept = c.in_ok-book.kept in
     let front = resumed_front c.session_limit-limit.result held c.in_ok-head.head.items c.args.rack c.args.names.now c.in_ok-book.book kept [] c.in_ok-head.ensures t.0 t.1 refl in
-    cut_from held _ kept c.cut_of.result (sym (append-nil (take kept held)) ∙ front) c.cut_of.ensures
+    cut_from (length c.in_ok-book.book.history) held _ kept c.cut_of.result (sym (append-nil (take kept held)) ∙ front) (c.cut_of.ensures (length c.in_ok-book.book.history) c.in_ok-book.ensures.entries)
+
+pub returns-then-starts_with-clause-entries : goal.returns-then-starts_with-clause-entries
+returns-then-starts_with-clause-entries g c = ap (λ a. numbered (length a.history)) (sym c.in_ok-new_book.ensures)

@@ -3,9 +3,10 @@ use Rattle.named_files.specs.Clients.{clients_by, ends_of}
 use Rattle.named_files.specs.Contents.{contents_in}
 use Rattle.kept_sessions.specs.Live.{IsHostOver}
 use Rattle.kept_sessions.specs.Answers.{hosting, loses}
-use Rattle.kept_sessions.proofs.Lived.{host_unasked}
-use Rattle.std.specs.Prelude.{◌≡◌, [], Some}
-use Rattle.kept_sessions.specs.Records.{IsCutFromRecord, record_front}
+use Rattle.kept_sessions.proofs.Lived.{host_unasked, over_named}
+use Rattle.std.specs.Prelude.{◌≡◌, []}
+use Rattle.kept_sessions.specs.Records.{IsCutFromRecord}
+use Rattle.command_words.specs.Jobs.{recorded_in}
 use Rattle.kept_sessions.proofs.Served.{host_ending, lived, none_ended, unserved_lived}
 use Rattle.kept_sessions.proofs.sessions.host.Goals as goal
 
@@ -25,7 +26,7 @@ returns g c =
     let begun = c.in-Ok.begun.0 in
     let s = c.in-Ok.ensures.started in
     let o = c.host_from-over.ensures.over in
-    let over = o.1.1 (Some (record_front names begun.book)) s.2.front in
+    let over = over_named g.S.Stream.Write.contents (recorded_in shared) names begun o.0 c.host_from-over.result o.1 s.2.front in
     let ended = subst (λ (b : Bool). IsHostOver b begun.book clients c.args.endings.now.items after c.host_from-over.result.end o.0) s.2.stream o.2 in
     lived (g.S.System.holds c.args.system.now) g.S.System.received shared names (contents_in c.args.contents.now).image (hosting shared clients (ends_of after)) (ends_of after ≡ []) c.host_from-over.result.end begun.book o.0 s.0 c.end_live.result s.1 s.2.begins c.end_live.ensures.told (c.end_live.ensures.kept s.0 names begun.book o.0 s.2.begins over (host_unasked (loses shared) begun.book clients c.args.endings.now.items after c.host_from-over.result.end o.0 ended))
     (host_ending shared clients c.args.endings.now.items after begun.book o.0 c.host_from-over.result.end c.requires.unserved ended)

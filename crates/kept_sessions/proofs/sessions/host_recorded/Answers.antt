@@ -6,7 +6,7 @@ use Rattle.book_record.specs.Streams.{IsWritten as IsStreamed}
 use Rattle.book_record.proofs.Crossing.{streamed_send}
 use Rattle.named_files.specs.Clients.{clients_by}
 use Rattle.kept_sessions.specs.Live.{IsHostOver, IsReady}
-use Rattle.kept_sessions.proofs.Lived.{host_settled, same_account}
+use Rattle.kept_sessions.proofs.Lived.{entries_told, host_settled, same_account}
 use Rattle.kept_sessions.proofs.sessions.host_recorded.Goals as goal
 use denote.Param.Send.{sendable}
 
@@ -28,5 +28,6 @@ returns-clause-over g c =
     let over = subst (λ (a : Account). IsHostOver true a clients c.args.endings.now.items c.host_over-end.new.endings.items c.host_over-end.result.0 left) same c.host_over-end.ensures in
     let whole = c.over_recorded.result.is_whole in
     let text = subst (λ (es : List Entry). IfSome c.over_recorded.result.stream (λ file. IsStreamed g.N.StreamName.held (g.S.Stream.Write.contents file) es left.stands left.history left.whole)) (sym c.requires.earlier) c.over_recorded.ensures.text in
+    let entries = entries_told c.over_recorded.result.stream c.over_recorded.result.entries left c.over_recorded.ensures.entries in
     let settled = host_settled true book clients _ _ c.host_over-end.result.0 left over in
-    (left, record { opening = settled.0; machine = c.over_recorded.ensures.machine; whole = c.over_recorded.ensures.whole; all = settled.1; text = text }, rw c.over_recorded.ensures.end over)
+    (left, record { opening = settled.0; machine = c.over_recorded.ensures.machine; whole = c.over_recorded.ensures.whole; all = settled.1; text = text; entries = entries }, rw c.over_recorded.ensures.end over)

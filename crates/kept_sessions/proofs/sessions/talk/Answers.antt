@@ -1,11 +1,12 @@
 use Rattle.std.proofs.Common.{Bool, refl, subst, sym}
 use Rattle.std.proofs.KnownBytes.{Appends-nil}
-use Rattle.std.specs.Prelude.{◌≡◌, [], Some}
+use Rattle.std.specs.Prelude.{◌≡◌, []}
 use Rattle.named_files.specs.Contents.{contents_in}
 use Rattle.kept_sessions.specs.Live.{IsTalkOver}
-use Rattle.kept_sessions.specs.Records.{IsCutFromRecord, record_front}
+use Rattle.kept_sessions.specs.Records.{IsCutFromRecord}
 use Rattle.kept_sessions.specs.Answers.{loses, talking}
-use Rattle.kept_sessions.proofs.Lived.{talk_unasked}
+use Rattle.kept_sessions.proofs.Lived.{talk_unasked, over_named}
+use Rattle.command_words.specs.Jobs.{recorded_in}
 use Rattle.kept_sessions.proofs.Served.{lived, talk_ending, unserved_lived}
 use Rattle.kept_sessions.proofs.sessions.talk.Goals as goal
 
@@ -22,7 +23,7 @@ returns-clause-session g c =
     let begun = c.in-Ok.begun.0 in
     let s = c.in-Ok.ensures.started in
     let o = c.talk_from-over.ensures.session in
-    let over = o.3.1 (Some (record_front [] begun.book)) s.2.front in
+    let over = over_named g.S.Stream.Write.contents (recorded_in shared) [] begun o.1 c.talk_from-over.result o.3 s.2.front in
     let ended = subst (λ (b : Bool). IsTalkOver b begun.book old rest o.0 c.talk_from-over.result.end o.1) s.2.stream o.4 in (
       o.0,
       o.2,

@@ -4,7 +4,7 @@ use Rattle.batch_book.specs.declared.entry.Entry.{Entry}
 use Rattle.batch_book.specs.History.{Account}
 use Rattle.book_record.specs.Streams.{IsWritten as IsStreamed}
 use Rattle.kept_sessions.specs.Live.{IsReady, IsTalkOver}
-use Rattle.kept_sessions.proofs.Lived.{same_account, talk_settled}
+use Rattle.kept_sessions.proofs.Lived.{entries_told, same_account, talk_settled}
 use Rattle.kept_sessions.proofs.sessions.talk_recorded.Goals as goal
 
 pub talk_over-end-requires-clause-ready : goal.talk_over-end-requires-clause-ready
@@ -21,5 +21,6 @@ returns-clause-session g c =
     let rest = g.I.Read.remaining c.talk_over-end.new.input in
     let over = subst (λ (a : Account). IsTalkOver true a old rest t.0 c.talk_over-end.result.0 left) same t.2 in
     let text = subst (λ (es : List Entry). IfSome c.over_recorded.result.stream (λ file. IsStreamed g.N.StreamName.held (g.F.Write.contents file) es left.stands left.history left.whole)) (sym c.requires.earlier) c.over_recorded.ensures.text in
+    let entries = entries_told c.over_recorded.result.stream c.over_recorded.result.entries left c.over_recorded.ensures.entries in
     let settled = talk_settled true book c.requires.ready old rest t.0 c.talk_over-end.result.0 left over in
-    (t.0, left, t.1, record { opening = settled.0; machine = c.over_recorded.ensures.machine; whole = c.over_recorded.ensures.whole; all = settled.1; text = text }, rw c.over_recorded.ensures.end over)
+    (t.0, left, t.1, record { opening = settled.0; machine = c.over_recorded.ensures.machine; whole = c.over_recorded.ensures.whole; all = settled.1; text = text; entries = entries }, rw c.over_recorded.ensures.end over)
