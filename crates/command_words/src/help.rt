@@ -112,13 +112,12 @@ where they come from there. Point at a cell, and the browser shows its transfer.
 The half of the busiest link is framed. A dashed line stands before each setting
 that changes the switch.
 
-Any schedule of BATCH is drawn. The picture's title says whether it has `the
-fewest` settings or `where F are enough`; then how often it changes the switch,
-as `changes C`, with `the fewest` where a link shares transfers with C others, so
-that no schedule has fewer changes, `the fewest with so few settings` where that
-is shown of these, or else `at least L`; then `certified`, `not certified` or `no
-certificate`. With --settings it has the columns of settings A to B alone, counted
-from 0, both of them:
+Any schedule of BATCH is drawn. The picture's title says whether its settings are
+`the fewest`, or `where F are enough`. It says how often the switch changes, as
+`changes C`, and what is shown of that: `the fewest`, `the fewest with so few
+settings` or `at least L`. Last comes `certified`, `not certified` or `no
+certificate`. With --settings the picture has the columns of settings A to B
+alone, counted from 0, both of them:
   ./exchange draw BATCH SCHEDULE --settings 0..31 > first.svg
 Common tools draw at most 32767 pixels in width. Where the picture is wider, a
 line on standard error says so.
@@ -211,8 +210,8 @@ have orders, from the first on:
                                      block B are sent over link L, 0 or 3;
   setting K link L send copy B       or those that were copied aside;
   setting K link L receive block B   or words that come become those of block B
-Words are sent in their order. What a module does over link 0 and link 3 in one
-setting it does side by side: else it may wait for itself. A setting begins when
+Words are sent in their order. A module uses link 0 and link 3 at the same time
+in a setting: one after the other it may wait for itself. A setting begins when
 all modules are done with the one before. In the end each block is where BATCH
 wants it.
 With --module the answer has one module alone.
@@ -239,11 +238,11 @@ Example: a driver and a switch of this program, with two pipes between them:
     notes: "\
 BATCH is a batch text, in the form that `exchange plan --help` shows.
 `exchange switch --help` says which schedule of it is driven, what two switches
-are, and what --wiring is. PORT is the way to the only switch, or to switch a,
-and PORT_B that to switch b: a device of a link adaptor, which is opened to read
-and write; or, where PORT.in and PORT.out are there, two named pipes, of which
-PORT.in goes to the switch. It is opened first, and each pipe waits for its
-other end.
+are, and what --wiring is. PORT is the way to the only switch, or to switch a.
+PORT_B says that there are two switches, and is the way to switch b. A port is a
+device of a link adaptor, which is opened to read and write; or, where PORT.in
+and PORT.out are there, two named pipes, of which PORT.in goes to the switch. It
+is opened first, and each pipe waits for its other end.
 
 First each switch comes up: a command that was begun is ended, the switch is
 reset, and up to 31 old answers that are on their way are read. Then, setting by
@@ -253,12 +252,13 @@ last one 03 is sent again. Once all outputs have answered as the setting needs,
 this is printed:
   setting K t t ..   setting K is set, from 0; these transfers may move now
 Where a setting joins what is joined already, nothing is sent, and the line
-comes at once. After each line a line of standard input is read, whatever it says: it
-means that these blocks have moved. With --go-on none is read. With --from K the
-first setting is setting K, set as after a reset; K is 0 to 999999999.
+comes at once. After each line a line of standard input is read, whatever it
+says: it means that these blocks have moved. With --go-on none is read. With
+--from K the first setting is setting K, set as after a reset; K is 0 to
+999999999.
 
-The last line says how it ended. The switches are left as they are:
-  driven settings S            all S settings were set, one after the other
+The answer is the last line: how it ended. The switches are left as they are:
+  driven settings S            all S settings are set, or those from K on
   stopped setting K port       a byte couldn't be sent, or a reply didn't come
   stopped setting K switch O   output O of setting K answered otherwise; those
                                of switch b are counted from 32
@@ -439,7 +439,8 @@ nothing has changed, and the session goes on:
   refused memory misaligned  A isn't a multiple of four
   refused memory outside     no word of the module is at A
   refused book full          the exchange holds 256 batches: drop one first
-  refused history full       the exchange has answered 65536 calls: start it anew
+  refused history full       `serve` has answered 65536 calls; `host` and `talk` say
+                             so after batch or run 999999999: start it anew
   refused no memory          there was no memory for it
 A session that doesn't end with its script or by `bye` has one line more:
   ended cut                  the script ends within a line or within a batch
@@ -567,14 +568,18 @@ pub(crate) const REPLAY: CommandHelp = CommandHelp {
     example: "Example:\n  ./exchange replay examples/two-clients.record.txt | od -An -tx1",
     notes: "\
 RECORD is what --record of `exchange serve` wrote, or of `host` or `talk`: a
-head, entries, and the line `end`. The head is
-  record MxKxW SUM N   the rack's shape, and the Adler-32 of the image with which
-                       it begins, as eight hexadecimal digits
-  client NAME          N such lines: the clients of `host`, in their order
+head, entries, and the line `end E`, where E counts the entries. The head is
+  record-2 MxKxW SUM N   the rack's shape, and the Adler-32 of the image with
+                         which it begins, as eight hexadecimal digits
+  client NAME            N such lines: the clients of `host`, in their order
 An entry is
   S CALL   what session S, from 0, asked: a line of a session, as
            `exchange serve --help` shows, and after `batch N` its N lines
   REPLY    the line that answered it
+After the head, after each entry and after the line `end E` comes a line
+  =SUM     the sum of these lines, as eight hexadecimal digits: it is at first
+           the number of entries before them, for the head 0; each byte makes
+           SUM * 2891336453 + BYTE of it, modulo 2 ^ 32
 But `plan ID` is two calls: `fetch ID`, which is answered by `fetched`, and
 `settle ID`, which is answered as `plan ID` is. `progress` and `bye` are none,
 nor is a line that was refused for its form, or a batch that a session couldn't
@@ -587,7 +592,7 @@ the record's. At `settle ID` the batch is planned again: no plan is in a record,
 and no reply depends on which it was. The answer is the image of the
 words that are left, in the form that `exchange apply --help` shows, and it is
 what --image-out wrote beside RECORD. A host may be writing it still, or was
-killed: then the last entry may be cut off, and there is no line `end`. What is
+killed: then the last entry may be cut off, and there is no `end E`. What is
 whole is replayed, and a line on standard error says how much that is. With
 --first E the first E entries are replayed, all where there are fewer, and no
 more is looked at.
@@ -595,13 +600,16 @@ more is looked at.
 Else the answer is the first of these that is wrong. The files are read first:
   refused file            RECORD or the image can't be read
   refused shape           SHAPE is no shape
-  refused record head     there is no head, or it is cut off, or it has another
-                          shape than SHAPE, or the sum of another image
+  refused record head     there is no head, or it is cut off or changed, or it
+                          has another shape than SHAPE, or the sum of another
+                          image
   refused image L W       the image has L bytes, and the record's shape wants W
+  refused record sum E    E entries are right, and what comes after them was
+                          changed, left out or added
   refused record call E   E entries are right, and no call comes after them
   refused record reply E  E entries are right, and the call after them has
                           another answer
-  refused record more     something comes after the line `end`
+  refused record more     something comes after `end E` and its sum
 The line on standard error says what is there, and what is expected.
 
 Status: 0 the image was printed, 1 the record was refused or there was no
