@@ -1,8 +1,5 @@
-//! Tests of runs, of the book and its exchange, of sessions and their words, and of runs that are
-//! cut at each byte.
-//!
-//! Each has a folder of its own. They stand in one crate, since a check of tests reads all that
-//! stands below them first.
+//! Tests of the book and its exchange, and of sessions and their words. Each has a folder of its
+//! own. `runs_tests` has the runs.
 #![tactic(auto)]
 
 #[cfg(test)]

@@ -178,7 +178,7 @@ fn host_recorded<R: Threads + Wait + Sync>(
     requires few { length said.now ≤ MAX_SESSIONS }
 {
     let book = small_book(alloc)?;
-    let book = stream_on::<FailsOnce, Brand>(alloc, book, FailsOnce { good }, false);
+    let book = stream_on::<FailsOnce, Brand>(alloc, book, 0, FailsOnce { good }, false);
     match host_known(rt, alloc, book, said) {
         Ok(Hosted { closing, endings }) => {
             let Closing { answer, book } = closing;

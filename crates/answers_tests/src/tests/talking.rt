@@ -24,7 +24,7 @@ fn breaks_off<R: Threads + Wait + Sync, I: Read>(
     let Some(book) = small_book(alloc) else {
         return false;
     };
-    let book = stream_on::<FailsOnce, Brand>(alloc, book, FailsOnce { good }, false);
+    let book = stream_on::<FailsOnce, Brand>(alloc, book, 0, FailsOnce { good }, false);
     match talk_on(rt, alloc, book, said, &mut told, &mut NoListener) {
         Ok(Closing { answer, book }) => {
             let is_told = told.as_slice() == hears.as_bytes();

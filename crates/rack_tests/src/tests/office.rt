@@ -5,7 +5,6 @@ ghost use Rattle.batch_book.specs.Naming.{IsNamed};
 ghost use Rattle.std.specs.Prelude.{◌≡◌, IfSome, Some};
 ghost use Rattle.progress_word.specs.declared.limits.TheConstants.{ALL_PARTS};
 
-use crate::tests::common::{batch, plan};
 use batch_book::{
     BatchState, BookRefusal, Call, Closed, ExchangeBlank, ExchangeName, History, Reply, Seat,
     Shared,
@@ -13,6 +12,7 @@ use batch_book::{
 use crossbar::{ConfigPort, MemoryPort};
 use module_memory::Rack;
 use peek_poke::WireMaker;
+use runs_tests::common::{batch, plan};
 use schedule_certificate::Gate;
 use setting_runner::{Plant, RunRefusal};
 use std::alloc::Global;

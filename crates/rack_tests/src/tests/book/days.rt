@@ -4,12 +4,12 @@ ghost use Rattle.batch_book.specs.History.{new_account};
 ghost use Rattle.batch_book.specs.Naming.{IsNamed};
 ghost use Rattle.std.specs.Prelude.{◌≡◌, Some};
 
-use crate::tests::common::{marked, with_wires};
 use crate::tests::office::{Ask, FIRST, answer};
 use batch_book::{ExchangeBlank, ExchangeName, Seat, Shared};
 use crossbar::MemoryPort;
 use module_memory::Rack;
 use peek_poke::PlainWires;
+use runs_tests::common::{marked, with_wires};
 use schedule_certificate::OpenGate;
 use std::marker::Brand;
 use std::sync::Wait;

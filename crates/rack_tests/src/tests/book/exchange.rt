@@ -5,7 +5,6 @@ ghost use Rattle.batch_book.specs.Naming.{IsNamed};
 ghost use Rattle.std.specs.Prelude.{◌≡◌, IfSome};
 ghost use Rattle.progress_word.specs.declared.limits.TheConstants.{ALL_PARTS};
 
-use crate::tests::common::{marked, with_wires};
 use crate::tests::office::{Ask, Calls, FIRST, PUSH, Pair, Row, Said, close, open_pair};
 use batch_book::{
     BatchState, BookRefusal, Closed, ExchangeBlank, ExchangeName, MAX_ENTRIES, SeatMissing, Shared,
@@ -14,6 +13,7 @@ use batch_book::{
 use crossbar::MemoryPort;
 use module_memory::Rack;
 use peek_poke::PlainWires;
+use runs_tests::common::{marked, with_wires};
 use schedule_certificate::OpenGate;
 use setting_runner::RunRefusal;
 use std::alloc::Global;

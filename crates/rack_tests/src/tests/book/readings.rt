@@ -4,20 +4,17 @@ ghost use Rattle.batch_book.specs.History.{new_account};
 ghost use Rattle.batch_book.specs.Naming.{IsNamed};
 ghost use Rattle.std.specs.Prelude.{◌≡◌, Some};
 
-use crate::tests::common::{marked, with_wires};
 use crate::tests::office::{Ask, PUSH, Pair, Said, TWO_SETTINGS, answer, open_pair};
 use batch_book::{ExchangeBlank, ExchangeName, Reading, Seat, Shared};
 use crossbar::ConfigPort;
 use module_memory::Rack;
 use peek_poke::{PlainWire, Wire, WireFault, WireMaker};
+use runs_tests::common::{TURNS, marked, with_wires};
 use schedule_certificate::{Gate, OpenGate};
 use std::marker::Brand;
 use std::sync::Wait;
 use std::sync::atomic::{AtomicBool, Ordering};
 use std::thread::{Threads, join, yield_now};
-
-/// How long a thread waits for the other.
-pub const TURNS: usize = 10_000_000;
 
 /// A run of a batch, of which this transfer waits until the other thread has read this, and what is
 /// read behind the run.

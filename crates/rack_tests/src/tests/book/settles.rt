@@ -4,13 +4,13 @@ ghost use Rattle.batch_book.specs.Naming.{IsNamed};
 ghost use Rattle.std.specs.Prelude.{◌≡◌, [], Some};
 ghost use Rattle.progress_word.specs.declared.limits.TheConstants.{ALL_PARTS};
 
-use super::readings::{HeldLines, Hold, TURNS};
-use crate::tests::common::{marked, with_wires};
+use super::readings::{HeldLines, Hold};
 use crate::tests::office::{Ask, FIRST, PUSH, Said, answer};
 use batch_book::{Book, Call, ExchangeBlank, ExchangeName, History, Reading, Seat, Shared, Silent};
 use book_record::{Streamed, stream_on};
 use crossbar::MemoryPort;
 use peek_poke::WireMaker;
+use runs_tests::common::{TURNS, marked, with_wires};
 use schedule_certificate::OpenGate;
 use std::alloc::Global;
 use std::io;
@@ -482,7 +482,7 @@ fn holds_of<R: AllocGlobal + Threads + Wait + Sync>(
         },
         hold: &hold,
     };
-    let book = stream_on::<Counted<'_>, Brand>(alloc, book, writer, true);
+    let book = stream_on::<Counted<'_>, Brand>(alloc, book, 0, writer, true);
     holds::<Brand, R>(rt, blank, book, case, &hold, &writes)
 }
 

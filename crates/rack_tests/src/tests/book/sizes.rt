@@ -40,12 +40,7 @@ fn texts(rt: HostRuntime) {
     for (refusal, text) in TOLD {
         assert!(rt; is_told(rt.alloc(), &refusal, text), "{text}");
     }
-    assert!(rt;
-        is_told(
-            rt.alloc(),
-            &SharedFault::BadSessions,
-            "sessions must be 1 to 16"
-        )
-    );
+    let bad = SharedFault::BadSessions;
+    assert!(rt; is_told(rt.alloc(), &bad, "sessions must be 1 to 16"));
     assert!(rt; is_told(rt.alloc(), &SharedFault::NoMemory, "no memory"));
 }

@@ -4,13 +4,13 @@
 ghost use Rattle.batch_book.specs.History.{new_account};
 ghost use Rattle.batch_book.specs.Naming.{IsNamed};
 
-use crate::tests::common::{TWO_PUSHES, marked, two, with_gate};
-use crate::tests::meeting::Meeting;
 use crate::tests::office::{Ask, Row, Said, close, open_pair};
 use batch_book::{ExchangeBlank, ExchangeName};
 use crossbar::MemoryPort;
 use module_memory::Rack;
 use peek_poke::PlainWires;
+use runs_tests::common::{TWO_PUSHES, marked, two, with_gate};
+use runs_tests::meeting::Meeting;
 use setting_runner::Plant;
 use std::marker::Brand;
 use std::sync::Wait;

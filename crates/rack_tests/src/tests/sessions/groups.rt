@@ -4,7 +4,6 @@
 ghost use Rattle.batch_book.specs.Naming.{IsNamed};
 ghost use Rattle.std.specs.Prelude.{◌≡◌, []};
 
-use crate::tests::common::{with_wires, zeros};
 use batch_book::{Book, ExchangeBlank, ExchangeName, History, Shared, Silent};
 use book_record::{Streamed, stream_on};
 use client_session::{Listener, ServeFault, serve};
@@ -12,6 +11,7 @@ use crossbar::MemoryPort;
 use exchange_limits::WorkerCount;
 use peek_poke::PlainWires;
 use refusals::Refusal;
+use runs_tests::common::{with_wires, zeros};
 use schedule_certificate::OpenGate;
 use std::alloc::{AllocError, Global};
 use std::io;
@@ -246,7 +246,7 @@ fn is_so<R: AllocGlobal + Threads + Wait + Sync>(rt: &R, row: &Row<'_>) -> bool 
         return false;
     };
     let writer = Recorded { course: &course };
-    let book = stream_on::<Recorded<'_>, Brand>(rt.alloc(), book, writer, false);
+    let book = stream_on::<Recorded<'_>, Brand>(rt.alloc(), book, 0, writer, false);
     let is_heard = hears::<Brand, Streamed<Recorded<'_>, Brand>, R>(rt, blank, book, row, &course);
     let is_over = course.is_over();
     is_heard && is_over

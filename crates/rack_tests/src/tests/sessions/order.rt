@@ -34,7 +34,7 @@ fn is_flushed_first<R: AllocGlobal + Threads + Wait + Sync>(
 }
 
 /// The first client of row one-script.
-fn one_script() -> Script {
+pub fn one_script() -> Script {
     Script::of(
         "poke 1 80000808 000000ff\nbatch 1\npull 0 0 1 1\nplan 1\nrun 1\nprogress\npeek 0 80000800\nbye\n",
         "poked\naccepted 1\nplanned 1 settings 1\nran 1 run 1 settings 1 words 2 bits 234\nprogress run 1 done 1\nword 000000ff\nbye\n",

@@ -6,11 +6,11 @@ ghost use Rattle.batch_book.specs.Naming.{IsNamed};
 ghost use Rattle.std.specs.Prelude.{◌≡◌, ◌≤◌, length, take};
 
 use super::served::{NO_FUSE, Saying, serve_at_once};
-use crate::tests::common::{with_wires, zeros};
 use crate::tests::office::{close, open_pair};
 use batch_book::{Entry, ExchangeBlank, ExchangeName, ToldCall};
 use module_memory::Rack;
 use peek_poke::FuseWires;
+use runs_tests::common::{TURNS, with_wires, zeros};
 use schedule_certificate::OpenGate;
 use std::alloc::{AllocError, Global};
 use std::io;
@@ -20,9 +20,6 @@ use std::sync::Wait;
 use std::sync::atomic::{AtomicBool, AtomicUsize, Ordering};
 use std::test::Fail;
 use std::thread::{Threads, yield_now};
-
-/// How long a client waits for the other.
-const TURNS: usize = 10_000_000;
 
 /// How often the batch is planned. The first time settles it, and each later one is refused behind
 /// its planning.

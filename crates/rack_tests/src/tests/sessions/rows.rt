@@ -1,6 +1,7 @@
 //! Worked rows of two clients, one after the other: over wires with a fuse, and over shared words
 //! and runs.
 
+use super::order::one_script;
 use super::served::{Day, NO_FUSE, is_so};
 use super::streams::Script;
 use peek_poke::FuseWires;
@@ -79,16 +80,11 @@ fn a_stop_of_sixteen_transfers(rt: HostRuntime) {
 /// The two clients of row one-script, of whom the second looks at the first one's words and
 /// progress too, and hands in a batch.
 #[test]
-fn one_script(rt: HostRuntime) {
-    let one = Script::of(
-        "poke 1 80000808 000000ff\nbatch 1\npull 0 0 1 1\nplan 1\nrun 1\nprogress\npeek 0 80000800\nbye\n",
-        "poked\naccepted 1\nplanned 1 settings 1\nran 1 run 1 settings 1 words 2 bits 234\nprogress run 1 done 1\nword 000000ff\nbye\n",
-        6,
-    );
+fn two_clients(rt: HostRuntime) {
     let other = Script::of(
         "show 1\nplan 1\nrun 1\ndrop 1\npeek 1 80000808\nprogress\nbatch 0\nshow 2\n",
         "refused unknown\nrefused unknown\nrefused unknown\nrefused unknown\nword 000000ff\nprogress run 1 done 1\naccepted 2\nbatch 2 transfers 0 waiting\n",
         7,
     );
-    assert!(rt; are_served(&rt, "2x2x2", NO_FUSE, one, other));
+    assert!(rt; are_served(&rt, "2x2x2", NO_FUSE, one_script(), other));
 }

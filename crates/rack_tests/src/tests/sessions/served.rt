@@ -8,7 +8,6 @@ ghost use Rattle.client_session.specs.Sessions.{seat_back};
 
 use super::beside::Beside;
 use super::streams::{Listener, Script, Speaker};
-use crate::tests::common::{with_wires, zeros};
 use crate::tests::office::{Pair, close, open_pair};
 use batch_book::{Closed, ExchangeBlank, ExchangeName, Seat, Shared};
 use byte_streams::FailureCount;
@@ -17,6 +16,7 @@ use crossbar::MemoryPort;
 use exchange_limits::WorkerCount;
 use module_memory::Rack;
 use peek_poke::FuseWires;
+use runs_tests::common::{with_wires, zeros};
 use schedule_certificate::OpenGate;
 use std::io::Read;
 use std::marker::Brand;
@@ -37,7 +37,7 @@ pub type Exchange<L> = Shared<L, MemoryPort, FuseWires, OpenGate>;
 pub type Office<L> = Pair<L, FuseWires, OpenGate>;
 
 /// The seat that came back, and the fault, if there was one.
-fn back<L: ExchangeName>(
+pub fn back<L: ExchangeName>(
     ended: Result<Seat<L>, (Seat<L>, ServeFault)>,
 ) -> (Seat<L>, Option<ServeFault>)
     ensures { result.0 ≡ seat_back ended }

@@ -5,11 +5,11 @@ ghost use Rattle.batch_book.specs.History.{new_account};
 ghost use Rattle.batch_book.specs.Naming.{IsNamed};
 
 use super::served::{NO_FUSE, Saying, serve_at_once};
-use crate::tests::common::{with_wires, zeros};
 use crate::tests::office::open_pair;
 use batch_book::{ExchangeBlank, ExchangeName};
 use module_memory::Rack;
 use peek_poke::FuseWires;
+use runs_tests::common::{TURNS, with_wires, zeros};
 use schedule_certificate::OpenGate;
 use std::io;
 use std::io::Read;
@@ -17,9 +17,6 @@ use std::marker::Brand;
 use std::sync::Wait;
 use std::sync::atomic::{AtomicBool, AtomicUsize, Ordering};
 use std::thread::{Threads, yield_now};
-
-/// How long a client waits for the other.
-const TURNS: usize = 10_000_000;
 
 /// The lines of two clients in one order, each with the client that says it, and how many of them
 /// were answered.

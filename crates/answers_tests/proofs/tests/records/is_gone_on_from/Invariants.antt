@@ -1,5 +1,5 @@
 use Rattle.std.proofs.Common.{None}
-use Rattle.rack_tests.proofs.tests.records.is_gone_on_from.Given as goal
+use Rattle.answers_tests.proofs.tests.records.is_gone_on_from.Given as goal
 
 abbrev pub ghosts-ask : goal.ghosts-ask
 ghosts-ask g a = record { held = None; earlier = a.book.history }

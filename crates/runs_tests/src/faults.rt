@@ -1,6 +1,6 @@
 //! What fails or lies in a run of row two-pushes, and how the run is to end then.
 
-use crate::tests::running::{Block, End};
+use crate::running::{Block, End};
 use crossbar::{Chip, ConfigPort, FusePort, PortFault, joined_wide};
 use exchange_limits::WorkerCount;
 use peek_poke::FuseWires;

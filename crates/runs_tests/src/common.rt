@@ -14,6 +14,9 @@ use std::thread::Threads;
 /// Row two-pushes: two transfers in one setting.
 pub const TWO_PUSHES: &str = "batch 2\npush 0 0 1 0\npush 1 1 2 0\n";
 
+/// How often a thread lets others run at most, while it waits for one of them.
+pub const TURNS: usize = 10_000_000;
+
 /// The batch of a text.
 pub fn batch(alloc: Global, text: &str) -> Option<Batch> {
     Batch::read(alloc, text.as_bytes(), Shape::WIDEST).ok()

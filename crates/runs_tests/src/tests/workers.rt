@@ -1,17 +1,14 @@
 //! When workers arrive at the gate, and whether they move words at once.
 
-use crate::tests::common::{TWO_PUSHES, two, with_gate};
-use crate::tests::meeting::Meeting;
-use crate::tests::running::{Case, End, TURNED_ROUND, ends_so};
+use crate::common::{TURNS, TWO_PUSHES, two, with_gate};
+use crate::meeting::Meeting;
+use crate::running::{Case, End, TURNED_ROUND, ends_so};
 use exchange_limits::{MAX_WORKERS, WorkerCount};
 use peek_poke::{PlainWire, PlainWires, Wire, WireFault, WireMaker};
 use schedule_certificate::Gate;
 use std::alloc::{AllocError, Global};
 use std::sync::atomic::{AtomicBool, AtomicUsize, Ordering};
 use std::thread::{Threads, yield_now};
-
-/// How long a worker waits for another.
-const TURNS: usize = 10_000_000;
 
 /// Whether both workers of row two-pushes meet at the gate, and all its words are moved.
 fn two_pushes_meet<R: AllocGlobal + Threads + Sync>(rt: &R) -> bool {
@@ -62,10 +59,10 @@ impl Watch {
         })
     }
 
-    /// Whether each worker of the list has arrived as often as stands beside it, and no other has.
-    fn has_seen(&self, arrivals: &[(usize, usize)]) -> bool {
+    /// Whether those of the list have arrived, each as often as it stands there, and no other has.
+    fn has_seen(&self, arrivals: &[usize]) -> bool {
         for (place, count) in self.arrived.iter().enumerate() {
-            if count.load(Ordering::SeqCst) != times_of(arrivals, place) {
+            if count.load(Ordering::SeqCst) != count_of(arrivals, place) {
                 return false;
             }
         }
@@ -111,14 +108,15 @@ impl Watch {
     }
 }
 
-/// How often a worker arrives by a list.
-fn times_of(arrivals: &[(usize, usize)], worker: usize) -> usize {
-    for (number, times) in arrivals {
-        if *number == worker {
-            return *times;
+/// How often a number stands in a list.
+fn count_of(numbers: &[usize], wanted: usize) -> usize {
+    let mut count: usize = 0;
+    for number in numbers {
+        if *number == wanted {
+            count = count.saturating_add(1);
         }
     }
-    0
+    count
 }
 
 /// A gate that counts.
@@ -184,8 +182,8 @@ impl<'a> WireMaker for WatchedLines<'a> {
 }
 
 /// A run of a batch of one setting by so many workers, what it leaves in block 1 of module 1 of a
-/// rack of 32 modules whose blocks have one word, and how often each worker who arrives does. Where
-/// it is held, there is a worker for each transfer, and all wires wait for one another.
+/// rack of 32 modules whose blocks have one word, and who arrives, each as often as it is listed.
+/// Where it is held, there is a worker for each transfer, and all wires wait for one another.
 #[derive(Clone, Copy)]
 struct Row {
     text: &'static str,
@@ -193,7 +191,7 @@ struct Row {
     workers: usize,
     is_held: bool,
     word: u32,
-    arrivals: &'static [(usize, usize)],
+    arrivals: &'static [usize],
 }
 
 /// Whether a row's run goes to its end, and is seen as it says.
@@ -239,41 +237,15 @@ const FOUR_PUSHES: &str = "batch 4\npush 0 0 1 1\npush 1 0 2 1\npush 2 0 3 1\npu
 /// Two transfers of one setting.
 const TWO_TO_THREE: &str = "batch 2\npush 0 0 1 1\npush 1 0 2 1\n";
 
-/// How often each of 32 workers arrives at the widest setting: a worker arrives at each of the five
-/// forks at which its part begins with it, 17 at each as 1 does.
-const EACH_OF_32: [(usize, usize); 32] = [
-    (1, 5),
-    (2, 1),
-    (3, 2),
-    (4, 1),
-    (5, 3),
-    (6, 1),
-    (7, 2),
-    (8, 1),
-    (9, 4),
-    (10, 1),
-    (11, 2),
-    (12, 1),
-    (13, 3),
-    (14, 1),
-    (15, 2),
-    (16, 1),
-    (17, 5),
-    (18, 1),
-    (19, 2),
-    (20, 1),
-    (21, 3),
-    (22, 1),
-    (23, 2),
-    (24, 1),
-    (25, 4),
-    (26, 1),
-    (27, 2),
-    (28, 1),
-    (29, 3),
-    (30, 1),
-    (31, 2),
-    (32, 1),
+/// Each of 32 workers at the widest setting, at each of the five forks at which its part begins
+/// with it. On each level the parts begin with the workers of a line.
+const EACH_OF_32: [usize; 62] = [
+    1, 17, //
+    1, 9, 17, 25, //
+    1, 5, 9, 13, 17, 21, 25, 29, //
+    1, 3, 5, 7, 9, 11, 13, 15, 17, 19, 21, 23, 25, 27, 29, 31, //
+    1, 2, 3, 4, 5, 6, 7, 8, 9, 10, 11, 12, 13, 14, 15, 16, //
+    17, 18, 19, 20, 21, 22, 23, 24, 25, 26, 27, 28, 29, 30, 31, 32, //
 ];
 
 /// A run of four transfers that isn't held.
@@ -302,7 +274,7 @@ const ALL: Row = Row {
 };
 
 /// A row with so many workers and these arrivals.
-fn by(row: Row, workers: usize, arrivals: &'static [(usize, usize)]) -> Row {
+fn by(row: Row, workers: usize, arrivals: &'static [usize]) -> Row {
     Row {
         workers,
         arrivals,
@@ -335,33 +307,20 @@ fn workers_arrive(rt: HostRuntime) {
         // One worker doesn't fork. A half that is one worker doesn't. Of three and of five workers
         // the first half has one more than the other.
         FOUR,
-        by(FOUR, 2, &[(1, 1), (2, 1)]),
-        by(FOUR, 3, &[(1, 2), (2, 1), (3, 1)]),
-        by(FOUR, 5, &[(1, 2), (3, 1), (4, 2), (5, 1)]),
+        by(FOUR, 2, &[1, 2]),
+        by(FOUR, 3, &[1, 1, 2, 3]),
+        by(FOUR, 5, &[1, 1, 3, 4, 4, 5]),
         // Workers beyond the transfers are halved like all others: of sixteen the second half
         // begins with worker 9, of 64 with 33.
-        by(FOUR, 16, &[(1, 2), (5, 1), (9, 2), (13, 1)]),
-        by(TWO, 16, &[(1, 1), (9, 1)]),
-        by(TWO, 64, &[(1, 1), (33, 1)]),
+        by(FOUR, 16, &[1, 1, 5, 9, 9, 13]),
+        by(TWO, 16, &[1, 9]),
+        by(TWO, 64, &[1, 33]),
         // One transfer is moved without a fork; of three, the first half has one.
         by(one, 4, &[]),
-        by(three, 4, &[(1, 1), (3, 2), (4, 1)]),
+        by(three, 4, &[1, 3, 3, 4]),
         // Two workers and eight, who have more than one transfer each.
-        by(ALL, 2, &[(1, 1), (2, 1)]),
-        by(
-            ALL,
-            8,
-            &[
-                (1, 3),
-                (2, 1),
-                (3, 2),
-                (4, 1),
-                (5, 3),
-                (6, 1),
-                (7, 2),
-                (8, 1),
-            ],
-        ),
+        by(ALL, 2, &[1, 2]),
+        by(ALL, 8, &[1, 1, 1, 2, 3, 3, 4, 5, 5, 5, 6, 7, 7, 8]),
     ];
     for (number, row) in rows.iter().enumerate() {
         assert!(rt; is_right(&rt, row), "row {number}");
@@ -378,8 +337,8 @@ fn all_wires_are_held(rt: HostRuntime) {
         ..TWO
     };
     let rows = [
-        by(pushes, 2, &[(1, 1), (2, 1)]),
-        by(FOUR, 4, &[(1, 2), (2, 1), (3, 2), (4, 1)]),
+        by(pushes, 2, &[1, 2]),
+        by(FOUR, 4, &[1, 1, 2, 3, 3, 4]),
         by(ALL, 32, &EACH_OF_32),
     ];
     for (number, row) in rows.iter().enumerate() {

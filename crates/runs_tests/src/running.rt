@@ -1,6 +1,6 @@
 //! Runs of batch texts, and what is seen of them.
 
-use crate::tests::common::{Told, marked, plan};
+use crate::common::{Told, marked, plan};
 use batch::Place;
 use crossbar::ConfigPort;
 use module_memory::Rack;
@@ -65,28 +65,16 @@ pub enum End<'a> {
 impl End<'_> {
     /// Whether a run with this outcome ended so.
     fn is_of(&self, outcome: &Outcome) -> bool {
-        match (self, outcome) {
-            (
-                End::Completed(settings, words),
-                Outcome::Completed {
-                    settings: s,
-                    words: w,
-                },
-            ) => { s == settings && w == words }
-            (
-                End::Stopped(number, wanted, words),
-                Outcome::Stopped {
-                    setting,
-                    cause,
-                    moved,
-                },
-            ) => {
-                let is_there = setting == number;
-                let is_moved = moved.as_slice() == *words;
-                is_there && is_moved && cause == wanted
+        match self {
+            End::Completed(settings, words) => {
+                *outcome
+                    == Outcome::Completed {
+                        settings: *settings,
+                        words: *words,
+                    }
             }
-            (End::Refused(wanted), Outcome::Refused(refusal)) => refusal == wanted,
-            _ => false,
+            End::Stopped(setting, cause, moved) => has_stopped(outcome, *setting, *cause, moved),
+            End::Refused(refusal) => *outcome == Outcome::Refused(*refusal),
         }
     }
 
@@ -97,6 +85,21 @@ impl End<'_> {
             End::Stopped(setting, _, _) => setting.saturating_add(1),
             End::Refused(_) => 0,
         }
+    }
+}
+
+/// Whether a run with this outcome stopped in this setting, for this cause, and moved these words.
+fn has_stopped(outcome: &Outcome, number: usize, wanted: StopCause, words: &[(u16, u16)]) -> bool {
+    match outcome {
+        Outcome::Stopped {
+            setting,
+            cause,
+            moved,
+        } => {
+            let is_moved = moved.as_slice() == words;
+            *setting == number && *cause == wanted && is_moved
+        }
+        _ => false,
     }
 }
 

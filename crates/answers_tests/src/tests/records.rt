@@ -2,15 +2,15 @@
 //! nothing is written behind an entry that failed, and a small record is gone on from wherever it
 //! was cut.
 
-ghost use Rattle.std.specs.Prelude.{◌≡◌, None};
+ghost use Rattle.std.specs.Prelude.{◌≡◌, None, length};
+ghost use Rattle.book_record.specs.Sums.{numbered};
 
-use crate::tests::common::{Told, with_wires, zeros};
-use crate::tests::office::FIRST;
 use batch_book::{Book, Call, Silent};
 use book_record::{StreamName, session_limit, stream_off, stream_on};
 use exchange_limits::WorkerCount;
 use peek_poke::PlainWires;
 use record_replay::{RecordFault, replay};
+use runs_tests::common::{Told, with_wires, zeros};
 use std::alloc::Global;
 use std::io;
 use std::io::Write;
@@ -47,28 +47,31 @@ impl Write for Sheet<'_> {
     }
 }
 
-/// A small record behind its head.
-const RECORD: &[u8] = b"0 peek 0 80000800\nword 00000000\n\
-                        1 poke 1 80000800 00000005\npoked\n\
-                        0 peek 1 80000800\nword 00000005\n\
-                        end\n";
+/// A small record after its head.
+const RECORD: &[u8] = b"0 peek 0 80000800\nword 00000000\n=37648a6d\n\
+                        1 poke 1 80000800 00000005\npoked\n=e0378756\n\
+                        0 peek 1 80000800\nword 00000005\n=b0ccf629\n\
+                        end 3\n=d2c8c78f\n";
 
 /// Where so many of its entries end.
 fn end_of(entries: usize) -> usize {
     match entries {
         0 => 0,
-        1 => 32,
-        2 => 65,
-        _ => 97,
+        1 => 42,
+        2 => 85,
+        _ => 127,
     }
 }
+
+/// The address of the first word of block 0.
+const FIRST: u32 = 0x8000_0800;
 
 /// How many of its entries stand whole in so many of its bytes.
 fn whole_in(bytes: usize) -> usize {
     match bytes {
-        0..32 => 0,
-        32..65 => 1,
-        65..97 => 2,
+        0..42 => 0,
+        42..85 => 1,
+        85..127 => 2,
         _ => 3,
     }
 }
@@ -95,6 +98,7 @@ fn ask<R: Threads + Sync, N: StreamName + Send>(
 ) -> (usize, Vec<u8>)
     requires held { None ≡ N.held }
     requires earlier { book.history ≡ N.earlier }
+    requires counted { entries ≡ numbered (length book.history) }
 {
     let count = AtomicUsize::new(0);
     let sheet = Sheet {
@@ -103,7 +107,7 @@ fn ask<R: Threads + Sync, N: StreamName + Send>(
         room,
         once,
     };
-    let mut book = stream_on::<Sheet<'_>, N>(alloc, book, sheet, false);
+    let mut book = stream_on::<Sheet<'_>, N>(alloc, book, entries as u64, sheet, false);
     let mut plant = with_wires(PlainWires);
     let times = AtomicUsize::new(0);
     let mut told: usize = 0;
@@ -118,7 +122,7 @@ fn ask<R: Threads + Sync, N: StreamName + Send>(
             told = told.saturating_add(1);
         }
     }
-    let (_, sheet) = stream_off(book);
+    let (_, sheet, _) = stream_off(book);
     (told, sheet.taken)
 }
 
@@ -139,7 +143,7 @@ fn stops_at<R: AllocGlobal + Threads + Sync>(rt: &R, room: usize, once: bool) ->
 
 #[test]
 fn a_writer_fails_at_each_byte(rt: HostRuntime) {
-    for room in 0..98 {
+    for room in 0..128 {
         assert!(rt; stops_at(&rt, room, false), "{room}");
         assert!(rt; stops_at(&rt, room, true), "once {room}");
     }
@@ -163,17 +167,17 @@ fn is_gone_on_from<R: AllocGlobal + Threads + Sync>(rt: &R, bytes: usize) -> boo
     ) else {
         return false;
     };
-    let entries = whole_in(bytes);
+    let entries = remade.entries;
     let end = end_of(entries);
-    let is_read = remade.entries == entries && Some(remade.rest) == text.get(end..);
+    let is_read = entries == whole_in(bytes) && Some(remade.rest) == text.get(end..);
     let (told, taken) = ask::<R, Brand>(rt, alloc, remade.book, entries, usize::MAX, false);
-    let is_taken = Some(taken.as_slice()) == RECORD.get(end..97);
+    let is_taken = Some(taken.as_slice()) == RECORD.get(end..127);
     is_read && is_taken && told.saturating_add(entries) == 3
 }
 
 #[test]
 fn a_record_is_gone_on_from_each_byte(rt: HostRuntime) {
-    for bytes in 0..102 {
+    for bytes in 0..144 {
         assert!(rt; is_gone_on_from(&rt, bytes), "{bytes}");
     }
 }
@@ -198,9 +202,9 @@ fn first_made<R: AllocGlobal + Threads + Sync>(rt: &R, first: usize) -> Option<(
 
 #[test]
 fn the_first_entries_are_made_again(rt: HostRuntime) {
-    assert!(rt; first_made(&rt, 0) == Some((0, 101)));
-    assert!(rt; first_made(&rt, 2) == Some((2, 36)));
-    assert!(rt; first_made(&rt, 9) == Some((3, 4)));
+    assert!(rt; first_made(&rt, 0) == Some((0, 143)));
+    assert!(rt; first_made(&rt, 2) == Some((2, 58)));
+    assert!(rt; first_made(&rt, 9) == Some((3, 16)));
 }
 
 /// What is first wrong with a text, and how many bytes stand before it.
@@ -222,9 +226,13 @@ fn wrong<R: AllocGlobal + Threads + Sync>(rt: &R, text: &str) -> Option<(RecordF
 
 #[test]
 fn damaged_records(rt: HostRuntime) {
-    let other = "0 peek 0 80000800\nword 00000001\n";
+    let other = "0 peek 0 80000800\nword 00000001\n=e3bad572\n";
     assert!(rt; wrong(&rt, other) == Some((RecordFault::Reply(0), 18)));
-    let none = "0 peek 0 80000800\nword 00000000\n0 pick\n";
-    assert!(rt; wrong(&rt, none) == Some((RecordFault::Call(1), 32)));
-    assert!(rt; wrong(&rt, "end\nend\n") == Some((RecordFault::More, 4)));
+    let none = "0 peek 0 80000800\nword 00000000\n=37648a6d\n0 pick\npoked\n=dcdafc37\n";
+    assert!(rt; wrong(&rt, none) == Some((RecordFault::Call(1), 42)));
+    let twice =
+        "0 peek 0 80000800\nword 00000000\n=37648a6d\n0 peek 0 80000800\nword 00000000\n=37648a6d\n";
+    assert!(rt; wrong(&rt, twice) == Some((RecordFault::Sum(1), 42)));
+    assert!(rt; wrong(&rt, "0 peek\0") == Some((RecordFault::Sum(0), 0)));
+    assert!(rt; wrong(&rt, "end 0\n=4ff4b165\nend\n") == Some((RecordFault::More, 16)));
 }

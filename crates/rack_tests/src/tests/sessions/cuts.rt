@@ -4,16 +4,16 @@ ghost use Rattle.batch_book.specs.History.{new_account};
 ghost use Rattle.batch_book.specs.Naming.{IsNamed};
 ghost use Rattle.std.specs.Prelude.{◌≡◌, Some};
 ghost use Rattle.progress_word.specs.declared.limits.TheConstants.{ALL_PARTS};
-ghost use Rattle.client_session.specs.Sessions.{seat_back};
 
-use super::faults::{Fault, FaultyPort, blocks_of, count_of_faults, fault_of};
-use crate::tests::common::{marked, two};
-use crate::tests::running::has_blocks;
+use super::served::back;
 use batch_book::{Closed, ExchangeBlank, ExchangeName, Seat, Shared};
-use client_session::{NoListener, ServeFault, serve};
+use client_session::{NoListener, serve};
 use exchange_limits::WorkerCount;
 use module_memory::Rack;
 use peek_poke::FuseWires;
+use runs_tests::common::{marked, two};
+use runs_tests::faults::{Fault, FaultyPort, blocks_of, count_of_faults, fault_of};
+use runs_tests::running::has_blocks;
 use schedule_certificate::OpenGate;
 use setting_runner::StopCause;
 use std::alloc::{AllocError, Global};
@@ -105,16 +105,6 @@ fn is_told(alloc: Global, told: &[u8], fault: Fault) -> bool {
 /// An exchange in which something fails or lies.
 type Faulty<L> = Shared<L, FaultyPort, FuseWires, OpenGate>;
 
-/// The seat that came back from a session, and whether that ended by itself.
-fn back<L: ExchangeName>(ended: Result<Seat<L>, (Seat<L>, ServeFault)>) -> (Seat<L>, bool)
-    ensures { result.0 ≡ seat_back ended }
-{
-    match ended {
-        Ok(seat) => (seat, true),
-        Err((seat, _)) => (seat, false),
-    }
-}
-
 /// Serves the session from a seat, which comes back. Whether it ends by itself, and is told what it
 /// should be.
 fn session<L: ExchangeName, R: AllocGlobal + Threads + Wait + Sync>(
@@ -129,7 +119,7 @@ fn session<L: ExchangeName, R: AllocGlobal + Threads + Wait + Sync>(
 {
     let mut reader = SCRIPT.as_bytes();
     let mut told = Vec::new(rt.alloc());
-    let (seat, has_ended) = back(serve(
+    let (seat, ended) = back(serve(
         rt,
         rt.alloc(),
         exchange,
@@ -140,7 +130,7 @@ fn session<L: ExchangeName, R: AllocGlobal + Threads + Wait + Sync>(
         WorkerCount::ONE,
     ));
     let is_told = is_told(rt.alloc(), told.as_slice(), fault);
-    (seat, has_ended && is_told)
+    (seat, ended.is_none() && is_told)
 }
 
 /// Whether an exchange has just the entries of the session, the words that the run leaves, and

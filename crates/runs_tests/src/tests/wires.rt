@@ -1,7 +1,7 @@
 //! Wires that fail: for good, or in one call alone.
 
-use crate::tests::common::{TWO_PUSHES, with_wires};
-use crate::tests::running::{Case, End, ends_so};
+use crate::common::{TWO_PUSHES, with_wires};
+use crate::running::{Case, End, ends_so};
 use byte_streams::FailureCount;
 use peek_poke::{FuseWires, PlainWire, Wire, WireFault, WireMaker};
 use setting_runner::StopCause;

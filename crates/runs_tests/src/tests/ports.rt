@@ -1,7 +1,7 @@
 //! What a port is sent, and ports that fail or answer wrongly.
 
-use crate::tests::common::TWO_PUSHES;
-use crate::tests::running::{Block, Case, End, THREE_TRANSFERS, TURNED_ROUND, ends_so};
+use crate::common::TWO_PUSHES;
+use crate::running::{Block, Case, End, THREE_TRANSFERS, TURNED_ROUND, ends_so};
 use byte_streams::FailureCount;
 use crossbar::{Chip, ConfigPort, MemoryPort, PortFault};
 use exchange_limits::WorkerCount;

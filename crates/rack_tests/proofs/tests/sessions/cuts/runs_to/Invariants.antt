@@ -1,5 +1,5 @@
 use Rattle.std.proofs.Common.{[]}
-use Rattle.rack_tests.proofs.tests.cuts.in_sessions.runs_to.Given as goal
+use Rattle.rack_tests.proofs.tests.sessions.cuts.runs_to.Given as goal
 
 abbrev pub ghosts-is_served-L-ExchangeName : goal.ghosts-is_served-L-ExchangeName
 ghosts-is_served-L-ExchangeName g a = record { opening = a.rack; earlier = [] }

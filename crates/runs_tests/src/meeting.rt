@@ -1,11 +1,9 @@
 //! A gate at which two workers meet.
 
+use crate::common::TURNS;
 use schedule_certificate::Gate;
 use std::sync::atomic::{AtomicBool, Ordering};
 use std::thread::yield_now;
-
-/// How long a thread waits for another.
-const TURNS: usize = 10_000_000;
 
 /// A gate with two flags, each of which is raised by one worker, which then waits for the other.
 #[derive(Drop)]

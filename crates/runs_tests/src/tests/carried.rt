@@ -1,7 +1,7 @@
 //! Wires whose bytes are compared with those that are expected, and that see when they are made.
 
-use crate::tests::common::with_wires;
-use crate::tests::running::{Case, End, ends_so};
+use crate::common::with_wires;
+use crate::running::{Case, End, ends_so};
 use peek_poke::{PlainWire, Wire, WireFault, WireMaker};
 use std::sync::atomic::{AtomicBool, AtomicUsize, Ordering};
 use std::thread::Threads;

@@ -1,8 +1,8 @@
 //! Runs of row two-pushes, on a rack with one switch and on one with two.
 
-use super::faults::{Fault, blocks_of, count_of_faults, end_of, fault_of, moved_of};
-use crate::tests::common::{TWO_PUSHES, plan, two};
-use crate::tests::running::{Case, ends};
+use crate::common::{TWO_PUSHES, plan, two};
+use crate::faults::{Fault, blocks_of, count_of_faults, end_of, fault_of, moved_of};
+use crate::running::{Case, ends};
 use crossbar::Chip;
 use exchange_limits::WorkerCount;
 use schedule_certificate::Planned;
