@@ -1,23 +1,25 @@
 #!/usr/bin/env python3
-"""Makes a script or an example wrong in each of many ways, and lists those that a test doesn't see.
+"""Makes a script or an example wrong in each of many ways, and lists those that no tool sees.
 
-    tools/mutate.py [--jobs N] [--list] [--only LINE,..] FILE.. -- COMMAND..
+    tools/mutate.py [--jobs N] [--seconds N] [--list] [--only LINE,..] [FILE..] [-- COMMAND..]
 
-Each FILE is one of the repository in Python, C or for bash. One after the other, each of these in it is dropped or turned: what ends it
-(`exit`, `sys.exit`, `fail`, `raise`, `|| fail`, `must`), its status, the test of an `if`, a `trap`, a `signal`, a test of a file, and what waits,
-kills, locks or takes away. COMMAND runs in the top folder of a copy of the repository, where what is built is a link to here. It has to pass
-before, and is taken to hang after five times as long, and a minute. Each that it passes is printed, as is how many there were. The status is 0
-where none passed, 1 where one did, and 2 where COMMAND fails before, or there is nothing to try. With --list it prints all, and runs nothing.
-The test command doesn't call this tool. For racks:
-
-    tools/mutate.py examples/board/*.py examples/rack/*.py -- tools/rack/run.py --stop 0
+Each FILE is one of the repository in Python, C or for bash; without one all that JUDGES names are taken. One after the other, each of these in it is
+dropped or turned: what ends it (`exit`, `sys.exit`, `fail`, `raise`, `|| fail`, `must`), its status, the test of an `if`, a `trap`, a `signal`, a
+test of a file, and what waits, kills, locks or takes away. COMMAND, or else what JUDGES names, the quickest first, runs in the top folder of a copy
+of the repository, where what is built is a link to here. It has to pass before. It sees what is wrong where it fails, says WRONG, or takes twice as
+long as before, and half a minute. Each that it passes is printed, as is how many there were. The status is 0 where none passed, 1 where one did, and
+2 where COMMAND fails before, or not all is tried. With --list it prints all, and runs nothing. With --seconds no more are tried after so many. The
+test command doesn't call this tool.
 """
 
 import argparse
 import ast
 import contextlib
+import fnmatch
+import glob
 import os
 import re
+import select
 import shutil
 import signal
 import subprocess
@@ -27,6 +29,25 @@ import time
 from concurrent.futures import ThreadPoolExecutor
 
 TOP = os.path.dirname(os.path.dirname(os.path.abspath(__file__)))
+
+# Who sees what is wrong in a file: the first of these patterns that its name has.
+JUDGES = {
+    "exchange": "tools/start/run.sh",
+    "tools/install/build.sh": "tools/start/run.sh && tools/python/run.py 1",
+    "tools/install/*": "tools/python/run.py 1",
+    "tools/release.sh": "tools/release.sh --check",
+    "examples/board/*.c": "tools/rack/run.py 0 in C",
+    "examples/board/*.py": "tools/rack/run.py 0 the plan && tools/rack/run.py 0",
+    "examples/rack/*.py": "tools/rack/run.py 0 the plan && tools/rack/run.py 0",
+    "examples/*_to_*.py": "tools/rack/run.py 0 tables",
+    "examples/check_prices.py": "tools/hostile/judges.py && tools/rows/run.py prices",
+    "examples/check_record.py": "tools/rows/run.py sums",
+    "examples/all-reduce.py": "tools/hosts/hosts.py && tools/rack/run.py 0 misuse",
+    "examples/emulator/*.c": "tools/c/run.sh 1",
+    "examples/emulator/*.py": "tools/python/run.py 1 && tools/rack/run.py 0 misuse",
+    "examples/patterns/make.sh": "examples/patterns/make.sh --check && tools/rack/run.py 0 misuse",
+    "python/*.py": "tools/python/run.py 100",
+}
 
 # What ends a program, and what is done for others to rely on.
 ENDS = r"(sys\.exit|exit|os\._exit|fail|die|\w+\.error)"
@@ -114,65 +135,104 @@ def copy_to(folder):
 
 
 def passes(command, folder, limit):
-    """Whether a command passes within so many seconds."""
-    run = subprocess.Popen(command, cwd=folder, stdin=subprocess.DEVNULL, stdout=subprocess.DEVNULL, stderr=subprocess.DEVNULL, start_new_session=True)
-    try:
-        return run.wait(limit) == 0
-    except subprocess.TimeoutExpired:
-        # It may end what it has started.
-        run.terminate()
-        with contextlib.suppress(subprocess.TimeoutExpired):
-            run.wait(10)
-        return False
-    finally:
-        with contextlib.suppress(ProcessLookupError):
-            os.killpg(run.pid, signal.SIGKILL)
-        run.wait()
+    """Whether a command passes within so many seconds, and says nowhere that something is wrong."""
+    began, said = time.monotonic(), b""
+    with tempfile.TemporaryDirectory(prefix="mutate-") as room:
+        pipes = {"stdin": subprocess.DEVNULL, "stdout": subprocess.PIPE, "stderr": subprocess.STDOUT}
+        run = subprocess.Popen(command, cwd=folder, env={**os.environ, "TMPDIR": room}, start_new_session=True, **pipes)
+        try:
+            while b"WRONG" not in said and time.monotonic() < began + limit:
+                # Who was started by it may hold the pipe for longer.
+                if select.select([run.stdout], [], [], 1)[0]:
+                    more = os.read(run.stdout.fileno(), 1 << 16)
+                    said = said[-4:] + more
+                    if not more:
+                        break
+                elif run.poll() is not None:
+                    break
+            else:
+                return False
+            return run.wait(limit) == 0
+        except subprocess.TimeoutExpired:
+            return False
+        finally:
+            # It may end what it has started.
+            run.terminate()
+            with contextlib.suppress(subprocess.TimeoutExpired):
+                run.wait(10)
+            with contextlib.suppress(ProcessLookupError):
+                os.killpg(run.pid, signal.SIGKILL)
+            run.wait()
+            run.stdout.close()
 
 
-def try_one(command, limit, name, line, how, text):
-    """Says where a wrong file passes."""
-    with tempfile.TemporaryDirectory(prefix="mutate-") as folder:
-        copy_to(folder)
-        with open(f"{folder}/{name}", "w", encoding="utf-8") as file:
-            file.write(text)
-        lives = passes(command, folder, limit)
-    with open(f"{TOP}/{name}", encoding="utf-8") as file:
-        shown = file.read().splitlines()[line - 1].strip()
-    if lives:
-        print(f"{name}:{line}: {how}: {shown}", flush=True)
-    return lives
+def judge_of(name):
+    """The command that judges a file."""
+    return next((["bash", "-c", command] for pattern, command in JUDGES.items() if fnmatch.fnmatch(name, pattern)), None)
+
+
+class Trials:
+    """A copy of the repository in which one file after the other is wrong. No more are tried behind the moment `until`."""
+
+    def __init__(self, command, until):
+        self.command, self.until, self.limits = command, until, {}
+        self.room = tempfile.TemporaryDirectory(prefix="mutate-")
+        copy_to(self.room.name)
+
+    def run(self, name, limit):
+        return passes(self.command or judge_of(name), self.room.name, limit)
+
+    def limit_of(self, name):
+        """The seconds that the judge of a file has; none where it fails before anything is wrong."""
+        judge = str(self.command or judge_of(name))
+        if judge not in self.limits:
+            began = time.monotonic()
+            self.limits[judge] = 2 * (time.monotonic() - began) + 30 if self.run(name, 3600) else None
+        return self.limits[judge]
+
+    def try_one(self, name, line, how, text):
+        """Whether a wrong file passes, which is said; None where it isn't tried."""
+        limit = self.limit_of(name)
+        if limit is None or time.monotonic() > self.until:
+            return None
+        with open(f"{TOP}/{name}", encoding="utf-8") as file:
+            right = file.read()
+        put(f"{self.room.name}/{name}", text)
+        lives = self.run(name, limit)
+        put(f"{self.room.name}/{name}", right)
+        print(f"{name}:{line}: {how}: {'passes' if lives else 'seen'}: {right.splitlines()[line - 1].strip()}", flush=True)
+        return lives
+
+
+def put(name, text):
+    with open(name, "w", encoding="utf-8") as file:
+        file.write(text)
 
 
 def main():
-    if "--" not in sys.argv[1:]:
-        sys.exit(__doc__.split("\n\n")[1].strip())
-    at = sys.argv.index("--")
+    at = sys.argv.index("--") if "--" in sys.argv else len(sys.argv)
     words = argparse.ArgumentParser()
     words.add_argument("--jobs", type=int, default=1)
+    words.add_argument("--seconds", type=float, default=float("inf"))
     words.add_argument("--list", action="store_true")
     words.add_argument("--only", help="lines, with commas between")
-    words.add_argument("files", nargs="+")
+    words.add_argument("files", nargs="*")
     given, command = words.parse_args(sys.argv[1:at]), sys.argv[at + 1 :]
-    names = [os.path.relpath(os.path.abspath(name), TOP) for name in given.files]
-    found = [(name, *it) for name in names for it in mutations(f"{TOP}/{name}")]
-    if given.only:
-        found = [it for it in found if str(it[1]) in given.only.split(",")]
+    os.chdir(TOP)
+    names = [os.path.relpath(name) for name in given.files or [name for it in JUDGES for name in glob.glob(it)]]
+    found = [(name, *it) for name in dict.fromkeys(names) for it in mutations(name) if not given.only or str(it[0]) in given.only.split(",")]
     if given.list:
         for name, line, how, _ in found:
             print(f"{name}:{line}: {how}")
         return
-    began = time.monotonic()
-    with tempfile.TemporaryDirectory(prefix="mutate-") as folder:
-        copy_to(folder)
-        if not found or not passes(command, folder, 3600):
-            print("the command fails before anything is wrong, or there is nothing to try", file=sys.stderr)
-            sys.exit(2)
-    limit = 5 * (time.monotonic() - began) + 60
+    if not command and not all(map(judge_of, names)):
+        words.error("JUDGES has nobody for one of these: name a COMMAND")
+    until = time.monotonic() + given.seconds
     with ThreadPoolExecutor(given.jobs) as at_once:
-        lives = list(at_once.map(lambda it: try_one(command, limit, *it), found))
-    print(f"{len(found)} tried, {sum(lives)} passed")
-    sys.exit(1 if any(lives) else 0)
+        parts = [(Trials(command, until), found[k :: given.jobs]) for k in range(given.jobs)]
+        lives = sum(at_once.map(lambda part: [part[0].try_one(*it) for it in part[1]], parts), [])
+    print(f"{len(found) - lives.count(None)} tried of {len(found)}, {lives.count(True)} passed")
+    sys.exit(2 if not found or None in lives else 1 if any(lives) else 0)
 
 
 if __name__ == "__main__":

@@ -44,6 +44,9 @@ UNEVEN = ["batch 8"] + [f"push {m} {b} {n} {b}" for m, ends in ((0, (1, 1, 2, 2)
 # Module 0 has a transfer in each of two settings, module 2 one, so that its link 0 is idle once.
 IDLE = ["batch 3", "push 0 0 1 0", "push 0 1 1 1", "push 2 0 3 0"]
 
+# What planning says where instructions can't be counted.
+LACKS, PLANNED = "planning: valgrind is missing, so no instructions were counted\n" + "steps, at most\n" * 10, "planning: 29 batches planned\n"
+
 # What comes of a line of a row, on both streams.
 LINE, ABC = b"refused a\n", b"exchange: b c\n"
 
@@ -151,6 +154,7 @@ CASES = [
         (["a", "...", "b"], ["a", "c"]), (["a", "...", "b"], ["c", "b"]), (["a"], ["b"]), (["a"], ["a", "b"]), (["a", "b"], ["a"]), ([], ["a"]), (["a"], []),
     ]),
     (is_enough, ("rows: 5000 tried, 0 wrong\n",), [("rows: 900 tried, 0 wrong\n",), ("5000\n",), ("rows: 5000 tried\nWRONG\n",), ("", "tools/none.py")]),
+    (is_enough, (LACKS + PLANNED, "bench/planning/run.sh"), [(LACKS, "bench/planning/run.sh"), (PLANNED, "bench/planning/run.sh")]),
     (is_said, (1, "Threads+Wait"), [(2, "Threads+Wait"), (1, "Wait"), (0, ""), (1, "Threads+Wait", "BAD EDIT a"), (1, "Threads+Wait", "only by a limit")]),
     (can_be_made, ("let a = 1;",), [("let c = 1;",), ("= 1;",), ("let a = 1;", ""), ("let c = 2;", "let c = 2;\n")]),
     (are_right, (IDLE, 2, ONCE), [(IDLE, 2, priced("settings 2 shown 3", {2: 65536}, {})), (IDLE, 2, priced("settings 2 shown 2", {2: 32768}, {}))]),

@@ -19,7 +19,7 @@ import sys
 import tempfile
 from collections import namedtuple
 
-from kept import Record, Wrong, calls_of, judge_client
+from kept import Record, Wrong, calls_of, end_of, judge_client
 from moments import EXCHANGE, LIMIT, read, resume, shown, try_all
 
 MOST = 0.05
@@ -299,7 +299,7 @@ def try_failures():
                 os.unlink(f"{client.name}.out")
                 open(f"{client.name}.in", "wb").close()
             status, told = resume(room, SHAPE, [client.name for client in day.clients])
-            if status != 0 or read(f"{room}/record") != whole + b"end\n":
+            if status != 0 or read(f"{room}/record") != whole + end_of(len(day.record.entries)):
                 raise Wrong(f"turn {turn}: resumed: status {status}, {told!r}")
             return many
 

@@ -12,10 +12,11 @@ import errno
 import fcntl
 import os
 import re
+import shutil
 import subprocess
 import sys
 
-from hosts import EXCHANGE, LIMIT, Client, Host, try_cases
+from hosts import EXCHANGE, LIMIT, TOP, Client, Host, try_cases
 
 SESSION = "session 0\nword 000000ff\n"
 
@@ -40,7 +41,7 @@ def ended_so(words, given=os.devnull, **environment):
     environment["LD_PRELOAD"] = os.environ["LIBRARIES"]
     with open(given) as file:
         run = subprocess.run([EXCHANGE, *words.split()], stdin=file, capture_output=True, timeout=LIMIT, env=environment)
-    return run.stdout.decode(), run.stderr.decode(), run.returncode
+    return run.stdout.decode(errors="replace"), run.stderr.decode(), run.returncode
 
 
 # ---- the order of calls
@@ -94,7 +95,9 @@ def orders_of_scripts():
     opened = [*held("record"), *held("record.exchange-0"), *kept, *IMAGE, "open amy.in"]
     order = [*opened, *put("record", *held("record")), *put("left", *kept), *done]
     yield is_so("serve 1x1x1 amy.in --record record --image-out left", os.devnull, order)
-    yield is_so("serve 1x1x1 amy.in --image-out other", os.devnull, [*held("other.exchange-0"), "open amy.in", *put("other"), *done])
+    # The image is written in two parts.
+    half = {"CALLS_HALF": "other.exchange-0:1"}
+    yield is_so("serve 1x1x1 amy.in --image-out other", os.devnull, [*held("other.exchange-0"), "open amy.in", *put("other"), *done], **half)
     yield sorted(os.listdir(".")), ["amy.in", "left", "other", "record"]
 
 
@@ -110,8 +113,24 @@ def orders_of_sessions():
     os.unlink("record")
     order = [*RECORD, *keep_name(), "cut record", *synced, "open amy.in", "open amy.out", "lock amy.out", "cut amy.out", *synced, "write amy.out"]
     yield is_so("host 1x1x1 amy --record record --sync", os.devnull, [*order, *LAST, "write stdout"])
-    order = [*RECORD, "cut record", "open amy.in", "open amy.out", "lock amy.out", "cut amy.out", *entry, "write amy.out", *LAST, "write stdout"]
-    yield is_so("host 1x1x1 amy --record record --resume", os.devnull, order)
+    told = ["open amy.in", "open amy.out", "lock amy.out", "cut amy.out"]
+    order = [*RECORD, *held("left"), *IMAGE, "cut record", *told, *entry, "write amy.out", *LAST, *put("left", *held("left")), "write stdout"]
+    yield is_so("host 1x1x1 amy --record record --resume --image-out left", os.devnull, order)
+    os.unlink("left")
+    yield is_so("host 1x1x1 amy --image-out left", os.devnull, [*IMAGE, *told, "write amy.out", *put("left"), "write stdout"])
+    os.unlink("left")
+    yield is_so("talk 1x1x1 --image-out left", "amy.in", [*IMAGE, "write stdout", *put("left")])
+
+
+def orders_of_readers():
+    """What asks for no sessions opens each file once, in this order, and writes standard output alone."""
+    for name in "three-transfers.txt", "three-transfers.plan.txt", "patterns/gather.moves.txt", "before.img", "two-clients.record.txt":
+        shutil.copy(f"{TOP}/examples/{name}", ".")
+    batch, schedule = "three-transfers.txt", "three-transfers.plan.txt"
+    words = [f"plan {batch} --steady", f"check {batch} {schedule}", f"draw {batch} {schedule}", f"switch {batch} --schedule {schedule}"]
+    words += [f"orders {batch}", "direct gather.moves.txt", f"run 3x2x2 --image before.img {batch}", f"apply 3x2x2 {batch} before.img"]
+    for line in [*words, "replay two-clients.record.txt"]:
+        yield is_so(line, os.devnull, [*(f"open {word}" for word in line.split() if "." in word), "write stdout"])
 
 
 # ---- calls that fail
@@ -140,10 +159,10 @@ def cannot_lock():
 def is_cut_without_threads():
     """Where the system has no threads, a torn entry is cut off all the same, and that is said."""
     write("amy.in")
-    write("record", "record 1x1x1 00040001 1\nclient amy\n0 po")
-    told = "exchange: record: cut off: 4 bytes from line 3 on\nexchange: the system has no thread for each client; try fewer clients\n"
+    write("record", "record-2 1x1x1 00040001 1\nclient amy\n=fd1021a9\n0 po")
+    told = "exchange: record: cut off: 4 bytes from line 4 on\nexchange: the system has no thread for each client; try fewer clients\n"
     yield ended_so("host 1x1x1 amy --record record --resume", REFUSE="T"), ("refused threads\n", told, 1)
-    yield os.path.getsize("record"), 35
+    yield os.path.getsize("record"), 47
 
 
 def is_moved_before_the_lock():
@@ -258,8 +277,8 @@ def others_go_on():
 
 
 CASES = [
-    orders_of_scripts, orders_of_sessions, cannot_lock, is_cut_without_threads, is_moved_before_the_lock, new_files_of_others, image_that_fails,
-    record_that_fails, twins, others_go_on,
+    orders_of_scripts, orders_of_sessions, orders_of_readers, cannot_lock, is_cut_without_threads, is_moved_before_the_lock, new_files_of_others,
+    image_that_fails, record_that_fails, twins, others_go_on,
 ]  # fmt: skip
 
 if __name__ == "__main__":

@@ -106,6 +106,8 @@ def try_install(room):
     files = [name for name, text in tree(rack).items() if text is not None]
     expect("all files are listed", sorted(files) == sorted(f"{rack}/{line}" for line in put), f"{files}\n{put}")
     expect("all files are told", all(f"  {line}\n" in told for line in put), told)
+    ways = "PATH", "PKG_CONFIG_PATH", "PYTHONPATH"
+    expect("how a shell, pkg-config and Python find it is told", re.findall(r"export (\w+)=" + re.escape(rack), told) == [*ways], told)
     before = tree(rack)
     Path(rack, "lib/old").write_text("old")
     with open(f"{rack}/share/exchange/installed", "a") as listed:
@@ -146,8 +148,19 @@ def try_install(room):
     expect("what was there before is left, and what others put there since", tree(mine) == left, tree(mine).keys() ^ left.keys())
     install("uninstall what isn't there", 1, mine, script="uninstall")
     install("no folder for the folder", 1, f"{room}/none/rack")
+    told = install("no compiler", 1, f"{room}/none", env={**os.environ, "PATH": few_commands(room)})
+    expect("that it isn't there is told", told == "exchange: the command cc isn't on the PATH\n", told)
     install("other words", 2, "--help")
     return rack
+
+
+def few_commands(room):
+    """A folder with what an install needs before it looks for a compiler."""
+    few = f"{room}/few-commands"
+    os.mkdir(few)
+    for name in "bash", "env", "dirname", "readlink", "rt":
+        os.symlink(shutil.which(name), f"{few}/{name}")
+    return few
 
 
 def try_versions(rack):
@@ -744,6 +757,8 @@ def try_threads(count=16):
 def main():
     count = int(sys.argv[1]) if len(sys.argv) > 1 else 1000
     with tempfile.TemporaryDirectory(prefix="python-") as room:
+        os.environ["TMPDIR"] = work = f"{room}/work"
+        os.mkdir(work)
         rack = try_install(room)
         try_interrupted(room)
         try_modes(room)
@@ -761,6 +776,7 @@ def main():
         try_threads()
         install("uninstall", 0, rack, script="uninstall")
         expect("nothing is left", not os.path.exists(rack), tree(rack).keys())
+        expect("nothing is left of what was made meanwhile", os.listdir(work) == [], os.listdir(work))
     print(f"python: {len(tried)} tried, with {count} spoilt texts, {len(wrong)} wrong")
     sys.exit(1 if wrong else 0)
 

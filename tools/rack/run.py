@@ -1,5 +1,5 @@
 #!/usr/bin/env python3
-"""Tries the rack of processes of examples/rack, behind the relay and the cable of examples/board: tools/rack/run.py [--stop] [COUNT] [WORD]
+"""Tries the rack of processes of examples/rack, behind the relay and the cable of examples/board: tools/rack/run.py [COUNT] [WORD]
 
     racks     each case is a run: host.py fills the modules with an image, has `exchange drive` set the switch over one cable, and reads the
               modules in the end; a process for each module obeys its orders, by the plan, a steady plan or a schedule by hand. COUNT random
@@ -14,13 +14,13 @@
     faults    the cable loses a byte, has one too many, or falls silent, at 20 places each; tables are of another schedule, slots are
               exchanged, a module is missing or dies in each setting, a second host comes, or what comes is wrong: the host says so and ends, and
               says `driven` in none
+    misuse    what the programs of the examples say of wrong words, of files, modules and programs that are missing, and of what isn't theirs
     ends      a cable may be a terminal; a switch alone and a module alone are handed words in parts, and the switch words that come before it
               has settled; the two loops of the relay carry the bytes of `drive` and `c004`; a cable that ends ends the host; one that is told
               to end leaves nothing; and where a host is killed the next one goes on
 
 Each has a folder of its own, and as many run at once as there are processors. What isn't built yet is proved and built first, and all is
-installed in a folder for the while. Another one is tried where RACK names it. With --stop the first that is wrong ends all. With WORD only
-those run that have it in their names.
+installed in a folder for the while. Another one is tried where RACK names it. With WORD only those run that have it in their names.
 """
 
 import contextlib
@@ -178,15 +178,13 @@ SILENT = {
 # The least number of tries, so that an empty list is seen.
 LEAST = 165
 
-wrong, started, stops = [], [], "--stop" in sys.argv
+wrong, started = [], []
 
 
 def expect(what, well, told=""):
     if not well:
         wrong.append(what)
         print(f"rack: WRONG: {what}\n{told}", file=sys.stderr, flush=True)
-        if stops:
-            stop()
 
 
 def stop(*_):
@@ -570,20 +568,21 @@ def finds_the_program(room):
     is_moved(room, *CASES[0][1:])
 
 
-def is_ended(room):
-    """Notes whether a rack, and a host, that are told to end leave no folder and no process."""
+def is_ended(room, by):
+    """Notes whether a rack, and a host, that a signal ends leave no folder and no process."""
     room.write(*CASES[0][1:])
     room.pipes("cable")
     run, paused = room.rack("--cable", "cable", stderr=subprocess.PIPE), room.host("--pause", **PAUSED)
     numbers = re.findall(r" (\d+)[,\n]", run.stderr.readline().decode())
     told, made = paused.stdout.readline(), folders(room)
+    numbers += Path(f"/proc/{paused.pid}/task/{paused.pid}/children").read_text().split()
     for it in run, paused:
-        it.terminate()
+        it.send_signal(by)
     texts = [it.communicate(timeout=LIMIT)[0] for it in (run, paused)]
     # This one takes over the processes whose own are gone, and waits for none of these. So what wasn't waited for is still there.
     left = [number for number in numbers if os.path.exists(f"/proc/{number}")]
     found = told, len(made), folders(room), [run.returncode, paused.returncode], len(numbers), left
-    room.expect(found == (b"setting 0 0 2\n", 2, set(), [128 + signal.SIGTERM] * 2, 5, []), f"{found} {texts}")
+    room.expect(found == (b"setting 0 0 2\n", 2, set(), [128 + by] * 2, 6, []), f"{found} {texts}")
 
 
 def folders(room):
@@ -628,6 +627,32 @@ def host_says(room, said, cable, *words):
     run = room.host(*words, cable=cable)
     told = room.end(run)
     room.expect(run.returncode == 1 and told.endswith(said), told)
+
+
+def hears(room, said, replies, *words):
+    """Notes whether a host ends that hears these of a board, each once so many bytes have come, and says this."""
+    room.write("1x1x1", "batch 1\npush 0 0 0 0\n", [])
+    room.pipes("cable")
+    held = os.open(room.at("cable.out"), os.O_RDWR)
+    run = room.host(*words)
+    there = os.open(room.at("cable.in"), os.O_RDONLY)
+
+    def reply():
+        for count, numbers in replies:
+            take(there, count)
+            os.write(held, b"".join(bytes([host.MODULES, byte]) for byte in numbers))
+
+    threading.Thread(target=reply, daemon=True).start()
+    told = room.end(run)
+    room.expect(run.returncode == 1 and told.endswith(said), told)
+
+
+def says(room, status, said, *words):
+    """Notes whether a program ends with a status, and says this at its end."""
+    room.write("2x1x1", read("swap.txt"), [])
+    run = subprocess.run(words, stdin=subprocess.DEVNULL, stdout=subprocess.PIPE, stderr=subprocess.STDOUT, cwd=room.path, env=room.env, check=False)
+    told = run.stdout.decode()
+    room.expect(run.returncode == status and told.endswith(said), f"status {run.returncode}\n{told}")
 
 
 def compares(room, said, case, changes, tables=None, options=None, batch=None):
@@ -798,6 +823,34 @@ def hosts():
     yield host_says, "no cable", "host.py: [Errno 2] No such file or directory: 'missing'\n", "missing"
 
 
+def boards_that_say_too_much():
+    """Bytes without end, too many modules, and a board that can't set its switches by tables."""
+    waits, own = (4, host.sent(host.WAIT)), host.orders_sum([], [[(0, "send block", 0), (3, "receive block", 0)]])
+    modules = [own, 1, 1] + [host.orders_sum([], [[]]), 1, 1] * 16
+    yield hears, "bytes come without end", "host.py: bytes come without end, and awaited was -2 from the modules, which all of them pass on\n", [(4, bytes(140_000))]
+    yield hears, "more than 32 modules", "host.py: more than 32 modules answer\n", [waits, (4, host.sent(*modules[:3] * 33))]
+    yield hears, "tables, and two switches", "host.py: --tables is for a board with one switch\n", [waits, (4, host.sent(*modules, host.TABLES))], "--tables"
+
+
+def misused():
+    """Programs of the examples that are handed wrong words or texts, or lack what they need."""
+    python, made_of = sys.executable, f"""\"$EXCHANGE\" {{}} | {sys.executable} '{EXAMPLES}/{{}}.py'"""
+    yield says, "misuse: a relay", 1, "usage: relay.py CABLE CONFIG [CONFIG_B] [CHAIN]\n", python, RELAY, "--help", "config"
+    yield says, "misuse: a host without a program", 1, "host.py: there is no program /none\n", "env", "EXCHANGE=/none", python, HOST, "cable", "batch"
+    yield says, "misuse: a host's option", 2, "--pause: host.py takes these, and with --cable you start it\n", \
+        python, RACK, "2x1x1", "batch", "--cable", "cable", "--pause"
+    yield says, "misuse: no batch", 1, "rack.py: [Errno 2] No such file or directory: 'missing'\n", python, RACK, "2x1x1", "missing"
+    yield says, "misuse: no module exchange", 1, "./exchange install PREFIX puts it there, and docs/BOARD.md says how\n", python, "-IS", RACK, "2x1x1", "batch"
+    yield says, "misuse: no orders", 1, "wanted is what `exchange orders BATCH` prints\n", python, f"{EXAMPLES}/orders_to_c.py"
+    yield says, "misuse: orders of two modules", 1, "wanted are the orders of one module: exchange orders BATCH --module M\n", \
+        "sh", "-c", made_of.format("orders batch", "orders_to_occam")
+    yield says, "misuse: bytes of two switches", 1, "wanted are the bytes of one switch: exchange switch BATCH\n", \
+        "sh", "-c", made_of.format("switch batch --switches 2", "switch_to_c")
+    yield says, "misuse: no program to drive", 1, "there is no program /none\n", python, f"{EXAMPLES}/emulator/links.py", "/none"
+    yield says, "misuse: no pipes", 1, "its first lines say how to make them and start the host\n", python, f"{EXAMPLES}/all-reduce.py"
+    yield says, "misuse: patterns", 2, "make.sh: one word at most, --check\n", f"{EXAMPLES}/patterns/make.sh", "check"
+
+
 def alone():
     """Racks that are refused or told to end, and a switch, a module, a relay and a host alone."""
     yield refuses, "two transfers that write one block", "refused overlap 0 1", "exchange: batch:3: ", "3x1x1", "batch 2\npush 0 0 1 0\npush 2 0 1 0\n", []
@@ -817,15 +870,16 @@ def alone():
     yield relay_ends, "a relay whose chain has ended", b"\1\0\1\0", 3, "relay.py: a link has ended\n"
     yield relay_ends, "a relay that is sent another way", b"\2\0", 1, "relay.py: the cable has lost a byte, or has one too many: 2 is no way\n"
     yield ends, "a cable that ends"
-    yield is_ended, "a rack that is told to end, and its host"
+    yield is_ended, "a rack that is told to end, and its host", signal.SIGTERM
+    yield is_ended, "a rack that is interrupted, and its host", signal.SIGINT
     yield finds_the_program, "the program, where nothing says where it is"
     yield says_what_differs, "a host of another wiring"
 
 
 def tries(count, totals):
     """What is tried: a function, a name, and what the function is given."""
-    yield from alone()
-    yield from hosts()
+    for some in misused, boards_that_say_too_much, alone, hosts:
+        yield from some()
     for case in CASES:
         yield is_moved, *case
     yield is_moved_over_a_pty, "a terminal", *CASES[1][1:]
@@ -869,9 +923,11 @@ def try_all(installed, count, word):
 
 
 def main():
-    words = [word for word in sys.argv[1:] if word != "--stop"]
+    words = sys.argv[1:]
     count = int(words.pop(0)) if words and words[0].isdecimal() else 20
     signal.signal(signal.SIGTERM, stop)
+    # Where nobody interrupts this one, what it starts may be interrupted all the same.
+    signal.signal(signal.SIGINT, signal.default_int_handler)
     # Processes whose own are gone become this one's.
     ctypes.CDLL(None).prctl(36, 1)
     with tempfile.TemporaryDirectory(prefix="racks-") as path:
