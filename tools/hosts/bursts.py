@@ -6,13 +6,14 @@ record a second time, and each case is judged by both. Before a byte of a reply 
 `--sync` a sync has ended behind them. What comes before a plan, a run, or a batch that isn't all there is told before that is done, and a refusal
 before what follows it. Where a write or a sync of the record fails once, and would work then, nothing of that group is told, and nothing more is
 written there; a host that resumes goes on. In bursts of 64 lines an entry takes at most MOST writes, and as many syncs. Where sixteen clients hear
-each reply before they say the next line, and a sync takes its time, an entry takes at most MOST_BY_TURNS syncs; and where each says one line, all
-who wait for the last sync are woken.
+each reply before they say the next line, and a sync takes its time, an entry takes at most MOST_BY_TURNS syncs, and MOST_SWITCHES from one thread
+to another; and where each says one line, all who wait for the last sync are woken.
 """
 
 import errno
 import os
 import random
+import resource
 import select
 import subprocess
 import sys
@@ -23,11 +24,18 @@ from kept import Record, Wrong, calls_of, end_of, judge_client
 from moments import EXCHANGE, LIMIT, read, resume, shown, try_all
 
 MOST = 0.05
-MOST_BY_TURNS = 0.15
+MOST_BY_TURNS = 0.08
+MOST_SWITCHES = 3
 SHAPE = (2, 2, 1)
 
 # A call of the system: whether it begins or ends, what it does, with which file, and how many bytes it has; less than 0 where it failed.
 Call = namedtuple("Call", "when what name count")
+
+
+def switches():
+    """How often all hosts that have ended were switched from one thread to another."""
+    used = resource.getrusage(resource.RUSAGE_CHILDREN)
+    return used.ru_nvcsw + used.ru_nivcsw
 
 
 class Client:
@@ -68,7 +76,7 @@ class Day:
     """A host of clients who said these texts, which has ended: its folder, what it printed, and the calls that were noted."""
 
     def __init__(self, room, texts, *options, **calls):
-        self.room, self.texts, self.syncs = room, texts, "--sync" in options
+        self.room, self.texts, self.syncs, before = room, texts, "--sync" in options, switches()
         self.clients = [Client(f"{room}/c{k}", its) for k, its in enumerate(texts)]
         words = [EXCHANGE, "host", shown(SHAPE), *(client.name for client in self.clients), "--record", f"{room}/record", *options]
         env = {"LD_PRELOAD": os.path.abspath(sys.argv[1]), "CALLS_LOG": f"{room}/calls", **calls}
@@ -78,7 +86,7 @@ class Day:
             out, err = process.communicate(timeout=LIMIT)
         finally:
             process.kill()
-        self.out, self.err, self.status = out.decode(), err.decode(), process.returncode
+        self.out, self.err, self.status, self.switches = out.decode(), err.decode(), process.returncode, switches() - before
         with open(f"{room}/calls", encoding="utf-8") as file:
             parts = [line.split() for line in file]
         self.calls = [Call(when, what, name, int(count)) for when, what, name, count in parts if what in ("write", "sync")]
@@ -255,12 +263,13 @@ def try_turns():
     for slow in 20, 40, 80, 160:
         day = in_room(lambda room: Day(room, texts, "--sync", CALLS_SLOW=f"{slow}000"))
         looked, entries, syncs = day.judge(), len(day.record.entries), day.on_record("sync")
-        print(f"bursts: 16 clients by turns, {entries} entries, {syncs / entries:.4f} syncs an entry", flush=True)
+        told = f"{syncs / entries:.4f} syncs and {day.switches / entries:.2f} switches an entry"
+        print(f"bursts: 16 clients by turns, {entries} entries, {told}", flush=True)
         if entries != 800:
             raise Wrong(f"{entries} entries")
-        if syncs <= MOST_BY_TURNS * entries:
+        if syncs <= MOST_BY_TURNS * entries and day.switches <= MOST_SWITCHES * entries:
             return looked
-    raise Wrong(f"{entries} entries, {syncs} syncs")
+    raise Wrong(f"{entries} entries, {told}")
 
 
 def try_last():

@@ -97,7 +97,7 @@ module _ (L : RattleType) (n : ExchangeName.Ghosts L.Denot) (h : HistoryName.Gho
     waiting_send =
         let T = Waiting.the_type L H E Q n h t e q l in
         recorded_send (Waiting.the_field L H E Q n h t e q l).row _ _ T.to_one
-        (struct_send (shape T) (search (crosses, sendable) depth 40, (search sendable depth 20, (search sendable depth 20, (search sendable depth 20, (search sendable depth 20, (search sendable depth 20, (search sendable depth 20, (search sendable depth 20, (search sendable depth 20, (search (crosses, sendable) depth 40, (total.the_send L l, (keeper_send, (search (crosses, sendable) depth 20, tt))))))))))))))
+        (struct_send (shape T) (search (crosses, sendable) depth 40, (search sendable depth 20, (search sendable depth 20, (search sendable depth 20, (search sendable depth 20, (search sendable depth 20, (search sendable depth 20, (search sendable depth 20, (search sendable depth 20, (search sendable depth 20, (search sendable depth 20, (search (crosses, sendable) depth 40, (total.the_send L l, (keeper_send, (search (crosses, sendable) depth 20, tt))))))))))))))))
 
     record_send : IsSend Q → IsSend (RecordSide.the_row L H E Q n l h t e q)
     record_send s =

@@ -133,6 +133,8 @@ fn close_each<L: ExchangeName, P: ConfigPort, W: WireMaker, G, H: History>(
         count: _,
         front: _,
         gathers: _,
+        due: _,
+        nap: _,
         writes: _,
         round: _,
         taken_over: _,

@@ -240,6 +240,8 @@ fn part<L: ExchangeName, P: ConfigPort, W: WireMaker, G, H: History>(
             count: 0,
             front: 0,
             gathers,
+            due: 0,
+            nap: 0,
             writes: false,
             round: 0,
             taken_over: 0,

@@ -20,13 +20,14 @@ use crate::waiting::Waiting;
 use crate::waiting_entries::WaitingEntries;
 use own_lists::OwnList;
 use std::sync::{Condvar, Mutex, MutexGuard, Wait};
-use std::thread::yield_now;
+use std::thread::{sleep, yield_now};
+use std::time::{Clock, Duration, Instant};
 
 /// How often a seat lets other threads run while more entries come, before it writes, or while
 /// another writes, before it sleeps: where none waits for the disk a writing is done sooner than who
 /// sleeps is woken.
 const TURNS: usize = 8;
-/// How often it looks where who writes waits for more entries.
+/// How often it looks where who writes waits for more entries: not at all where that takes long.
 const LOOKS: usize = 2;
 
 /// The recorder, all that were taken over, the list of what was noted of these, and a spare buffer.
@@ -110,7 +111,7 @@ impl<L: ExchangeName, H: History> RecordSide<L, H> {
 ///
 /// Each writing wakes all whose entries it wrote, and one of those who wait for the next one, which
 /// then writes. So who sleeps does so at `odd` or `even`, by the number of its entry's writing.
-pub fn settle<L: ExchangeName, H: History, R: Wait>(
+pub fn settle<L: ExchangeName, H: History, R: Wait + Clock>(
     rt: &R,
     waiting: &Mutex<Waiting<L, H>>,
     odd: &Condvar,
@@ -131,10 +132,12 @@ pub fn settle<L: ExchangeName, H: History, R: Wait>(
     let writes = side.begin(last);
     let mut is_odd = false;
     if writes {
+        let (gathers, front) = (side.gathers, side.front);
         gather(rt, waiting, side);
+        let began = if gathers { Instant::now(rt).ok() } else { None };
         record.lock(rt).flush(rt, waiting);
         side = waiting.lock(rt);
-        side.end();
+        side.end(front, micros_since(rt, began));
         is_odd = side.round % 2 == 1;
     }
     let wakes_all = side.wakes_all();
@@ -153,18 +156,34 @@ pub fn settle<L: ExchangeName, H: History, R: Wait>(
     settled
 }
 
+// How many microseconds have passed, as far as the clock can be read.
+fn micros_since<R: Clock>(rt: &R, began: Option<Instant>) -> u64 {
+    match began.map(|began| began.elapsed(rt)) {
+        Some(Ok(passed)) => u64::try_from(passed.as_micros()).unwrap_or(u64::MAX),
+        _ => 0,
+    }
+}
+
 // Lets other threads run while entries come, so that more are written at once, where that is worth
-// it.
-fn gather<L: ExchangeName, H: History, R: Wait>(
+// it: until as many have come as may soon do. Where a writing takes long it naps meanwhile.
+fn gather<L: ExchangeName, H: History, R: Wait + Clock>(
     rt: &R,
     waiting: &Mutex<Waiting<L, H>>,
     side: MutexGuard<Waiting<L, H>>,
 ) {
     let turns = if side.gathers { TURNS } else { 0 };
-    let mut count = side.count;
+    let nap = Duration::from_micros(side.nap);
+    let (mut count, due) = (side.count, side.due);
     drop(side);
     for _ in 0..turns {
-        yield_now();
+        if due <= count {
+            break;
+        }
+        if nap.is_zero() {
+            yield_now();
+        } else {
+            sleep(rt, nap);
+        }
         let now = waiting.lock(rt).count;
         if now == count {
             break;
@@ -182,7 +201,11 @@ fn reached<'b, L: ExchangeName, H: History, R: Wait>(
     place: u64,
 ) -> MutexGuard<'b, Waiting<L, H>> {
     let mut side = waiting.lock(rt);
-    let looks = if side.gathers { LOOKS } else { TURNS };
+    let looks = match (side.gathers, side.nap) {
+        (false, _) => TURNS,
+        (true, 0) => LOOKS,
+        (true, _) => 0,
+    };
     for _ in 0..looks {
         if !side.has_to_sleep(place) {
             return side;

@@ -28,6 +28,7 @@ use std::marker::Model;
 use std::sync::{Condvar, Mutex, MutexGuard, Wait};
 use std::thread;
 use std::thread::Threads;
+use std::time::Clock;
 
 /// How often a call looks in a row whether the lock is free. That takes some microseconds, in which
 /// most calls of others are done.
@@ -217,7 +218,7 @@ impl<L: ExchangeName, P: ConfigPort, W: WireMaker + Sync, G: Gate + Sync, H: His
     /// Where the history lends its recorder one seat writes at a time, and others make calls
     /// meanwhile, runs included. Who settles meanwhile sleeps until that one has written, unless all
     /// of its own entries stand.
-    pub fn settle<R: Wait>(&self, rt: &R, seat: &mut Seat<L>) -> Result<(), Unrecorded>
+    pub fn settle<R: Wait + Clock>(&self, rt: &R, seat: &mut Seat<L>) -> Result<(), Unrecorded>
         requires { seat.old.exchange ≡ Some self.now.word }
         ensures settled { IsSettled seat.old result seat.new }
         ensures loses { OnErr result (H.loses ≡ true) }

@@ -28,6 +28,11 @@ use std::snapshot::Snapshot;
 use std::sync::ledger;
 use std::sync::ledger::Share;
 
+/// From how many microseconds on a writing is slow, and the most that a nap takes.
+const SLOW: u64 = 1000;
+
+const LONGEST_NAP: u64 = 20_000;
+
 /// Where entries wait, under a lock of its own that is held for a moment only: the text of those
 /// that were handed on and weren't taken over yet, how many were handed on, the ledger's total, and
 /// the keeper of the lists.
@@ -41,8 +46,11 @@ pub struct Waiting<L: ExchangeName, H: History> {
     pub count: u64,
     // Up to which place all entries stand where they belong.
     pub front: u64,
-    // Whether who writes waits for more entries first.
+    // Whether who writes waits for more entries first, up to which place some may soon come, and how
+    // many microseconds it naps meanwhile: none where a writing is quick.
     pub gathers: bool,
+    pub due: u64,
+    pub nap: u64,
     // Whether a seat writes.
     pub writes: bool,
     // How many writings were begun, and up to which place entries went with them.
@@ -104,9 +112,16 @@ impl<L: ExchangeName, H: History> Waiting<L, H> {
         true
     }
 
-    /// A seat has written.
-    pub fn end(&mut self) {
+    /// A seat has written, in so many microseconds, since all entries up to this place stood. Each
+    /// whose entry was written may soon ask again.
+    pub fn end(&mut self, before: u64, micros: u64) {
         self.writes = false;
+        self.due = self.count.saturating_add(self.front.saturating_sub(before));
+        self.nap = if micros < SLOW {
+            0
+        } else {
+            (micros / 8).min(LONGEST_NAP)
+        };
     }
 
     /// Notes a call whose entry has this place, and takes in what the book's side hands on. Where

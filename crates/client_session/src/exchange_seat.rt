@@ -11,6 +11,7 @@ use batch_book::{Call, History, Reading, Reply, Seat, Shared, Unrecorded};
 use std::marker::Model;
 use std::sync::Wait;
 use std::thread::Threads;
+use std::time::Clock;
 
 /// A seat beside the exchange that it belongs to. Contracts see the seat as its session does.
 #[derive(Drop)]
@@ -85,7 +86,7 @@ impl<'a, X: Setup> ExchangeSeat<'a, X> {
 
     /// Sees to it that all which the session has asked can be told. The fault is that the record is
     /// broken.
-    pub fn settle<R: Wait>(&mut self, rt: &R) -> Result<(), ServeFault>
+    pub fn settle<R: Wait + Clock>(&mut self, rt: &R) -> Result<(), ServeFault>
         ensures ok { OnOk result (self.new ≡ record self.old { log = self.old.asked }) }
         ensures fault { IfErr result (λ fault. fault ≡ Record) }
         ensures err { OnErr result (self.new ≡ record self.old { broken = true }) }

@@ -34,6 +34,7 @@ use std::alloc::Global;
 use std::io::Write;
 use std::sync::Wait;
 use std::thread::Threads;
+use std::time::Clock;
 
 /// Writes the bytes, where there are any.
 fn send<O: Write>(writer: &mut O, bytes: &[u8]) -> Result<(), ServeFault>
@@ -63,7 +64,7 @@ fn tell_refusal<H: Listener>(listener: &mut H, refusal: Option<Refusal>)
 
 /// Sees to it that all which the session has asked can be told, and then writes the lines that are
 /// held, together. The listener hears of the refusal that the last line says.
-fn tell<R: Wait, X: Setup, O: Write, H: Listener>(
+fn tell<R: Wait + Clock, X: Setup, O: Write, H: Listener>(
     rt: &R,
     seat: &mut ExchangeSeat<'_, X>,
     writer: &mut O,
@@ -112,7 +113,7 @@ fn quick_line(input: &Input) -> Option<usize>
 
 /// Tells what is held, where no more is to be held before the next command. Else it gives the
 /// length of that one's line.
-fn tell_first<R: Wait, X: Setup, O: Write, H: Listener>(
+fn tell_first<R: Wait + Clock, X: Setup, O: Write, H: Listener>(
     rt: &R,
     seat: &mut ExchangeSeat<'_, X>,
     input: &Input,
@@ -140,7 +141,7 @@ fn tell_first<R: Wait, X: Setup, O: Write, H: Listener>(
 }
 
 /// Serves the session of a seat at its exchange, but for its last reply lines, which are held.
-fn serve_lines<R: Threads + Wait + Sync, X: Setup, I: AskedReader, O: Write, H: Listener>(
+fn serve_lines<R: Clock + Threads + Wait + Sync, X: Setup, I: AskedReader, O: Write, H: Listener>(
     rt: &R,
     alloc: Global,
     seat: &mut ExchangeSeat<'_, X>,
@@ -187,7 +188,7 @@ fn is_cut_off(ended: &Result<(), ServeFault>) -> bool
 }
 
 /// Serves the session of a seat at its exchange.
-fn serve_seat<R: Threads + Wait + Sync, X: Setup, I: AskedReader, O: Write, H: Listener>(
+fn serve_seat<R: Clock + Threads + Wait + Sync, X: Setup, I: AskedReader, O: Write, H: Listener>(
     rt: &R,
     alloc: Global,
     seat: &mut ExchangeSeat<'_, X>,
@@ -237,7 +238,7 @@ fn serve_seat<R: Threads + Wait + Sync, X: Setup, I: AskedReader, O: Write, H: L
 ///
 /// A command takes time by its lines and by its call, whatever the session has said before it.
 pub fn serve<
-    R: Threads + Wait + Sync,
+    R: Clock + Threads + Wait + Sync,
     L: ExchangeName,
     P: ConfigPort,
     W: WireMaker + Sync,

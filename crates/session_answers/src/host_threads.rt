@@ -22,6 +22,7 @@ use std::snapshot::Snapshot;
 use std::sync::{OnceLock, OnceToken, Wait};
 use std::thread;
 use std::thread::{Promise, PromisedHandle, Scope, Threads};
+use std::time::Clock;
 use std::vec::IntoIter;
 
 /// Whether all threads are there, and what shows it. It is decided once.
@@ -104,7 +105,7 @@ fn begins<'a>(latch: &'a Latch, decided: &OnceToken<'a, Option<AllThere>>, clien
 }
 
 /// Serves the client of a seat, once it has opened its files.
-fn host_client<L: ExchangeName, R: Threads + Wait + Sync, D: ClientStreams, K: History>(
+fn host_client<L: ExchangeName, R: Clock + Threads + Wait + Sync, D: ClientStreams, K: History>(
     context: &HostContext<'_, L, R, D, K>,
     there: AllThere,
     seat: Seat<L>,
@@ -133,10 +134,13 @@ fn host_client<L: ExchangeName, R: Threads + Wait + Sync, D: ClientStreams, K: H
 
 /// Waits until it is decided whether all threads are there. Serves the client of a seat where they
 /// are, or leaves its files closed where they aren't.
-fn wait_and_host<'a, L: ExchangeName, R: Threads + Wait + Sync, D: ClientStreams, K: History>(
-    context: &HostContext<'a, L, R, D, K>,
-    seat: Seat<L>,
-) -> Returned<'a, L, D::Receipt>
+fn wait_and_host<
+    'a,
+    L: ExchangeName,
+    R: Clock + Threads + Wait + Sync,
+    D: ClientStreams,
+    K: History,
+>(context: &HostContext<'a, L, R, D, K>, seat: Seat<L>) -> Returned<'a, L, D::Receipt>
     requires seat { IsFresh context.now.exchange.now seat }
     ensures { IsReturned K.loses context.now.exchange.now (D.known context.now.streams.now)
         D.received context.now.latch.now.id seat result }
@@ -168,7 +172,7 @@ fn start<
     's,
     E,
     L: ExchangeName + Send + Sync,
-    R: Threads + Wait + Sync,
+    R: Clock + Threads + Wait + Sync,
     D: ClientStreams,
     K: History + Send,
 >(
@@ -203,7 +207,7 @@ fn start_rest<
     's,
     E,
     L: ExchangeName + Send + Sync,
-    R: Threads + Wait + Sync,
+    R: Clock + Threads + Wait + Sync,
     D: ClientStreams,
     K: History + Send,
 >(
@@ -233,7 +237,7 @@ fn start_all<
     's,
     E,
     L: ExchangeName + Send + Sync,
-    R: Threads + Wait + Sync,
+    R: Clock + Threads + Wait + Sync,
     D: ClientStreams,
     K: History + Send,
 >(
@@ -253,7 +257,7 @@ fn start_all<
 
 /// What comes back from a seat's thread, once it has ended: its session, where this is what was
 /// decided.
-fn join<'s, L: ExchangeName, R: Threads + Wait + Sync, D: ClientStreams, K: History>(
+fn join<'s, L: ExchangeName, R: Clock + Threads + Wait + Sync, D: ClientStreams, K: History>(
     context: &'s HostContext<'s, L, R, D, K>,
     started: SeatThread<'s, L, D, K>,
     decided: &OnceToken<'s, Option<AllThere>>,
@@ -283,7 +287,7 @@ fn join<'s, L: ExchangeName, R: Threads + Wait + Sync, D: ClientStreams, K: Hist
 }
 
 /// What comes back from the threads of seats, once all have ended, where there is room for it.
-fn join_all<'s, L: ExchangeName, R: Threads + Wait + Sync, D: ClientStreams, K: History>(
+fn join_all<'s, L: ExchangeName, R: Clock + Threads + Wait + Sync, D: ClientStreams, K: History>(
     context: &'s HostContext<'s, L, R, D, K>,
     threads: Vec<SeatThread<'s, L, D, K>>,
     decided: &OnceToken<'s, Option<AllThere>>,
@@ -320,7 +324,7 @@ fn host_all<
     's,
     E,
     L: ExchangeName + Send + Sync,
-    R: Threads + Wait + Sync,
+    R: Clock + Threads + Wait + Sync,
     D: ClientStreams,
     K: History + Send,
 >(
@@ -356,7 +360,7 @@ fn host_all<
 pub fn host_seats<
     'a,
     L: ExchangeName + Send + Sync,
-    R: Threads + Wait + Sync,
+    R: Clock + Threads + Wait + Sync,
     D: ClientStreams,
     K: History + Send,
 >(

@@ -24,6 +24,7 @@ use std::alloc::{AllocError, Global};
 use std::marker::Brand;
 use std::sync::Wait;
 use std::thread::Threads;
+use std::time::Clock;
 
 /// What is left of a host.
 #[derive(Drop)]
@@ -148,7 +149,7 @@ fn room_for_endings<L: ExchangeName, C: Drop>(
 fn host<
     L: ExchangeName + Send + Sync,
     K: History + Send,
-    R: Threads + Wait + Sync,
+    R: Clock + Threads + Wait + Sync,
     D: ClientStreams,
 >(
     rt: &R,
@@ -207,7 +208,7 @@ fn host<
 ///
 /// Where a thread can't be had, or there is no memory, no file is opened, and the book comes back
 /// as sessions leave it that asked nothing. Nothing fails for want of memory behind the sessions.
-pub fn host_on<K: History + Send, R: Threads + Wait + Sync, D: ClientStreams>(
+pub fn host_on<K: History + Send, R: Clock + Threads + Wait + Sync, D: ClientStreams>(
     rt: &R,
     alloc: Global,
     book: Book<K>,

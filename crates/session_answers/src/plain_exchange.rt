@@ -30,6 +30,7 @@ use std::alloc::Global;
 use std::io::{Read, Write};
 use std::sync::Wait;
 use std::thread::Threads;
+use std::time::Clock;
 
 /// An exchange whose port and wires never fail.
 pub type PlainExchange<L, K = Kept> = Shared<L, MemoryPort, PlainWires, OpenGate, K>;
@@ -70,7 +71,7 @@ pub fn open_exchange<L: ExchangeName, K: History>(
 pub fn serve_client<
     L: ExchangeName,
     K: History,
-    R: Threads + Wait + Sync,
+    R: Clock + Threads + Wait + Sync,
     I: Read,
     O: Write,
     H: Listener,

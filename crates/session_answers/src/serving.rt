@@ -27,6 +27,7 @@ use std::marker::Brand;
 use std::sync::Wait;
 use std::thread;
 use std::thread::Threads;
+use std::time::Clock;
 
 /// What is left of scripts, once all have been served.
 #[derive(Drop)]
@@ -51,7 +52,7 @@ impl Served {
 }
 
 /// Serves the script at the place of the seat's session, to the session's end.
-fn serve_script<L: ExchangeName, R: Threads + Wait + Sync>(
+fn serve_script<L: ExchangeName, R: Clock + Threads + Wait + Sync>(
     rt: &R,
     alloc: Global,
     exchange: &PlainExchange<L>,
@@ -81,7 +82,7 @@ fn serve_script<L: ExchangeName, R: Threads + Wait + Sync>(
 
 /// Serves the scripts side by side, one thread for each where it can be had. The sessions come in
 /// the order of the scripts.
-fn serve_all<L: ExchangeName + Send + Sync, R: Threads + Wait + Sync>(
+fn serve_all<L: ExchangeName + Send + Sync, R: Clock + Threads + Wait + Sync>(
     rt: &R,
     alloc: Global,
     exchange: &PlainExchange<L>,
@@ -117,7 +118,7 @@ fn seats_of<L: ExchangeName>(
 }
 
 /// What is left of the scripts' sessions on one exchange over this book, which is new.
-fn serve_scripts<L: ExchangeName + Send + Sync, R: Threads + Wait + Sync>(
+fn serve_scripts<L: ExchangeName + Send + Sync, R: Clock + Threads + Wait + Sync>(
     rt: &R,
     alloc: Global,
     blank: ExchangeBlank,
@@ -154,7 +155,7 @@ fn serve_scripts<L: ExchangeName + Send + Sync, R: Threads + Wait + Sync>(
 /// `session I`, and then what the session was told; where a fault ended it, a line `ended ..` says
 /// so, and the status is [`REFUSED`](plan_answers::REFUSED). When all have ended the exchange is
 /// closed.
-pub fn answer_serve<R: Threads + Wait + Sync>(
+pub fn answer_serve<R: Clock + Threads + Wait + Sync>(
     rt: &R,
     alloc: Global,
     shape: &[u8],

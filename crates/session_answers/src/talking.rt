@@ -19,9 +19,17 @@ use std::io::{Read, Write};
 use std::marker::Brand;
 use std::sync::Wait;
 use std::thread::Threads;
+use std::time::Clock;
 
 /// What is left of the session of this reader and this writer, on an exchange over this book.
-fn talk<L: ExchangeName, K: History, R: Threads + Wait + Sync, I: Read, O: Write, H: Listener>(
+fn talk<
+    L: ExchangeName,
+    K: History,
+    R: Clock + Threads + Wait + Sync,
+    I: Read,
+    O: Write,
+    H: Listener,
+>(
     rt: &R,
     alloc: Global,
     blank: ExchangeBlank,
@@ -69,7 +77,7 @@ fn talk<L: ExchangeName, K: History, R: Threads + Wait + Sync, I: Read, O: Write
 /// ended it a line `ended ..` says so, under the status [`REFUSED`](plan_answers::REFUSED). Want of
 /// memory comes before the session alone: then nothing is read or told, and the book comes back as
 /// it was.
-pub fn talk_on<K: History, R: Threads + Wait + Sync, I: Read, O: Write, H: Listener>(
+pub fn talk_on<K: History, R: Clock + Threads + Wait + Sync, I: Read, O: Write, H: Listener>(
     rt: &R,
     alloc: Global,
     book: Book<K>,
