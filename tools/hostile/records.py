@@ -24,8 +24,8 @@ SUBMITTED = re.compile(NUMBER + rb" batch " + NUMBER + rb"\n")
 # What is wanted in the first line, and in that of a call, as the line on standard error says it.
 ENDED = f"{notes.RULES}, a line feed at its end"
 HEAD_WANTED = (
-    '"record-2 MxKxW SUM N", where MxKxW is its shape, SUM the sum of its image, of eight digits, and N counts the lines "client NAME" after it, '
-    'and then "=SUM", the sum of these lines'
+    '"record-2 MxKxW SUM N", where MxKxW is its shape, SUM the sum of its image, of eight digits, and N, at most 16, counts the lines '
+    '"client NAME" after it, and then "=SUM", the sum of these lines'
 )
 CALL_WANTED = (
     '"S CALL", where S is the number of a session, below the number of clients if the head names any, CALL is "batch N" and the batch\'s '
@@ -175,7 +175,7 @@ def lines_at(text, at, number):
     if feed < 0 and LINED.fullmatch(text, at):
         return None
     if feed < 0 or text[mark : feed + 1] != sum_line(number, text[at:mark]):
-        wanted = f"entry {number} or the end, with the sum of that number and of its lines after it: something was changed, left out or added"
+        wanted = f"the start of entry {number}, or of the end, with a right sum: a byte was changed, or lines were left out, added or moved"
         raise Misrecorded(f"sum {number}", text, at, wanted)
     return text[at:mark], feed + 1
 
@@ -202,13 +202,14 @@ def head_in(text):
         raise Misrecorded("head", text, 0, HEAD_WANTED)
     names = []
     for _ in range(int(found[5])):
-        line, at = plain.line_at(text, at)
+        line, end = plain.line_at(text, at)
         client = line is not None and CLIENT.fullmatch(line)
         if not client or client[1] in names:
-            raise Misrecorded("head", text, 0, HEAD_WANTED)
+            raise Misrecorded("head", text, at, '"client NAME", where NAME isn\'t empty and no client above has it')
         names.append(client[1])
+        at = end
     if not text.startswith(sum_line(0, text[:at]), at):
-        raise Misrecorded("head", text, 0, HEAD_WANTED)
+        raise Misrecorded("head", text, at, '"=SUM", the sum of the lines above it')
     return shape, names, at + len(sum_line(0, b""))
 
 
@@ -221,7 +222,7 @@ class Misrecorded(Refused):
         self.told = f"{notes.quoted(notes.line_of(text, self.line))} comes after the last line; nothing may follow"
         if wanted:
             self.told = notes.of_form(text, self.line, None, wanted)
-        if what == "head" and text:
+        if wanted is HEAD_WANTED and text:
             self.told = f"{notes.quoted(notes.line_of(text, 1))} doesn't begin a record of this rack; expected {wanted}"
 
 

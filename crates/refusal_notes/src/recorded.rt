@@ -1,11 +1,13 @@
 //! The line in which a record is wrong.
 
 use crate::line_note::LineNote;
-use crate::lines::{line_at, line_behind, number_at};
+use crate::lines::{line_at, line_behind, number_at, piece};
 use crate::quote::Quote;
 use crate::told::{Named, Note, Texts};
 use crate::wanted::Wanted;
 use batch::{Batch, BatchFault, Shape, number_before};
+use exchange_limits::MAX_SESSIONS;
+use line_words::{behind, hex8_and_rest};
 use refusals::Refusal;
 
 /// The line in which a record is wrong, where this is wanted.
@@ -19,13 +21,51 @@ pub(crate) fn line_wanting<'a>(texts: Texts<'a>, wanted: Wanted<'a>) -> LineNote
     }
 }
 
-/// That of a record that begins otherwise than is due: where a head is due, by the line of that.
-pub(crate) fn line_of_head<'a>(texts: Texts<'a>) -> LineNote<'a> {
-    let line = line_wanting(texts, Wanted::RecordHead);
-    if texts.due.is_empty() {
-        return line;
+/// How many clients the first line of a record names; none where the line is wrong.
+fn clients_in(text: &[u8]) -> Option<usize> {
+    let rest = behind(text, b"record-2 ")?;
+    let (modules, rest) = number_before(rest, b'x')?;
+    let (blocks, rest) = number_before(rest, b'x')?;
+    let (words, rest) = number_before(rest, b' ')?;
+    let (_, rest) = hex8_and_rest(rest)?;
+    let (clients, _) = number_before(rest, b'\n')?;
+    match Shape::new(modules, blocks, words) {
+        Ok(_) if clients <= MAX_SESSIONS => Some(clients),
+        _ => None,
     }
-    let due = Quote(line_at(texts.due, line.number));
+}
+
+/// Whether the line of this number is that of a client whose name no client above has.
+fn is_client(text: &[u8], number: usize) -> bool {
+    let line = line_at(text, number);
+    matches!(behind(line, b"client "), Some([_, ..]))
+        && piece(text, b'\n', number).is_some()
+        && (2..number).all(|above| line_at(text, above) != line)
+}
+
+/// The number of the first wrong line of a head that isn't right, and what is wanted there.
+fn wrong_in_head(text: &[u8]) -> (usize, Wanted<'static>) {
+    let Some(clients) = clients_in(text) else {
+        return (1, Wanted::RecordHead);
+    };
+    let last = clients.saturating_add(2);
+    match (2..last).find(|number| !is_client(text, *number)) {
+        Some(number) => (number, Wanted::Client),
+        None => (last, Wanted::HeadSum),
+    }
+}
+
+/// The first wrong line of a record's head; where a head is due, that which differs from it.
+pub(crate) fn line_of_head<'a>(texts: Texts<'a>) -> LineNote<'a> {
+    let text = texts.recorded.text;
+    if texts.due.is_empty() {
+        let (number, wanted) = wrong_in_head(text);
+        return LineNote {
+            number,
+            ..line_wanting(texts, wanted)
+        };
+    }
+    let due = Quote(line_at(texts.due, line_behind(text, texts.offset)));
     line_wanting(texts, Wanted::HeadLine(texts.opening, due))
 }
 

@@ -8,13 +8,16 @@ use crate::told::Opening;
 use batch::MAX_MODULES;
 use c004_commands::PORTS;
 use crossbar::JOINED_MODULES;
+use exchange_limits::MAX_SESSIONS;
 use std::fmt::{self, Display, Formatter, Write};
 
 const _: () = prove!(MAX_MODULES == 32 && PORTS == 32 && JOINED_MODULES == 16);
 
+const _: () = prove!(MAX_SESSIONS == 16);
+
 /// The first line of a record, and what goes on behind it.
 const RECORD_HEAD: &str =
-    "\"record-2 MxKxW SUM N\", where MxKxW is its shape, SUM the sum of its image, of eight digits, and N counts the lines \"client NAME\" after it, and then \"=SUM\", the sum of these lines";
+    "\"record-2 MxKxW SUM N\", where MxKxW is its shape, SUM the sum of its image, of eight digits, and N, at most 16, counts the lines \"client NAME\" after it, and then \"=SUM\", the sum of these lines";
 
 /// The call of an entry of a record.
 const CALL: &str =
@@ -39,6 +42,10 @@ pub(crate) enum Wanted<'a> {
     End,
     /// The first line of a record.
     RecordHead,
+    /// The line of a client in the head of a record.
+    Client,
+    /// The line of the head's sum.
+    HeadSum,
     /// The line of the head of a record on this rack, which begins so.
     HeadLine(Opening, Quote<'a>),
     /// What follows in a record that has so many entries, with its sum.
@@ -86,6 +93,8 @@ impl<'a> Wanted<'a> {
                 "`batch N` and the batch's lines, `plan ID`, `run ID`, `show ID`, `drop ID`, `peek M A`, `poke M A D`, `progress` or `bye`",
             Wanted::End
             | Wanted::RecordHead
+            | Wanted::Client
+            | Wanted::HeadSum
             | Wanted::HeadLine(..)
             | Wanted::Sum(_)
             | Wanted::Call(_)
@@ -100,9 +109,12 @@ impl<'a> Display for Wanted<'a> {
     fn fmt<W: Write>(&self, f: &mut Formatter<W>) -> fmt::Result {
         match *self {
             Wanted::RecordHead => f.write_str(RECORD_HEAD),
+            Wanted::Client =>
+                f.write_str("\"client NAME\", where NAME isn't empty and no client above has it"),
+            Wanted::HeadSum => f.write_str("\"=SUM\", the sum of the lines above it"),
             Wanted::HeadLine(_, due) => due.fmt(f),
             Wanted::Sum(e) => write!(f,
-                "entry {e} or the end, with the sum of that number and of its lines after it: something was changed, left out or added"),
+                "the start of entry {e}, or of the end, with a right sum: a byte was changed, or lines were left out, added or moved"),
             Wanted::Call(e) =>
                 write!(f, "the call of entry {e}, {CALL}, {RULES}, a line feed at its end"),
             Wanted::Reply(e, due) => write!(f, "the reply of entry {e}, {due}"),
