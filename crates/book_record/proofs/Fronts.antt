@@ -1,5 +1,5 @@
 -- Fronts of the text of entries.
-use Rattle.std.proofs.Common.{◌≡◌, ◌≢◌, ℕ, suc, ◌+◌, List, [], ◌∷◌, ◌++◌, ◌⊎◌, inl, inr, length, map, drop, All, refl, sym, ap, ◌∙◌, append_assoc, subst, arith}
+use Rattle.std.proofs.Common.{◌≡◌, ◌≢◌, ℕ, suc, ◌+◌, List, [], ◌∷◌, ◌++◌, ◌⊎◌, inl, inr, length, drop, All, refl, sym, ap, ◌∙◌, append_assoc, subst, arith}
 use Rattle.std.proofs.lemmas.List.{append_cancel_left, length-append}
 use Rattle.std.proofs.lemmas.List.Elements.{All-head, All-nil, All-cons, All-tail}
 use Rattle.batch.specs.Text.{line_feed}
@@ -8,8 +8,8 @@ use Rattle.client_session.specs.Bytes.{HasNoFeed}
 use Rattle.line_words.specs.HexWords.{hex8}
 use Rattle.book_record.specs.RecordText.{entry_lines, entry_text, texts, CanTell}
 use Rattle.book_record.specs.Sums.{HasNoMark, sum_at, sum_mark, summed}
-use Rattle.book_record.specs.Fronts.{IsDamaged, IsLineByte, IsSummed, IsTorn, IsUnfinished, IsCutOff, BeginsFirst}
-use Rattle.book_record.specs.FrontLaws.{OneReading, EachFrontIsRead}
+use Rattle.book_record.specs.Fronts.{IsDamaged, IsLineByte, IsTorn, IsUnfinished, IsCutOff, BeginsFirst}
+use Rattle.book_record.specs.FrontLaws.{EachFrontIsRead}
 use Rattle.book_record.proofs.Feeds.{first_at, first_line, hex8_line, without_feed}
 use Rattle.book_record.proofs.Marks.{front_lined, told_lined, told_unmarked}
 
@@ -80,18 +80,6 @@ first_text n e es x = append_assoc (entry_text n e) (texts (suc n) es) x
 
 pub one_entry_text : (n : ℕ) (e f : Entry) (x y : List ℕ) → CanTell e → CanTell f → entry_text n e ++ x ≡ entry_text n f ++ y → (entry_lines e ≡ entry_lines f) × (x ≡ y)
 one_entry_text n e f x y p q same = one_summed n (entry_lines e) (entry_lines f) x y (told_unmarked e p) (told_unmarked f q) same
-
-both_read : (n : ℕ) (es fs : List Entry) (x y : List ℕ) → All CanTell es → All CanTell fs → IsUnfinished x → IsUnfinished y → texts n es ++ x ≡ texts n fs ++ y → (map entry_lines es ≡ map entry_lines fs) × (x ≡ y)
-both_read n [] [] x y p q u v same = (refl, same)
-both_read n [] (f ∷ fs) x y p q u v same = absurd (never n (entry_lines f) (texts (suc n) fs ++ y) x (told_unmarked f (All-head CanTell f fs q)) (same ∙ first_text n f fs y) u)
-both_read n (e ∷ es) [] x y p q u v same = absurd (never n (entry_lines e) (texts (suc n) es ++ x) y (told_unmarked e (All-head CanTell e es p)) (sym same ∙ first_text n e es x) v)
-both_read n (e ∷ es) (f ∷ fs) x y p q u v same =
-    let one = one_entry_text n e f (texts (suc n) es ++ x) (texts (suc n) fs ++ y) (All-head CanTell e es p) (All-head CanTell f fs q) (sym (first_text n e es x) ∙ same ∙ first_text n f fs y) in
-    let rest = both_read (suc n) es fs x y (All-tail CanTell e es p) (All-tail CanTell f fs q) u v one.1 in
-    (ap (λ (t : List ℕ). t ∷ map entry_lines es) one.0 ∙ ap (λ (l : List (List ℕ)). entry_lines f ∷ l) rest.0, rest.1)
-
-pub one_reading : OneReading
-one_reading text es fs x y p q = both_read 0 es fs x y p.each q.each p.torn.0 q.torn.0 (sym p.front ∙ q.front)
 
 -- ---- each front
 

@@ -18,7 +18,6 @@ use Rattle.line_words.specs.HexWords.{IsWord, hex8, BeginsWithNoHex8}
 use Rattle.line_words.proofs.Numbers.{behind_word}
 use Rattle.book_record.proofs.CallTexts.{one_hex_front}
 use Rattle.book_record.specs.Heads.{AreClients, AreNames, BeginsWithNoClient, BeginsWithNoHead, BeginsWithNoNames, BeginsWithNoNumbers, BeginsWithNoRackLine, IsName, client_line, head_lines, head_of, letter_x, rack_line}
-use Rattle.book_record.specs.FrontLaws.{IsSameHead, OneHead}
 use Rattle.book_record.specs.Sums.{sum_at, sum_line}
 use Rattle.book_record.proofs.Feeds.{first_line}
 use Rattle.book_record.proofs.OneReading.{line_at}
@@ -284,6 +283,13 @@ head_form e s names x =
     let sum = sum_line (sum_at 0 (head_lines e s names)) in
     append_assoc (head_lines e s names) sum x ∙ append_assoc (rack_line e s (length names)) (flat_map client_line names) (sum ++ x)
 
+-- the same shape, sum and names, and one rest
+pub record IsSameHead (e f : Extent) (s t : ℕ) (ns ms : List (List ℕ)) (x y : List ℕ) : Type 0 where
+  pub shape : e ≡ f
+  pub sum : s ≡ t
+  pub names : ns ≡ ms
+  pub rest : x ≡ y
+
 -- after the names of a head stands its sum
 one_front : (e f : Extent) (s t : ℕ) (ns ms : List (List ℕ)) (rest y : List ℕ) → IsShape e → IsShape f → IsWord s → IsWord t → AreNames ns (length ns) → AreNames ms (length ms)
     → rack_line e s (length ns) ++ (flat_map client_line ns ++ rest) ≡ head_of f t ms ++ y → IsSameHead e f s t ns ms rest (sum_line (sum_at 0 (head_lines e s ns)) ++ y)
@@ -294,7 +300,9 @@ one_front e f s t ns ms rest y p q ws wt names others same =
     ap (λ (l : List (List ℕ)). head_lines f t l) (sym more.0) ∙ ap (λ (k : ℕ). head_lines f k ns) (sym line.sum) ∙ ap (λ (g : Extent). head_lines g s ns) (sym line.shape) in
     record { shape = line.shape; sum = line.sum; names = more.0; rest = more.1 ∙ ap (λ (l : List ℕ). sum_line (sum_at 0 l) ++ y) lines }
 
-pub one_head : OneHead
+-- a text has one head at most
+pub one_head : (e f : Extent) (s t : ℕ) (names others : List (List ℕ)) (x y : List ℕ) → IsShape e → IsShape f → IsWord s → IsWord t → AreNames names (length names) → AreNames others (length others)
+    → head_of e s names ++ x ≡ head_of f t others ++ y → IsSameHead e f s t names others x y
 one_head e f s t ns ms x y p q ws wt names others same =
     let sum = sum_line (sum_at 0 (head_lines e s ns)) in
     let one = one_front e f s t ns ms (sum ++ x) y p q ws wt names others (sym (head_form e s ns x) ∙ same) in

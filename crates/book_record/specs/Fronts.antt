@@ -1,4 +1,4 @@
--- A record that may have been cut off: whole entries, and a rest in which no sum stands.
+-- A record that may have been cut: whole entries, and a rest that has no sum.
 use Rattle.std.specs.Prelude.{◌≡◌, ◌≢◌, ◌⊎◌, ◌≤◌, ℕ, List, [], ◌∷◌, ◌++◌, ◌+◌, All, codes, length}
 use Rattle.batch.specs.Text.{number, space, line_feed}
 use Rattle.batch_book.specs.declared.entry.Entry.{Entry}
@@ -8,7 +8,7 @@ use Rattle.book_record.specs.declared.in_front.Front.{Front}
 use Rattle.book_record.specs.declared.in_front.Front.TheVariants as front
 use Rattle.book_record.specs.Sums.{HasNoMark, sum_mark, numbered, summed}
 
--- no line of a sum ends there, right or wrong
+-- it has no whole line of a sum, right or wrong
 abbrev pub IsUnfinished : List ℕ → Type 0
 IsUnfinished text =
     (body line rest : List ℕ) → HasNoMark body → HasNoFeed line
@@ -18,22 +18,16 @@ IsUnfinished text =
 abbrev pub IsLineByte : ℕ → Type 0
 IsLineByte b = (b ≡ line_feed) ⊎ ((space ≤ b) × (b ≤ 126))
 
--- torn off there: no line of a sum ends, and each byte is one that lines have
+-- torn off there: no line of a sum is whole, and each byte is one that lines have
 abbrev pub IsTorn : List ℕ → Type 0
 IsTorn text = IsUnfinished text × All IsLineByte text
 
--- these entries stand first, and then a rest that was torn off
-pub record IsReadAs (text : List ℕ) (es : List Entry) (rest : List ℕ) : Type 0 where
-  pub front : text ≡ texts 0 es ++ rest
-  pub each : All CanTell es
-  pub torn : IsTorn rest
-
--- after so many entries these lines stand first, and the line of their sum
+-- after n entries it begins with these lines and the line of their sum
 pub record IsSummed (n : ℕ) (text body rest : List ℕ) : Type 0 where
   pub none : HasNoMark body
   pub front : text ≡ summed n body ++ rest
 
--- after so many entries no lines stand first with their sum, nor was the text torn off there
+-- after n entries it begins with no lines and their sum, nor was it torn off there
 pub record IsDamaged (n : ℕ) (text : List ℕ) : Type 0 where
   pub unsummed : (body rest : List ℕ) → IsSummed n text body rest → ⊥
   pub whole : IsTorn text → ⊥
@@ -45,8 +39,8 @@ BeginsFirst n [] rest = rest ≡ []
 BeginsFirst n (e ∷ es) rest =
     (missing : List ℕ) × (missing ≢ []) × (entry_text n e ≡ rest ++ missing)
 
--- a front of the text of these entries, before which so many stand: the first of them are whole, and
--- the next one has begun
+-- a front of the text of these entries, which follow n others: the first of them are whole, and the
+-- next one has begun
 pub record IsCutOff (n : ℕ) (es : List Entry) (front : List ℕ) : Type 0 where
   pub whole : List Entry
   pub more : List Entry
@@ -57,7 +51,7 @@ pub record IsCutOff (n : ℕ) (es : List Entry) (front : List ℕ) : Type 0 wher
   pub torn : IsTorn rest
   pub begun : BeginsFirst (n + length whole) more rest
 
--- what stands in front of a text that so many entries stand before
+-- how a text begins that follows n entries
 abbrev pub StandsInFront : ℕ → List ℕ → Front → Type 0
 StandsInFront n text (front.Whole body rest) = IsSummed n text body.now rest.now
 StandsInFront n text front.Damaged = IsDamaged n text
@@ -65,7 +59,7 @@ StandsInFront n text front.Torn = IsTorn text
 
 -- ---- the end
 
--- `end E` and its sum: the last lines of a record whose sessions have all ended, with so many entries
+-- `end E` and its sum: the last lines of a record of n entries whose sessions have all ended
 abbrev pub end_line : ℕ → List ℕ
 end_line n = codes "end " ++ number (numbered n) line_feed
 

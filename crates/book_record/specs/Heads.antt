@@ -5,7 +5,7 @@ use Rattle.std.specs.List.{flat_map}
 use Rattle.batch.specs.Extent.{Extent, IsShape}
 use Rattle.batch.specs.Text.{IsNumber, number, space, line_feed}
 use Rattle.batch.specs.declared.limits.TheConstants.{MAX_DIGITS}
-use Rattle.batch_book.specs.History.{Account}
+use Rattle.batch_book.specs.declared.entry.Entry.{Entry}
 use Rattle.book_record.specs.RecordText.{texts}
 use Rattle.book_record.specs.Sums.{adler, summed}
 use Rattle.client_session.specs.Bytes.{HasNoFeed}
@@ -21,8 +21,8 @@ use Rattle.book_record.specs.Fronts.{last_lines}
 abbrev pub letter_x : ℕ
 letter_x = 120
 
--- `record-2 MxKxW SUM N`: the form, the shape of the rack, the sum of the image of its opening words,
--- and how many clients have names
+-- `record-2 MxKxW SUM N`: the form, the shape of the rack, the sum of the image of its opening
+-- words, and the number of clients that have names
 abbrev pub rack_line : Extent → ℕ → ℕ → List ℕ
 rack_line shape sum n =
     codes "record-2 "
@@ -45,15 +45,15 @@ head_of shape sum names = summed 0 (head_lines shape sum names)
 abbrev pub IsName : List ℕ → Type 0
 IsName name = (name ≢ []) × HasNoFeed name
 
--- so many clients have such names, of which no two are the same; they are 16 at most
+-- n clients have such names, of which no two are the same; they are 16 at most
 pub record AreNames (names : List (List ℕ)) (n : ℕ) : Type 0 where
   pub count : length names ≡ n
   pub few : n ≤ MAX_SESSIONS
   pub each : All IsName names
   pub apart : AllPairs (λ one other. one ≢ other) names
 
--- The number of each session of a record is below this, of whose clients so many have names: each
--- of them has a session, and nobody else. Where none has a name, it has nine digits at most.
+-- The number of each session is below this in a record with this many named clients: each of them
+-- has a session, and nobody else. Where none has a name, it has nine digits at most.
 abbrev pub session_limit : ℕ → ℕ
 session_limit zero = 10 ^ MAX_DIGITS
 session_limit (suc clients) = suc clients
@@ -80,7 +80,7 @@ BeginsWithNoRackLine text =
     (shape : Extent) (sum n : ℕ) (rest : List ℕ) → IsShape shape → IsWord sum → IsNumber n
     → text ≢ rack_line shape sum n ++ rest
 
--- the text begins with the lines of no so many clients
+-- the text doesn't begin with the lines of n clients
 abbrev pub BeginsWithNoNames : List ℕ → ℕ → Type 0
 BeginsWithNoNames text n =
     (names : List (List ℕ)) (rest : List ℕ) → AreNames names n
@@ -98,10 +98,13 @@ BeginsWithNoNumbers text =
     (m k w : ℕ) (rest : List ℕ) → IsNumber m → IsNumber k → IsNumber w
     → text ≢ number m letter_x ++ (number k letter_x ++ (number w space ++ rest))
 
--- ---- a whole record
+-- ---- a record
 
--- the record of a book whose sessions have all ended, and of whose clients none has a name
-abbrev pub whole_text : Account → List ℕ
-whole_text book =
-    head_of book.opening.shape (adler (image_of book.opening)) []
-    ++ (texts 0 book.history ++ last_lines (length book.history))
+-- the head, by clients of these names on a rack that has these words at first, and these entries
+abbrev pub record_of : List (List ℕ) → Store → List Entry → List ℕ
+record_of names opening es =
+    head_of opening.shape (adler (image_of opening)) names ++ texts 0 es
+
+-- the same of sessions that have all ended: the last lines follow
+abbrev pub whole_record : List (List ℕ) → Store → List Entry → List ℕ
+whole_record names opening es = record_of names opening es ++ last_lines (length es)

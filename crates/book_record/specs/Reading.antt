@@ -10,16 +10,16 @@ use Rattle.book_record.specs.RecordText.{call_text, CanSay}
 
 -- ---- lines
 
--- what stands behind the line that ends there, where one does
+-- what follows the line that ends there, where one does
 abbrev pub behind_end : List ℕ → Option ℕ → Option (List ℕ)
 behind_end text None = None
 behind_end text (Some end) = Some (drop (end + 1) text)
 
--- what stands behind the first line
+-- what follows the first line
 abbrev pub behind_line : List ℕ → Option (List ℕ)
 behind_line text = behind_end text (position (λ b. b == line_feed) text)
 
--- what stands behind so many lines
+-- what follows the first n lines
 abbrev pub behind_lines : ℕ → Option (List ℕ) → Option (List ℕ)
 behind_lines zero text = text
 behind_lines (suc n) None = None
@@ -54,7 +54,7 @@ BeginsWithNoLine text =
     (call : PlanlessCall) (rest : List ℕ) → HasOneLine call → CanSay call
     → text ≢ call_text call ++ rest
 
--- the text begins with no batch of so many transfers
+-- the text begins with no batch of this many transfers
 abbrev pub BeginsWithNoBatch : List ℕ → ℕ → Type 0
 BeginsWithNoBatch text count =
     (batch : List Transfer) (rest : List ℕ) → IsBatch batch → length batch ≡ count

@@ -1,6 +1,7 @@
 -- The text of a record: an entry for each call of a history, with the session's number, the call in
--- the words of a session's line, and its reply line. Plans aren't told: a call that settles one is
--- told by the number of its batch. The form is this project's choice.
+-- the words of a session's line, and its reply line. Each entry ends with the line of its sum.
+-- Plans are left out: a call that settles one has the number of its batch. The form is this
+-- project's choice.
 use Rattle.std.specs.Prelude.{◌≢◌, ℕ, suc, List, [], ◌∷◌, ◌++◌, codes}
 use Rattle.std.specs.Fmt.{decimal}
 use Rattle.batch.specs.Batches.{IsBatch}
@@ -43,7 +44,7 @@ call_text (told_call.Peek «module» address) = with_feed (line_of (command.Peek
 call_text (told_call.Poke «module» address word) =
     with_feed (line_of (command.Poke «module» address word))
 
--- the line of a reply to a call that names this batch; a batch that was fetched isn't told again
+-- the line of a reply to a call that names this batch; a batch that was fetched isn't there again
 abbrev pub reply_text : ℕ → Reply → List ℕ
 reply_text id (Fetched batch) = with_feed (codes "fetched")
 reply_text id reply = reply_line id reply
@@ -54,11 +55,11 @@ entry_lines e =
     number e.session space
     ++ (call_text (told e.call) ++ reply_text (id_of (told e.call)) e.reply)
 
--- the same of the entry that so many stand before, and `=SUM`
+-- the same of the entry that follows n others, and `=SUM`
 abbrev pub entry_text : ℕ → Entry → List ℕ
 entry_text n e = summed n (entry_lines e)
 
--- those of entries that so many stand before
+-- those of entries that follow n others
 abbrev pub texts : ℕ → List Entry → List ℕ
 texts n [] = []
 texts n (e ∷ es) = entry_text n e ++ texts (suc n) es
@@ -81,8 +82,8 @@ CanSay (told_call.Discard id) = IsNumber id
 CanSay (told_call.Peek «module» address) = IsNumber «module» × IsWord address
 CanSay (told_call.Poke «module» address word) = IsNumber «module» × IsWord address × IsWord word
 
--- The reply tells of no run that stopped, since over a port and wires that never fail none does;
--- and of no plan of another batch, since plans aren't told.
+-- The reply is of no run that stopped, since over a port and wires that never fail none does; and
+-- of no plan of another batch, since plans are left out.
 abbrev pub CanBeReplied : Reply → Type 0
 CanBeReplied reply = IsUnstopped reply × (reply ≢ Refused Stranger)
 

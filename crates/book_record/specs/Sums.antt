@@ -15,17 +15,17 @@ adler bytes = sums bytes 1 0
 
 -- ---- the sums of a record, which are this project's choice
 
--- What goes on from this. The factor is odd, so that each byte that changes makes another sum.
+-- What goes on from this. The factor is odd, so that changing one byte makes another sum.
 abbrev pub summing : ℕ → List ℕ → ℕ
 summing sum [] = sum
 summing sum (b ∷ bytes) = summing ((sum * 2891336453 + b) % 4294967296) bytes
 
--- That of the lines of an entry that so many stand before. It begins with their number, so that an
+-- That of the lines of an entry that follows n others. It begins with their number, so that an
 -- entry has another sum at another place.
 abbrev pub sum_at : ℕ → List ℕ → ℕ
 sum_at n bytes = summing (n % 4294967296) bytes
 
--- the count of so many entries: no record has 2 ^ 64
+-- the count of n entries: no record has 2 ^ 64
 abbrev pub numbered : ℕ → ℕ
 numbered n = n % 18446744073709551616
 
@@ -42,6 +42,6 @@ HasNoMark bytes = All (λ b. b ≢ sum_mark) bytes
 abbrev pub sum_line : ℕ → List ℕ
 sum_line sum = sum_mark ∷ (hex8 sum ++ line_feed ∷ [])
 
--- these lines, and that of their sum, after so many entries
+-- these lines, and that of their sum, after n entries
 abbrev pub summed : ℕ → List ℕ → List ℕ
 summed n bytes = bytes ++ sum_line (sum_at n bytes)

@@ -11,9 +11,9 @@ use batch_book::{BareBook, Book, Silent};
 use std::alloc::Global;
 use std::io::Write;
 
-/// The book goes on from its entries, so many: the next ones go to this writer. What the writer
-/// holds, and the entries, are those that the stream is named by. Where it gathers, as many
-/// sessions may share a writer that waits for a disk, who writes lets others run first.
+/// The book goes on after its entries, whose number is given: the next ones go to this writer. What
+/// the writer holds, and the entries, are those that the stream's name has. If it gathers, who
+/// writes lets others run first; that is for many sessions whose writer waits for a disk.
 pub fn stream_on<W: Write + Send, N: StreamName + Send>(
     alloc: Global,
     book: Book<Silent>,
@@ -34,9 +34,9 @@ pub fn stream_on<W: Write + Send, N: StreamName + Send>(
     )
 }
 
-/// The book without its history, how many entries that has, and the writer, which has got the text
-/// of the entries that were flushed since the stream began; where the history isn't whole, maybe a
-/// front of that of the others too.
+/// The book without its history, the writer, and the number of entries. The writer has got the text
+/// of the entries that were flushed since the stream began, and where the history isn't whole,
+/// maybe a front of that of the others too.
 pub fn stream_off<W: Write + Send, N: StreamName + Send>(
     book: Book<Streamed<W, N>>,
 ) -> (BareBook, W, u64)

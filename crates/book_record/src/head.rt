@@ -15,7 +15,7 @@ use line_words::{Line, behind, hex8_and_rest};
 use std::alloc::{AllocError, Global};
 
 /// The first line of a record: the shape of its rack, the sum of the image of its opening words,
-/// and how many clients have names.
+/// and the number of clients that have names.
 pub fn rack_line(shape: Shape, sum: u32, names: usize) -> Line
     requires { IsNumber names }
     ensures { result ≡ rack_line shape sum names }
@@ -45,9 +45,9 @@ fn push_client(text: &mut Vec<u8>, name: &[u8]) -> Result<(), AllocError>
     Ok(())
 }
 
-/// The head of a record: the shape of its rack, the sum of the image of its opening words, the names
-/// of the clients, in the order of their sessions, and the sum of these lines. It takes memory by
-/// the names.
+/// The head of a record: the shape of its rack, the sum of the image of its opening words, the
+/// names of the clients, in the order of their sessions, and the sum of these lines. It takes
+/// memory by the names.
 pub fn head_text(
     alloc: Global,
     shape: Shape,
@@ -66,7 +66,7 @@ pub fn head_text(
     Ok(text)
 }
 
-/// The three numbers of a shape, behind which a space stands, and the rest.
+/// The three numbers of a shape before a space, and the rest.
 fn numbers_and_rest(text: &[u8]) -> Option<(usize, usize, usize, &[u8])>
     ensures numbers { IfSome result (λ x. IsNumber x.0 × IsNumber x.1 × IsNumber x.2) }
     ensures some { IfSome result (λ x. text.now
@@ -79,8 +79,7 @@ fn numbers_and_rest(text: &[u8]) -> Option<(usize, usize, usize, &[u8])>
     Some((modules, blocks, words, rest))
 }
 
-/// The shape, the sum and the number of names of the first line of a record, and what stands behind
-/// it.
+/// The shape, the sum and the number of names of the first line of a record, and the rest.
 fn read_rack_line(text: &[u8]) -> Option<(Shape, u32, usize, &[u8])>
     ensures shape { IfSome result (λ x. IsShape x.0) }
     ensures words { IfSome result (λ x. IsWord x.1 × IsNumber x.2) }
@@ -111,7 +110,7 @@ fn client_and_rest(text: &[u8]) -> Option<(&[u8], &[u8])>
     Some((&rest[..end], &rest[end + 1..]))
 }
 
-/// Whether none of the first so many clients, with whose lines the text begins, has this name.
+/// Whether none of the first clients, with whose lines the text begins, has this name.
 fn is_new(text: &[u8], clients: usize, name: &[u8]) -> bool
     ensures { (names : List (List ℕ)) → (rest : List ℕ) → length names ≡ clients
         → AreClients text.now names rest
@@ -130,7 +129,7 @@ fn is_new(text: &[u8], clients: usize, name: &[u8]) -> bool
     true
 }
 
-/// What stands behind the lines of so many clients.
+/// What follows the lines of this many clients.
 fn behind_clients(text: &[u8], names: usize) -> Option<&[u8]>
     ensures some { IfSome result (λ rest. (all : List (List ℕ)) × AreNames all names
         × (text.now ≡ flat_map client_line all ++ rest.now)) }
@@ -174,8 +173,7 @@ fn whole_head<'a>(
     Some((shape, sum, names, body))
 }
 
-/// The shape and the sum of the head of a record, how many clients it names, and what stands behind
-/// it.
+/// The shape and the sum of the head of a record, the number of clients it names, and the rest.
 pub fn read_head(text: &[u8]) -> Option<(Shape, u32, usize, &[u8])>
     ensures some { IfSome result (λ x. IsShape x.0 × IsWord x.1
         × ((names : List (List ℕ)) × AreNames names x.2
@@ -188,7 +186,7 @@ pub fn read_head(text: &[u8]) -> Option<(Shape, u32, usize, &[u8])>
     }
 }
 
-/// The number below which the sessions of a record are, whose head names so many clients.
+/// The number below which all sessions of a record are whose head names this many clients.
 pub fn session_limit(clients: usize) -> usize
     ensures { result ≡ session_limit clients }
 {

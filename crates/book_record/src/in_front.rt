@@ -1,4 +1,4 @@
-//! What stands in front of a text of a record, by the lines of sums.
+//! How the text of a record begins, by the lines of sums.
 
 ghost use Rattle.std.specs.Prelude.{◌≡◌, ◌≤◌, ◌+◌, ◌++◌, ◌∷◌, ◌↔◌, ℕ, All, IfSome, IfNone, IsTrue, length};
 ghost use Rattle.batch.specs.Text.{line_feed};
@@ -6,24 +6,25 @@ ghost use Rattle.client_session.specs.Bytes.{HasNoFeed};
 ghost use Rattle.line_words.specs.declared.limits.TheConstants.{LINE_ROOM};
 ghost use Rattle.book_record.specs.Fronts.{StandsInFront, IsLineByte, IsTorn, IsUnfinished, end_line, last_lines};
 ghost use Rattle.book_record.specs.Sums.{HasNoMark, sum_mark, numbered};
+ghost use Rattle.book_record.specs.declared.sum.TheConstants.{SUM_ROOM};
 
 use crate::sum::{sum_at, sum_line};
 use batch::position_of;
 use line_words::{Line, behind, hex8_of};
 
-/// What stands in front of a text of a record.
+/// How the text of a record begins.
 #[derive(Drop)]
 pub enum Front<'a> {
-    /// These lines, after which their sum stands, and the rest.
+    /// With these lines and their sum. The rest follows.
     Whole(&'a [u8], &'a [u8]),
-    /// Other bytes: another sum, or what no line has.
+    /// With a wrong sum, or with no sum and bytes that no line has.
     Damaged,
-    /// No sum: the text was torn off.
+    /// With no sum: the text was torn off.
     Torn,
 }
 
-/// What stands before the first sum, that sum's line without its mark and its line feed, and what
-/// follows it.
+/// What comes before the first sum, that sum's line without its mark and its line feed, and the
+/// rest.
 fn parts(text: &[u8]) -> Option<(&[u8], &[u8], &[u8])>
     ensures some { IfSome result (λ x. HasNoMark x.0.now × HasNoFeed x.1.now
         × (text.now ≡ x.0.now ++ sum_mark ∷ (x.1.now ++ line_feed ∷ x.2.now))) }
@@ -50,22 +51,22 @@ fn is_lined(text: &[u8]) -> bool
     text.iter().all(is_line_byte)
 }
 
-/// Whether no line of a sum ends there, right or wrong.
+/// Whether it has no whole line of a sum, right or wrong.
 fn is_unfinished(text: &[u8]) -> bool
     ensures { IsTrue result ↔ IsUnfinished text.now }
 {
     parts(text).is_none()
 }
 
-/// Whether a record was torn off there. Takes time by the bytes.
+/// Whether a record was torn off in this rest of it. Takes time by the bytes.
 pub fn is_torn(text: &[u8]) -> bool
     ensures { IsTrue result ↔ IsTorn text.now }
 {
     is_unfinished(text) && is_lined(text)
 }
 
-/// What a text is in which no line of a sum ends.
-fn unsummed<'a>(text: &[u8]) -> Front<'a>
+/// How a text begins that has no whole line of a sum.
+fn without_sum<'a>(text: &[u8]) -> Front<'a>
     requires { IsUnfinished text.now }
     ensures { (n : ℕ) → StandsInFront n text.now result }
 {
@@ -75,12 +76,12 @@ fn unsummed<'a>(text: &[u8]) -> Front<'a>
     Front::Damaged
 }
 
-/// What stands in front of a text that so many entries stand before.
+/// How a text begins that follows this many entries. Takes time by the bytes.
 pub fn read_front(text: &[u8], number: u64) -> Front<'_>
     ensures { StandsInFront number text.now result }
 {
     let Some((lines, sum, rest)) = parts(text) else {
-        return unsummed(text);
+        return without_sum(text);
     };
     let due = hex8_of(sum_at(number, lines));
     if sum == due.as_slice() {
@@ -89,10 +90,10 @@ pub fn read_front(text: &[u8], number: u64) -> Front<'_>
     Front::Damaged
 }
 
-/// The line that ends a record of so many entries.
+/// The line that ends a record of this many entries.
 fn end_line(entries: u64) -> Line
     ensures line { (n : ℕ) → entries ≡ numbered n → result ≡ end_line n }
-    ensures room { length result + 10 ≤ LINE_ROOM }
+    ensures room { length result + SUM_ROOM ≤ LINE_ROOM }
 {
     let mut line = Line::new();
     line.put(b"end ");
@@ -101,7 +102,7 @@ fn end_line(entries: u64) -> Line
     line
 }
 
-/// Whether this is the line that ends a record of so many entries.
+/// Whether this is the line that ends a record of this many entries.
 pub fn is_end(lines: &[u8], entries: u64) -> bool
     ensures { (n : ℕ) → entries ≡ numbered n → IsTrue result ↔ (lines.now ≡ end_line n) }
 {
@@ -112,12 +113,12 @@ pub fn is_end(lines: &[u8], entries: u64) -> bool
     lines == line.as_bytes()
 }
 
-/// The last lines of a record of so many entries.
+/// The last lines of a record of this many entries.
 pub fn last_lines(entries: u64) -> Line
     ensures { (n : ℕ) → entries ≡ numbered n → result ≡ last_lines n }
 {
     let mut line = end_line(entries);
-    let sum = sum_line(sum_at(entries, line.as_bytes()));
-    line.put(sum.as_bytes());
+    let sum = sum_at(entries, line.as_bytes());
+    line.put(&sum_line(sum));
     line
 }

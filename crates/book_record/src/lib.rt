@@ -1,31 +1,18 @@
-//! The text of a book's history: an entry for each call, with the session's number, the call in the
-//! words of a session's line, its reply line, and a sum. Plans aren't told. And records, which are
-//! such texts after a head, whole or cut off, and written at once or entry by entry.
+//! The text of a book's history: an entry for each call, with its session, its reply and a sum, but
+//! without plans. A record is such a text after a head; it may have been cut off.
 //!
-//! [`push_history`] puts the text of each entry (`entry_text` of `specs/RecordText.antt`): its
-//! lines, and one with the sum of its number and of these. [`read_entry`] reads what a text begins
-//! with, exactly where it begins so.
+//! [`write_record`] makes a whole record (`whole_record` of `specs/Heads.antt`); [`head_text`],
+//! [`push_history`] and [`last_lines`] make its parts. [`read_head`], [`read_front`], [`is_end`]
+//! and [`read_entry`] read them, exactly where they are. Each front of the text of entries is that
+//! of whole entries and a torn rest (`laws::fronts`).
 //!
-//! [`head_text`] and [`read_head`] put and read the line `record-2 MxKxW SUM N`, the N clients'
-//! names and their sum, exactly where they stand (`head_of` of `specs/Heads.antt`), and
-//! [`rack_line`] puts that first line alone. [`sum_of`] makes the sum of an image. The sessions of
-//! a record are those of its named clients, where there are any ([`session_limit`]).
+//! A history may be a stream ([`stream_on`], [`stream_off`]): the texts of entries wait in memory
+//! until a flush hands them to a writer. The writer gets all flushed entries, and nothing else;
+//! after a flush that failed, maybe a front of the others too (`IsWritten` of
+//! `specs/Streams.antt`).
 //!
-//! [`read_front`] says what stands in front of a text: the lines of an entry and their sum, damage,
-//! or what was torn off, in which no sum stands (`StandsInFront` of `specs/Fronts.antt`). [`is_end`]
-//! knows the line that ends a record, and [`last_lines`] puts it with its sum. A text has one
-//! reading at most, whole entries and a torn rest, and each front of the text of entries has one
-//! (`laws::fronts`).
-//!
-//! A history may be a stream: the texts of entries wait in a buffer, and one write hands all of
-//! them to a writer before their replies are told. A [`StreamName`] says what the writer held as
-//! the stream began, and which entries the history had then. A [`Streamed`] of this name keeps that
-//! its writer has got the text of all entries since that were flushed, and nothing else. Once a
-//! flush has failed, maybe a front of the text of the others stands there too (`IsWritten` of
-//! `specs/Streams.antt`). It keeps no entry, so there may be any number: of those that wait it has
-//! the text, which takes memory until they are flushed. [`stream_on`] lets a book whose history
-//! contracts alone see go on so, and [`stream_off`] gives the writer back, and how many entries
-//! there are.
+//! Who replays records, or keeps them in files, calls this crate: `record_replay` and
+//! `kept_sessions`. Others call these two.
 #![tactic(auto)]
 
 mod going;

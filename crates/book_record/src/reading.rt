@@ -12,8 +12,8 @@ use batch_book::ToldCall;
 use line_words::{HEX_DIGITS, behind, hex8_and_rest, number_and_rest, word_from_hex8};
 use std::alloc::{AllocError, Global};
 
-/// The number behind a word that the text begins with, and what stands behind its line.
-fn named<'a>(text: &'a [u8], word: &[u8]) -> Option<(usize, &'a [u8])>
+/// The number after a word that the text begins with, and what follows its line.
+fn number_after<'a>(text: &'a [u8], word: &[u8]) -> Option<(usize, &'a [u8])>
     ensures some { IfSome result (λ x. IsNumber x.0
         × (text.entry.now ≡ word.now ++ (number x.0 line_feed ++ x.1.now))) }
     ensures none { IfNone result (BeginsWithNoneNamed word.now text.entry.now) }
@@ -22,7 +22,7 @@ fn named<'a>(text: &'a [u8], word: &[u8]) -> Option<(usize, &'a [u8])>
     number_before(rest, b'\n')
 }
 
-/// A word in eight hexadecimal digits with a line feed behind it, and the rest.
+/// A word in eight hexadecimal digits before a line feed, and the rest.
 fn hex8_and_line(text: &[u8]) -> Option<(u32, &[u8])>
     ensures some { IfSome result (λ x. IsWord x.0 × (text.now ≡ hex8 x.0 ++ line_feed ∷ x.1.now)) }
     ensures none { IfNone result (BeginsWithNoHex8 text.now line_feed) }
@@ -69,19 +69,19 @@ fn short_call(text: &[u8]) -> Option<(ToldCall<Batch>, &[u8])>
     ensures line { IfSome result (λ x. HasOneLine x.0) }
     ensures none { IfNone result (BeginsWithNoLine text.now) }
 {
-    if let Some((id, rest)) = named(text, b"fetch ") {
+    if let Some((id, rest)) = number_after(text, b"fetch ") {
         return Some((ToldCall::Fetch(id), rest));
     }
-    if let Some((id, rest)) = named(text, b"settle ") {
+    if let Some((id, rest)) = number_after(text, b"settle ") {
         return Some((ToldCall::Settle(id), rest));
     }
-    if let Some((id, rest)) = named(text, b"run ") {
+    if let Some((id, rest)) = number_after(text, b"run ") {
         return Some((ToldCall::Run(id), rest));
     }
-    if let Some((id, rest)) = named(text, b"show ") {
+    if let Some((id, rest)) = number_after(text, b"show ") {
         return Some((ToldCall::Show(id), rest));
     }
-    if let Some((id, rest)) = named(text, b"drop ") {
+    if let Some((id, rest)) = number_after(text, b"drop ") {
         return Some((ToldCall::Discard(id), rest));
     }
     if let Some((module, address, rest)) = peek(text) {
@@ -91,7 +91,7 @@ fn short_call(text: &[u8]) -> Option<(ToldCall<Batch>, &[u8])>
     Some((ToldCall::Poke(module, address, word), rest))
 }
 
-/// Where so many lines of the text end.
+/// Where the first lines of the text end, this many.
 fn end_of_lines(text: &[u8], count: usize) -> Option<usize>
     ensures some { IfSome result (λ end. (end ≤ length text.now)
         × (behind_lines count (Some text.now) ≡ Some (drop end text.now))) }
@@ -105,7 +105,7 @@ fn end_of_lines(text: &[u8], count: usize) -> Option<usize>
     Some(end)
 }
 
-/// The batch of so many transfers that the text begins with, and the rest.
+/// The batch of this many transfers that the text begins with, and the rest.
 fn batch_and_rest(
     alloc: Global,
     text: &[u8],
@@ -134,7 +134,7 @@ fn read_call(alloc: Global, text: &[u8]) -> Result<Option<(ToldCall<Batch>, &[u8
         CanSay x.0 × (text.now ≡ call_text x.0 ++ x.1.now))) }
     ensures none { IfOk result (λ read. IfNone read (BeginsWithNoCall text.now)) }
 {
-    let Some((count, _)) = named(text, b"batch ") else {
+    let Some((count, _)) = number_after(text, b"batch ") else {
         return Ok(short_call(text));
     };
     match batch_and_rest(alloc, text, count)? {

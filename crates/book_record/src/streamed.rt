@@ -36,9 +36,9 @@ impl<W: Write + Drop, N: StreamName> Drop for Streamed<W, N> {
 }
 
 impl<W: Write, N: StreamName> Streamed<W, N> {
-    /// A history that goes on after these entries, so many, at this writer: they, and what the
-    /// writer holds, are those that the stream is named by. Where it gathers, who writes waits for
-    /// more entries first.
+    /// A history that goes on after these entries, whose number is given, at this writer: they, and
+    /// what the writer holds, are those that the stream's name has. If it gathers, who writes waits
+    /// for more entries first.
     pub fn behind(
         alloc: Global,
         past: PastEntries,
@@ -61,7 +61,7 @@ impl<W: Write, N: StreamName> Streamed<W, N> {
         }
     }
 
-    /// The writer, what it has got, and how many entries there are.
+    /// The writer, and the number of entries.
     pub fn into_writer(self) -> (W, u64)
         ensures holds { W.contents result.0 ≡ self.written.holds }
         ensures written { IsWritten N.held (W.contents result.0) N.earlier self.written.stands
@@ -69,7 +69,7 @@ impl<W: Write, N: StreamName> Streamed<W, N> {
         ensures entries { result.1 ≡ numbered (length self.waiting.all) }
     {
         let Streamed { written, waiting } = self;
-        // Asked for only for its contract, which says that those that were handed on are the first.
+        // Called only for its contract: those that were handed on are the first.
         waiting.text();
         let entries = waiting.entries();
         (written.into_writer(), entries)

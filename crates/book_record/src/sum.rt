@@ -1,9 +1,9 @@
 //! Sums of images, and of a record's head, entries and end.
 
-ghost use Rattle.std.specs.Prelude.{◌≡◌, ◌≢◌, ◌<◌, ◌++◌, ◌^◌, ℕ, List, MatchOption, length};
+ghost use Rattle.std.specs.Prelude.{◌≡◌, ◌≢◌, ◌<◌, ◌++◌, ◌^◌, ℕ, List, MatchOption};
 ghost use Rattle.book_record.specs.Sums.{adler, sum_at, sum_line, summing};
 
-use line_words::{Line, behind};
+use line_words::{HEX_DIGITS, behind, hex8_of};
 
 /// The greatest prime below 65,536 (RFC 1950).
 const MODULUS: u32 = 65521;
@@ -11,8 +11,11 @@ const MODULUS: u32 = 65521;
 /// A sum of lines is multiplied by this before a byte is added.
 const FACTOR: u64 = 2_891_336_453;
 
-/// As many sums of lines there are.
+/// A sum of lines is below this.
 const SUMS: u64 = 4_294_967_296;
+
+/// The bytes of the line of a sum.
+pub(crate) const SUM_ROOM: usize = HEX_DIGITS + 2;
 
 /// The sum of an image: its Adler-32, as RFC 1950 has it. Takes time by the bytes.
 pub fn sum_of(image: &[u8]) -> u32
@@ -47,22 +50,19 @@ pub fn sum_at(number: u64, lines: &[u8]) -> u32
 }
 
 /// The line of a sum.
-pub(crate) fn sum_line(sum: u32) -> Line
-    ensures line { result ≡ sum_line sum }
-    ensures room { length result ≡ 10 }
+pub(crate) fn sum_line(sum: u32) -> [u8; SUM_ROOM]
+    ensures { result ≡ sum_line sum }
 {
-    let mut line = Line::new();
-    line.put(b"=");
-    line.put_hex8(sum);
-    line.put(b"\n");
+    let mut line = [b'='; SUM_ROOM];
+    line[1..SUM_ROOM - 1].copy_from_slice(&hex8_of(sum));
+    line[SUM_ROOM - 1] = b'\n';
     line
 }
 
-/// What follows the line of this sum, with which a text begins.
+/// What follows the line of this sum, if the text begins with it.
 pub(crate) fn after_sum(text: &[u8], sum: u32) -> Option<&[u8]>
     ensures { MatchOption result ((rest : List ℕ) → text.now ≢ sum_line sum ++ rest)
         (λ rest. text.now ≡ sum_line sum ++ rest.now) }
 {
-    let line = sum_line(sum);
-    behind(text, line.as_bytes())
+    behind(text, &sum_line(sum))
 }

@@ -21,7 +21,7 @@ pub struct WaitingText {
     // The text of the entries that wait, and that of the one that is drafted, but for the line of
     // the reply.
     buffer: Vec<u8>,
-    // How many bytes of it are of those that wait.
+    // The number of its bytes that are of those that wait.
     waits: usize,
     // The number of the entry that is drafted.
     number: u64,
@@ -54,7 +54,7 @@ impl Model for WaitingText {
 }
 
 impl WaitingText {
-    /// None of these entries, so many, waits.
+    /// None of these entries, whose number is given, waits.
     pub(crate) fn behind(alloc: Global, past: PastEntries, entries: u64) -> WaitingText
         requires { entries ≡ numbered (length past) }
         ensures all { result.all ≡ past }
@@ -72,7 +72,7 @@ impl WaitingText {
         }
     }
 
-    /// How many entries there are.
+    /// The number of entries.
     pub(crate) fn entries(&self) -> u64
         ensures { result ≡ numbered (length self.now.all) }
     {
@@ -98,8 +98,8 @@ impl WaitingText {
     }
 }
 
-/// Moves the text of a buffer behind this one. Where there is no memory for it nothing changes; if
-/// this one is empty, none is taken.
+/// Moves the text of a buffer to the end of this one. Without memory nothing changes; if this one
+/// is empty, none is taken.
 fn move_text(buffer: &mut Vec<u8>, text: &mut Vec<u8>) -> Result<(), AllocError>
     ensures all { OnOk result (text.new.items ≡ text.old.items ++ buffer.old.items) }
     ensures none { OnOk result (buffer.new.items ≡ []) }

@@ -7,17 +7,15 @@ ghost use Rattle.batch_book.specs.Told.{told};
 ghost use Rattle.client_session.specs.Replies.{with_feed};
 ghost use Rattle.book_record.specs.RecordText.{CanBePut, id_of, call_text, reply_text, entry_lines, entry_text, texts};
 ghost use Rattle.book_record.specs.Sums.{sum_at, sum_line};
+ghost use Rattle.book_record.specs.declared.sum.TheConstants.{SUM_ROOM};
 
-use crate::sum::sum_at;
+use crate::sum::{SUM_ROOM, sum_at, sum_line};
 use batch::Batch;
 use batch_book::{Book, Call, Entry, LoggedReply, Reply, SharedBatch, ToldCall};
 use client_session::SessionCommand;
 use client_session::reply_line::ReplyLine;
-use line_words::{LINE_ROOM, Line, hex8_of};
+use line_words::{LINE_ROOM, Line};
 use std::alloc::AllocError;
-
-/// The bytes of the line of a sum.
-const SUM_ROOM: usize = 10;
 
 /// Puts words and a line feed.
 fn push_line(text: &mut Vec<u8>, words: &[u8]) -> Result<(), AllocError>
@@ -60,7 +58,7 @@ fn push_batch(text: &mut Vec<u8>, words: &[u8], batch: &Batch) -> Result<(), All
     requires { length words.now ≤ LINE_ROOM }
     ensures put { OnOk result
         (text.new.items ≡ text.old.items ++ (words.now ++ batch_text batch.now)) }
-    ensures room { OnOk result (vec_len text.new + LINE_ROOM + 10 ≤ vec_capacity text.new) }
+    ensures room { OnOk result (vec_len text.new + LINE_ROOM + SUM_ROOM ≤ vec_capacity text.new) }
     ensures none { OnErr result (text.new.items ≡ text.old.items) }
 {
     let lines = batch.write()?;
@@ -74,7 +72,7 @@ fn push_batch(text: &mut Vec<u8>, words: &[u8], batch: &Batch) -> Result<(), All
 fn push_words(text: &mut Vec<u8>, words: &[u8]) -> Result<(), AllocError>
     requires { length words.now ≤ LINE_ROOM }
     ensures put { OnOk result (text.new.items ≡ text.old.items ++ words.now) }
-    ensures room { OnOk result (vec_len text.new + LINE_ROOM + 10 ≤ vec_capacity text.new) }
+    ensures room { OnOk result (vec_len text.new + LINE_ROOM + SUM_ROOM ≤ vec_capacity text.new) }
     ensures none { OnErr result (text.new.items ≡ text.old.items) }
 {
     text.reserve(words.len() + LINE_ROOM + SUM_ROOM)?;
@@ -83,8 +81,8 @@ fn push_words(text: &mut Vec<u8>, words: &[u8]) -> Result<(), AllocError>
 }
 
 /// Puts the session's number, a space, and the lines of a call that isn't made yet, and takes the
-/// room for the line of its reply. They are put together in a line that the caller lends. Where there
-/// is no memory nothing is put.
+/// room for the lines of its reply and its sum. They are put together in a line that the caller
+/// lends. Without memory nothing is put.
 pub fn push_asked(
     text: &mut Vec<u8>,
     line: &mut Line,
@@ -93,7 +91,7 @@ pub fn push_asked(
 ) -> Result<(), AllocError>
     ensures put { OnOk result (text.new.items
         ≡ text.old.items ++ (number session space ++ call_text (told call.now))) }
-    ensures room { OnOk result (vec_len text.new + LINE_ROOM + 10 ≤ vec_capacity text.new) }
+    ensures room { OnOk result (vec_len text.new + LINE_ROOM + SUM_ROOM ≤ vec_capacity text.new) }
     ensures none { OnErr result (text.new.items ≡ text.old.items) }
 {
     line.clear();
@@ -177,26 +175,15 @@ fn push_session(text: &mut Vec<u8>, session: usize) -> Result<(), AllocError>
     text.extend_from_slice(line.as_bytes())
 }
 
-/// Puts the line of a sum.
-fn push_sum(text: &mut Vec<u8>, sum: u32) -> Result<(), AllocError>
-    ensures put { OnOk result (text.new.items ≡ text.old.items ++ sum_line sum) }
-    ensures room { vec_len text.old + 10 ≤ vec_capacity text.old → IsOk result }
-{
-    text.push(b'=')?;
-    text.extend_from_slice(&hex8_of(sum))?;
-    text.push(b'\n')?;
-    Ok(())
-}
-
 /// Puts the line of the sum of the entry of this number, whose lines begin there.
 pub fn push_sum_of(text: &mut Vec<u8>, begin: usize, number: u64) -> Result<(), AllocError>
     requires { begin ≤ length text.old.items }
     ensures put { OnOk result (text.new.items
         ≡ text.old.items ++ sum_line (sum_at number (drop begin text.old.items))) }
-    ensures room { vec_len text.old + 10 ≤ vec_capacity text.old → IsOk result }
+    ensures room { vec_len text.old + SUM_ROOM ≤ vec_capacity text.old → IsOk result }
 {
     let sum = sum_at(number, &text[begin..]);
-    push_sum(text, sum)
+    text.extend_from_slice(&sum_line(sum))
 }
 
 /// Puts the lines of an entry, but for that of its sum.

@@ -55,7 +55,7 @@ impl<W: Write, N: StreamName> Model for Written<W, N> {
 
 impl<W: Write, N: StreamName> Written<W, N> {
     /// The writer of a stream of these entries: they, and what the writer holds, are those that the
-    /// stream is named by.
+    /// stream's name has.
     pub(crate) fn behind(past: &PastEntries, writer: W, gathers: bool) -> Written<W, N>
         requires held { W.contents writer ≡ N.held }
         requires earlier { past.now ≡ N.earlier }
@@ -75,14 +75,14 @@ impl<W: Write, N: StreamName> Written<W, N> {
         }
     }
 
-    /// For its contract alone: as long as no writing has failed all that it was given stands there.
+    /// For its contract alone: unless a writing has failed, all that it was given is there.
     pub(crate) fn all_stand(&self)
         ensures { self.now.whole ≡ true → self.now.stands ≡ self.now.tried }
     {
         let _ = &self.writer;
     }
 
-    /// The writer, and what it has got.
+    /// The writer.
     pub(crate) fn into_writer(self) -> W
         ensures holds { W.contents result ≡ self.holds }
         ensures written { IsWritten N.held (W.contents result) N.earlier self.stands self.tried

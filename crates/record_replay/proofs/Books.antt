@@ -20,9 +20,10 @@ use Rattle.batch_book.proofs.Fronts.{front, starts, starts_same}
 use Rattle.batch_book.proofs.OneReplay.{shape_stays}
 use Rattle.exchange_limits.specs.declared.limits.TheConstants.{MAX_SESSIONS}
 use Rattle.rack_answers.specs.Openings.{IsOfImageOrZeros, IsRackOf}
+use Rattle.rack_answers.proofs.Openings.{rack_blocks}
 use Rattle.book_record.specs.RecordText.{texts, CanSay, CanTell}
 use Rattle.book_record.specs.Fronts.{last_lines}
-use Rattle.book_record.specs.Heads.{AreNames, IsName, head_of, session_limit, whole_text}
+use Rattle.book_record.specs.Heads.{AreNames, IsName, head_of, record_of, session_limit, whole_record}
 use Rattle.book_record.specs.Sums.{adler}
 use Rattle.book_record.proofs.Fronts.{each_front, split}
 use Rattle.book_record.proofs.OneReading.{end_is_no_entry}
@@ -31,7 +32,7 @@ use Rattle.book_record.proofs.Sums.{sum_is_word}
 use Rattle.record_replay.specs.Replays.{AreFewer, Ends, IsRemade}
 use Rattle.record_replay.specs.Fetched.{AreOfLines}
 use Rattle.record_replay.specs.SessionLaws.{SessionsAreTold, SessionsSay}
-use Rattle.record_replay.proofs.Cuts.{IsBelow, both_parts, replay_split}
+use Rattle.record_replay.proofs.Parts.{IsBelow, both_parts, replay_split}
 use Rattle.record_replay.proofs.Others.{no_others}
 use Rattle.record_replay.proofs.Written.{record_append}
 use Rattle.record_replay.specs.declared.answering.Torn.{Torn}
@@ -43,16 +44,9 @@ use Rattle.session_answers.specs.Histories.{AreParts, HasAllEntries, HaveOneHist
 use Rattle.session_answers.specs.HostAnswers.{KnownClients, SessionEnd, HostedSession, IsHostedSession}
 use Rattle.session_answers.specs.Serving.{HasItsScript, served, refused}
 use Rattle.session_answers.specs.Sessions.{Beginning, beginning, IsServedSession}
-use Rattle.record_replay.specs.SessionRecords.{CanGoOn, IsGivenShape, IsRecorded, IsReplayedInPart, IsReplayedTo, record_of, ServeIsReplayed, HostIsReplayed, TalkIsReplayed}
+use Rattle.record_replay.specs.SessionRecords.{CanGoOn, IsGivenShape, IsRecorded, IsReplayedInPart, IsReplayedTo, ServeIsReplayed, HostIsReplayed, TalkIsReplayed}
 
 -- ---- the rack
-
-words_shape : (extent : Extent) (image : Option (List ℕ)) (rack : Store) → IsShape extent → IsOfImageOrZeros extent image rack → IsShape rack.shape
-words_shape extent None rack allowed words = subst (λ (s : Store). IsShape s.shape) (sym words) allowed
-words_shape extent (Some bytes) rack allowed words = subst IsShape (sym words.same_shape) allowed
-
-rack_shape : (shape : List ℕ) (image : Option (List ℕ)) (rack : Store) → IsRackOf shape image rack → IsShape rack.shape
-rack_shape shape image rack is = words_shape is.extent image rack is.shape_read.allowed is.words
 
 -- the shape of a rack
 its_shape : (extent : Extent) (image : Option (List ℕ)) (rack : Store) → IsOfImageOrZeros extent image rack → rack.shape ≡ extent
@@ -69,7 +63,7 @@ shape_is None shape image opening names file body same rack are head = (
     sum = adler (image_of opening);
     names = names;
     body = body;
-    allowed = rack_shape shape image opening rack;
+    allowed = (rack_blocks shape image opening rack).0;
     word = sum_is_word (image_of opening);
     are = are;
     head = head;
@@ -288,12 +282,13 @@ any_session es each = All-weaker CanTell (IsBelow (session_limit 0)) (λ e can. 
 
 -- the same where entries are never lost, and the whole record is written at the end
 kept_replayed : SessionsAreTold → (shape : List ℕ) (image : Option (List ℕ)) (opening : Store) (parts : List Part) (text : List ℕ) (failed : Bool) (printed : Printed) (left : Account) (n : ℕ) → IsRackOf shape image opening
-    → IsClosing false opening [] parts text failed printed left → map session_of parts ≡ range_with_len 0 n → n ≤ 1000000000 → OfLines parts → IsReplayedTo shape image left.opening left.history (whole_text left)
+    → IsClosing false opening [] parts text failed printed left → map session_of parts ≡ range_with_len 0 n → n ≤ 1000000000 → OfLines parts → IsReplayedTo shape image left.opening left.history (whole_record [] left.opening left.history)
 kept_replayed tell shape image opening parts text failed printed left n rack closed numbers few say =
     let one = closed.one in
     let can = all_told tell false opening [] parts left n one (All-nil CanTell) numbers few say in
     let last = last_lines (length left.history) in
-    replayed_to shape image left.opening [] (whole_text left) (texts 0 left.history ++ last) left.history left.machine last (subst (IsRackOf shape image) (sym one.is_opening) rack) no_names refl
+    let head = head_of left.opening.shape (adler (image_of left.opening)) [] in
+    replayed_to shape image left.opening [] (whole_record [] left.opening left.history) (texts 0 left.history ++ last) left.history left.machine last (subst (IsRackOf shape image) (sym one.is_opening) rack) no_names (append_assoc head (texts 0 left.history) last)
     (made_again (session_limit 0) left.opening left.history left.machine last can (any_session left.history can) (all_led false opening [] parts left one) (inl refl))
 
 -- ---- sessions
@@ -322,9 +317,9 @@ serve_is_replayed law tell shape image scripts printed book (served opening rack
     let parts = map (λ (t : Transcript). t.part) sessions in
     let begun = beginning false (new_account opening) in
     let left = all.2 in
-    subst (λ (a : Account). IsReplayedTo shape image a.opening a.history (whole_text a)) (one_book book left all.3)
+    subst (λ (a : Account). IsReplayedTo shape image a.opening a.history (whole_record [] a.opening a.history)) (one_book book left all.3)
     (kept_replayed tell shape image opening parts _ _ printed left (length scripts) rack all.5 (script_numbers sessions ∙ all.1.numbers) (omega (arith, few))
-    (scripts_say law begun scripts sessions (rack_shape shape image opening rack) (recursion_from_All (HasItsScript begun scripts) sessions all.1.each)))
+    (scripts_say law begun scripts sessions (rack_blocks shape image opening rack).0 (recursion_from_All (HasItsScript begun scripts) sessions all.1.each)))
 serve_is_replayed law tell shape image scripts printed book (refused _ _ _ is) few = absurd cc
 
 none_say : AreOfLines []
@@ -347,7 +342,7 @@ host_is_replayed law tell shape image loses was left g ends printed names file r
     let sessions = all.0 in
     let begun = beginning loses was in
     closing_replayed tell shape image loses was left (map (λ (v : HostedSession). v.part) sessions) _ _ printed names file g.clients rack are on all.3 r (host_numbers sessions ∙ all.2.numbers) few
-    (hosts_say law begun g sessions (begins_with_shape (length names) was loses on (rack_shape shape image was.opening rack)) (recursion_from_All (λ v. IsHostedSession begun g v.part v.end) sessions all.2.each))
+    (hosts_say law begun g sessions (begins_with_shape (length names) was loses on (rack_blocks shape image was.opening rack).0) (recursion_from_All (λ v. IsHostedSession begun g v.part v.end) sessions all.2.each))
 
 -- one session always has a number
 one_fits : (clients : ℕ) → 1 ≤ session_limit clients
@@ -359,4 +354,4 @@ talk_is_replayed law tell shape image loses was left before after told printed n
     let t = all.0 in
     let begun = beginning loses was in
     closing_replayed tell shape image loses was left (t.part ∷ []) _ _ printed names file 1 rack are on all.4 r (ap (λ (s : ℕ). s ∷ []) all.1) (one_fits (length names))
-    (served_say law begun before after t (begins_with_shape (length names) was loses on (rack_shape shape image was.opening rack)) all.3, tt)
+    (served_say law begun before after t (begins_with_shape (length names) was loses on (rack_blocks shape image was.opening rack).0) all.3, tt)

@@ -10,7 +10,6 @@ use Rattle.module_memory.specs.Store.{Store}
 use Rattle.schedule_certificate.specs.Plans.{Plan}
 use Rattle.batch_book.specs.declared.call.Call.{Call}
 use Rattle.batch_book.specs.declared.call.Call.TheVariants.{Settle}
-use Rattle.batch_book.specs.declared.entry.Entry.{Entry}
 use Rattle.batch_book.specs.declared.kept.KeptBatch.{KeptBatch}
 use Rattle.batch_book.specs.declared.kept.Stage.{Stage}
 use Rattle.batch_book.specs.declared.kept.Stage.TheVariants as stage
@@ -27,11 +26,10 @@ use Rattle.book_record.specs.RecordText.{id_of, call_text, reply_text, entry_tex
 use Rattle.record_replay.specs.declared.fault.RecordError.{RecordError}
 use Rattle.record_replay.specs.declared.fault.RecordFault.TheVariants as fault
 use Rattle.book_record.proofs.Streams.{texts_append}
-use Rattle.book_record.specs.Fronts.{IsDamaged, IsSummed, end_line, last_lines}
-use Rattle.book_record.specs.Reading.{BeginsWithNoEntry}
+use Rattle.book_record.specs.Fronts.{IsSummed, last_lines}
 use Rattle.book_record.specs.Sums.{sum_at, sum_line, summed}
 use Rattle.record_replay.specs.declared.fault.RecordFault.{RecordFault}
-use Rattle.record_replay.specs.Replays.{AreFewer, IsPlanFor, HasOwnPlanIn, GoesOnBy, IsOtherReply, IsReplayed, IsRecordFault, IsRecordError, IsWrongAt, IsWrongNext, damaged, no_call, other_reply, more_after, damaged_there, more_there}
+use Rattle.record_replay.specs.Replays.{AreFewer, IsPlanFor, HasOwnPlanIn, GoesOnBy, IsOtherReply, IsRecordFault, IsRecordError, IsWrongAt, damaged, no_call, other_reply, more_after}
 
 -- ---- a plan of its own batch is no stranger's
 
@@ -93,19 +91,10 @@ going_on limit text opening k old new rest body after had summed_so by is =
       front = had.front ∙ ap (λ (l : List ℕ). texts 0 old.history ++ l) here ∙ sym (append_assoc (texts 0 old.history) (entry_text k e) after) ∙ ap (λ (l : List ℕ). l ++ after) (sym more);
     }
 
--- what was made again so far
-pub replayed_so_far : (limit : ℕ) (text : List ℕ) (opening : Store) (k : ℕ) (book : Account) (rest : List ℕ) → Going limit text opening k book rest → IsReplay (opened book.opening) book.history book.machine → IsReplayed limit text opening book.history book.machine rest
-replayed_so_far limit text opening k book rest had led = record {
-  front = had.front;
-  each = had.each;
-  sessions = had.sessions;
-  replay = subst (λ (s : Store). IsReplay (opened s) book.history book.machine) had.opened_so led;
-}
-
 -- where the loop goes on, so many are fewer than are wanted
-pub fewer_so_far : (n k end most : ℕ) (first : Option ℕ) → n ≡ k → end ≡ unwrap_or first most → k < end → AreFewer n first
-fewer_so_far n k end most None same is less = tt
-fewer_so_far n k end most (Some wanted) same is less = let e : end ≡ wanted = is in omega (arith, same, e, less)
+fewer_so_far : (n k wanted most : ℕ) (first : Option ℕ) → n ≡ k → wanted ≡ unwrap_or first most → k < wanted → AreFewer n first
+fewer_so_far n k wanted most None same is less = tt
+fewer_so_far n k wanted most (Some all) same is less = let e : wanted ≡ all = is in omega (arith, same, e, less)
 
 -- ---- where it is wrong
 
@@ -114,60 +103,54 @@ rest_at : (text front rest : List ℕ) → text ≡ front ++ rest → drop (leng
 rest_at text front rest is =
     ap (drop (length text - length rest)) is ∙ drop_at front rest (length text - length rest) (omega (arith, ap length is, length-append front rest))
 
--- what is wrong with a rest, as an error tells of it
-told_error : (limit : ℕ) (text front rest : List ℕ) (opening : Store) (first : Option ℕ) (error : RecordError) (due : Option (List ℕ)) → text ≡ front ++ rest → error.offset ≡ length text - length rest → option_map (λ line. line.items) error.due ≡ due
-    → IsRecordFault limit text opening first error.fault rest due → IsRecordError limit text opening first error
-told_error limit text front rest opening first error due is at tells wrong =
-    let here : drop error.offset text ≡ rest = ap (λ (n : ℕ). drop n text) at ∙ rest_at text front rest is in
+asked_form : (n c r s a : List ℕ) → ((n ++ (c ++ r)) ++ s) ++ a ≡ (n ++ c) ++ (r ++ (s ++ a))
+asked_form n c r s a = simp append_assoc
+
+-- what is wrong stands within the text that goes on there
+wrong_within : (limit n : ℕ) (m : Machine) (last : List ℕ) (f : RecordFault) (rest : List ℕ) (due : Option (List ℕ)) → IsWrongAt limit n m last f rest due → (front : List ℕ) × (last ≡ front ++ rest)
+wrong_within limit n m last f rest due (damaged bad so at none) = ([], sym at)
+wrong_within limit n m last f rest due (no_call body more s none other so at no_due) = ([], sym at)
+wrong_within limit n m last f rest due (other_reply body more replied line s o so at due_is) =
+    let session = number o.session space in
+    let asked = call_text (told o.call) in
+    let tail = sum_line (sum_at n body) in
+    (session ++ asked, s.front ∙ ap (λ (b : List ℕ). (b ++ tail) ++ more) o.asks ∙ asked_form session asked replied tail more ∙ ap (λ (l : List ℕ). (session ++ asked) ++ l) (sym at))
+wrong_within limit n m last f rest due (more_after is some so none) = (last_lines n, is)
+
+-- what is wrong after what was made again so far, as an error says it
+pub said_wrong : (limit : ℕ) (text : List ℕ) (opening : Store) (first : Option ℕ) (k wanted most : ℕ) (book : Account) (last rest : List ℕ) (due : Option (List ℕ)) (error : RecordError) → Going limit text opening k book last → IsReplay (opened book.opening) book.history book.machine
+    → wanted ≡ unwrap_or first most → k < wanted → IsWrongAt limit k book.machine last error.fault rest due → error.offset ≡ length text - length rest → option_map (λ line. line.items) error.due ≡ due → IsRecordError limit text opening first error
+said_wrong limit text opening first k wanted most book last rest due error had led is less wrong at says =
+    let within = wrong_within limit k book.machine last error.fault rest due wrong in
+    let made = texts 0 book.history in
+    let whole : text ≡ (made ++ within.0) ++ rest = had.front ∙ ap (λ (l : List ℕ). made ++ l) within.1 ∙ sym (append_assoc made within.0 rest) in
+    let here : drop error.offset text ≡ rest = ap (λ (n : ℕ). drop n text) at ∙ rest_at text (made ++ within.0) rest whole in
+    let fault : IsRecordFault limit text opening first error.fault rest due =
+    record {
+      es = book.history;
+      end = book.machine;
+      last = last;
+      replayed = record {
+        front = had.front;
+        each = had.each;
+        sessions = had.sessions;
+        replay = subst (λ (s : Store). IsReplay (opened s) book.history book.machine) had.opened_so led;
+      };
+      fewer = fewer_so_far (length book.history) k wanted most first had.counted is less;
+      wrong = subst (λ (n : ℕ). IsWrongAt limit n book.machine last error.fault rest due) (sym had.counted) wrong;
+    } in
     record {
       within = omega (arith, at);
       wrong =
           subst (λ (r : List ℕ). IsRecordFault limit text opening first error.fault r (option_map (λ line. line.items) error.due)) (sym here)
-          (subst (λ (d : Option (List ℕ)). IsRecordFault limit text opening first error.fault rest d) (sym tells) wrong);
+          (subst (IsRecordFault limit text opening first error.fault rest) (sym says) fault);
     }
 
-no_due : (error : RecordError) → error.due ≡ None → option_map (λ line. line.items) error.due ≡ None
-no_due error none = ap (option_map (λ line. line.items)) none
-
--- what is wrong after these entries
-fault_at : (limit : ℕ) (text : List ℕ) (opening : Store) (first : Option ℕ) (es : List Entry) (end : Machine) (last : List ℕ) (f : RecordFault) (rest : List ℕ) (due : Option (List ℕ)) → IsReplayed limit text opening es end last → AreFewer (length es) first
-    → IsWrongAt limit (length es) end last f rest due → IsRecordFault limit text opening first f rest due
-fault_at limit text opening first es end last f rest due so fewer wrong = record { es = es; end = end; last = last; replayed = so; fewer = fewer; wrong = wrong }
-
--- where something is wrong before a call is looked at
-pub told_next : (limit : ℕ) (text : List ℕ) (opening : Store) (first : Option ℕ) (n : ℕ) (es : List Entry) (end : Machine) (rest : List ℕ) (error : RecordError) → IsReplayed limit text opening es end rest → length es ≡ n → AreFewer (length es) first → IsWrongNext n text rest error → IsRecordError limit text opening first error
-told_next limit text opening first n es end rest error so counted fewer (damaged_there bad is at due) =
-    told_error limit text (texts 0 es) rest opening first error None so.front at (no_due error due)
-    (fault_at limit text opening first es end rest error.fault rest None so fewer (damaged (subst (λ (k : ℕ). IsDamaged k rest) (sym counted) bad) (is ∙ ap fault.Sum (sym counted)) refl refl))
-told_next limit text opening first n es end rest error so counted fewer (more_there left same some is at due) =
-    let known : rest ≡ last_lines (length es) ++ left = same ∙ ap (λ (k : ℕ). last_lines k ++ left) (sym counted) in
-    told_error limit text (texts 0 es ++ last_lines (length es)) left opening first error None (so.front ∙ ap (λ (l : List ℕ). texts 0 es ++ l) known ∙ sym (append_assoc (texts 0 es) (last_lines (length es)) left)) at (no_due error due)
-    (fault_at limit text opening first es end rest error.fault left None so fewer (more_after known some is refl))
-
--- no call
-pub told_call : (limit : ℕ) (text : List ℕ) (opening : Store) (first : Option ℕ) (n : ℕ) (es : List Entry) (end : Machine) (rest body after : List ℕ) (error : RecordError) → IsReplayed limit text opening es end rest → length es ≡ n → AreFewer (length es) first → IsSummed n rest body after → BeginsWithNoEntry limit body → body ≢ end_line n
-    → error.fault ≡ fault.Call n → error.offset ≡ length text - length rest → error.due ≡ None → IsRecordError limit text opening first error
-told_call limit text opening first n es end rest body after error so counted fewer summed_so none other is at due =
-    told_error limit text (texts 0 es) rest opening first error None so.front at (no_due error due)
-    (fault_at limit text opening first es end rest error.fault rest None so fewer
-    (no_call body after (subst (λ (k : ℕ). IsSummed k rest body after) (sym counted) summed_so) none (λ e. other (e ∙ ap end_line counted)) (is ∙ ap fault.Call (sym counted)) refl refl))
-
-reply_form : (t n c r s a : List ℕ) → t ++ (((n ++ (c ++ r)) ++ s) ++ a) ≡ (t ++ (n ++ c)) ++ (r ++ (s ++ a))
-reply_form t n c r s a = simp append_assoc
-
--- another line than that of a reply
-pub told_reply : (limit : ℕ) (text : List ℕ) (opening : Store) (first : Option ℕ) (n : ℕ) (es : List Entry) (end : Machine) (last body after replied line : List ℕ) (error : RecordError) → IsReplayed limit text opening es end last → length es ≡ n → AreFewer (length es) first → IsSummed n last body after → IsOtherReply limit end body replied line
-    → error.fault ≡ fault.Reply n → error.offset ≡ length text - length last + (length body - length replied) → option_map (λ due. due.items) error.due ≡ Some line → IsRecordError limit text opening first error
-told_reply limit text opening first n es end last body after replied line error so counted fewer summed_so other is at tells =
-    let session = number other.session space in
-    let asked = call_text (told other.call) in
-    let count = length es in
-    let sum_so : IsSummed count last body after = subst (λ (k : ℕ). IsSummed k last body after) (sym counted) summed_so in
-    let tail = sum_line (sum_at count body) in
-    let rest = replied ++ (tail ++ after) in
-    let whole : text ≡ (texts 0 es ++ (session ++ asked)) ++ rest =
-    so.front ∙ ap (λ (l : List ℕ). texts 0 es ++ l) (sum_so.front ∙ ap (λ (b : List ℕ). (b ++ tail) ++ after) other.asks) ∙ reply_form (texts 0 es) session asked replied tail after in
-    let at_rest : error.offset ≡ length text - length rest =
-    omega (arith, at, ap length so.front, ap length sum_so.front, ap length other.asks, ap length whole, length-append (texts 0 es) last, length-append (body ++ tail) after, length-append body tail, length-append session (asked ++ replied), length-append asked replied, length-append (texts 0 es ++ (session ++ asked)) rest, length-append (texts 0 es) (session ++ asked), length-append session asked, length-append replied (tail ++ after), length-append tail after) in
-    told_error limit text (texts 0 es ++ (session ++ asked)) rest opening first error (Some line) whole at_rest tells
-    (fault_at limit text opening first es end last error.fault rest (Some line) so fewer (other_reply body after replied line sum_so other (is ∙ ap fault.Reply (sym counted)) refl refl))
+-- where another line stands than that of a reply
+pub reply_at : (limit n offset : ℕ) (m : Machine) (text front last body after replied line : List ℕ) → text ≡ front ++ last → IsSummed n last body after → IsOtherReply limit m body replied line → offset ≡ length text - length last + (length body - length replied)
+    → offset ≡ length text - length (replied ++ (sum_line (sum_at n body) ++ after))
+reply_at limit n offset m text front last body after replied line is s o at =
+    let session = number o.session space in
+    let asked = call_text (told o.call) in
+    let tail = sum_line (sum_at n body) in
+    omega (arith, at, ap length is, ap length s.front, ap length o.asks, length-append front last, length-append (body ++ tail) after, length-append body tail, length-append session (asked ++ replied), length-append asked replied, length-append replied (tail ++ after), length-append tail after)

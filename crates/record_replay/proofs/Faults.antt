@@ -18,11 +18,10 @@ use Rattle.book_record.specs.Reading.{BeginsWithNoEntry}
 use Rattle.book_record.proofs.Fronts.{first_text, never, one_summed}
 use Rattle.book_record.proofs.Marks.{end_unmarked, told_unmarked}
 use Rattle.book_record.proofs.OneReading.{end_is_no_entry, first_digit}
-use Rattle.record_replay.proofs.Cuts.{IsBelow, both_parts}
+use Rattle.record_replay.proofs.Parts.{IsBelow, both_parts}
 use Rattle.record_replay.specs.declared.fault.RecordFault.{RecordFault}
 use Rattle.record_replay.specs.declared.fault.RecordFault.TheVariants as fault
-use Rattle.record_replay.specs.Replays.{AreFewer, Ends, IsOtherReply, IsRecordFault, IsReplayed, IsWrongAt, damaged, no_call, other_reply, more_after}
-use Rattle.record_replay.specs.Laws.{NeverBoth, OneFault, OneRemade}
+use Rattle.record_replay.specs.Replays.{AreFewer, Ends, IsOtherReply, IsRecordFault, IsRemade, IsReplayed, IsWrongAt, damaged, no_call, other_reply, more_after}
 
 -- ---- lines and their sums
 
@@ -191,7 +190,9 @@ one_remade_by limit opening text first es fs a b x y all p q (inl n) (inr m) = a
 one_remade_by limit opening text first es fs a b x y all p q (inr n) (inl m) = absurd (none_before limit text opening first fs b y all q m (ended limit text opening first es a x p n.0 n.1))
 one_remade_by limit opening text first es fs a b x y all p q (inr n) (inr m) = remade_as es fs a b x y (stop_at limit text opening first all (ended limit text opening first es a x p n.0 n.1) (ended limit text opening first fs b y q m.0 m.1))
 
-pub one_remade : OneRemade
+-- entries that are made again differ in plans alone, and lead to the same words, with one rest
+pub one_remade : (limit : ℕ) (opening : Store) (text : List ℕ) (first : Option ℕ) (es fs : List Entry) (a b : Machine) (x y : List ℕ) → HasAllBlocks opening → IsRemade limit text opening first es a x → IsRemade limit text opening first fs b y
+    → (map told_entry es ≡ map told_entry fs) × (a.store ≡ b.store) × (x ≡ y)
 one_remade limit opening text first es fs a b x y all p q = one_remade_by limit opening text first es fs a b x y all p.replayed q.replayed p.ends q.ends
 
 -- where a record ends nothing is wrong
@@ -215,7 +216,9 @@ never_both_by limit opening text first es end left f rest due all p (inr (fewer,
     let here : Ends (length is.es) is.last = subst (λ (n : ℕ). Ends n is.last) (two_stops limit text opening first all one other) (subst (Ends (length es)) (stop_at limit text opening first all one other).rest ends) in
     right_there limit (length is.es) is.end is.last f rest due here is.wrong
 
-pub never_both : NeverBoth
+-- where they are made again there is no fault
+pub never_both : (limit : ℕ) (opening : Store) (text : List ℕ) (first : Option ℕ) (es : List Entry) (end : Machine) (left : List ℕ) (f : RecordFault) (rest : List ℕ) (due : Option (List ℕ)) → HasAllBlocks opening → IsRemade limit text opening first es end left
+    → IsRecordFault limit text opening first f rest due → ⊥
 never_both limit opening text first es end left f rest due all p is = never_both_by limit opening text first es end left f rest due all p.replayed p.ends is
 
 -- one thing is wrong in one place
@@ -246,7 +249,9 @@ one_wrong limit n a b last f g x y d l alike fit fit_too (more_after is some p r
     absurd (asked_there limit b body (end_line n) replied line o (one_body n last body more (end_line n) x s (end_sum n last x is)).0 (no_number limit n))
 one_wrong limit n a b last f g x y d l alike fit fit_too (more_after is some p r) (more_after is_too some_too t v) = (p ∙ sym t, append_cancel_left (last_lines n) x y (sym is ∙ is_too), r ∙ sym v)
 
-pub one_fault : OneFault
+-- else there is one fault, in one place, and one line is due there
+pub one_fault : (limit : ℕ) (opening : Store) (text : List ℕ) (first : Option ℕ) (f g : RecordFault) (x y : List ℕ) (d l : Option (List ℕ)) → HasAllBlocks opening → IsRecordFault limit text opening first f x d → IsRecordFault limit text opening first g y l
+    → (f ≡ g) × (x ≡ y) × (d ≡ l)
 one_fault limit opening text first f g x y d l all p q =
     let one = stopped_by limit text opening first f x d p in
     let other = stopped_by limit text opening first g y l q in

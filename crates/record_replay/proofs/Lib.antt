@@ -5,7 +5,7 @@ mod Strangers
 mod Others
 mod Telling
 mod Turns
-pub mod Cuts
+mod Parts
 pub mod Written
 mod OneReplay
 mod Heads

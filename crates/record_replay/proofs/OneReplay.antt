@@ -12,7 +12,7 @@ use Rattle.rack_answers.specs.Openings.{IsRackOf, IsWrongRack}
 use Rattle.rack_answers.proofs.Openings.{not_wrong_rack, one_rack, one_wrong_rack, rack_blocks}
 use Rattle.book_record.specs.Heads.{BeginsWithNoHead, rack_line, session_limit}
 use Rattle.book_record.specs.Sums.{adler}
-use Rattle.book_record.proofs.Heads.{one_head}
+use Rattle.book_record.proofs.Heads.{IsSameHead, one_head}
 use Rattle.book_record.proofs.Sums.{sum_is_word}
 use Rattle.record_replay.specs.declared.fault.RecordError.{RecordError}
 use Rattle.record_replay.specs.Replays.{IsRecordError}
@@ -24,16 +24,16 @@ use Rattle.plan_answers.specs.Refusals.{Printed, Refuses, IsRefused}
 use Rattle.plan_answers.proofs.Printing.{printed_same, refused_same}
 use Rattle.record_replay.specs.declared.answering.Replayed.{Replayed}
 use Rattle.record_replay.specs.declared.answering.Torn.{Torn}
-use Rattle.record_replay.specs.ReplayAnswers.{IsBehindHead, IsHeadDue, IsOnlyTold, IsRecordAnswer, IsRecordOn, IsReplayAnswer, IsReplayPrinted, IsShapeOf, IsTornSo, RefusesHead, of_record, told_of, led, record_wrong, replayed, no_head, rack_wrong, other_head}
+use Rattle.record_replay.specs.ReplayAnswers.{HasHead, IsBehindHead, IsHeadDue, IsOnlyTold, IsRecordAnswer, IsRecordOn, IsReplayAnswer, IsReplayPrinted, IsShapeOf, IsTornSo, RefusesHead, of_record, told_of, led, record_wrong, replayed, no_head, rack_wrong, other_head}
 
 -- ---- the head
 
+one_recorded : (recorded : List ℕ) (h k : HasHead recorded) → IsSameHead h.shape k.shape h.sum k.sum h.names k.names h.body k.body
+one_recorded recorded h k = one_head h.shape k.shape h.sum k.sum h.names k.names h.body k.body h.allowed k.allowed h.word k.word h.are k.are (sym h.head ∙ k.head)
+
 one_shape_of : (shape : Option (List ℕ)) (recorded p q : List ℕ) → IsShapeOf shape recorded p → IsShapeOf shape recorded q → p ≡ q
 one_shape_of (Some shape) recorded p q a b = a ∙ sym b
-one_shape_of None recorded p q a b =
-    let h = a.0 in
-    let k = b.0 in
-    a.1 ∙ ap shape_text (one_head h.shape k.shape h.sum k.sum h.names k.names h.body k.body h.allowed k.allowed h.word k.word h.are k.are (sym h.head ∙ k.head)).shape ∙ sym b.1
+one_shape_of None recorded p q a b = a.1 ∙ ap shape_text (one_recorded recorded a.0 b.0).shape ∙ sym b.1
 
 headless : (recorded text : List ℕ) → IsShapeOf None recorded text → BeginsWithNoHead recorded → ⊥
 headless recorded text is none = let h = is.0 in none h.shape h.sum (length h.names) h.names h.body h.allowed h.word h.are h.head
@@ -49,10 +49,7 @@ one_due opening recorded None None a b = refl
 one_due opening recorded None (Some y) a b = absurd (headless recorded (shape_text b.0.shape) (b.0, refl) a)
 one_due opening recorded (Some x) None a b = absurd (headless recorded (shape_text a.0.shape) (a.0, refl) b)
 one_due opening recorded (Some x) (Some y) a b =
-    let h = a.0 in
-    let k = b.0 in
-    let one = one_head h.shape k.shape h.sum k.sum h.names k.names h.body k.body h.allowed k.allowed h.word k.word h.are k.are (sym h.head ∙ k.head) in
-    ap Some (a.1 ∙ ap (λ (names : List (List ℕ)). rack_line opening.shape (adler (image_of opening)) (length names)) one.names ∙ sym b.1)
+    ap Some (a.1 ∙ ap (λ (names : List (List ℕ)). rack_line opening.shape (adler (image_of opening)) (length names)) (one_recorded recorded a.0 b.0).names ∙ sym b.1)
 
 -- ---- what is told
 
@@ -133,16 +130,13 @@ same_heads d e p q u v s t same a b = record {
 
 -- ---- the answer
 
-rack_shape : (text : List ℕ) (image : Option (List ℕ)) (rack : Store) → IsRackOf text image rack → IsShape rack.shape
-rack_shape text image rack is = (rack_blocks text image rack is).0
-
 same_answer : (shape : Option (List ℕ)) (recorded : List ℕ) (image : Option (List ℕ)) (first : Option ℕ) (p q : Printed) (u v : Option RecordError) (s t : Option Torn)
     → IsReplayAnswer shape recorded image first p u s → IsReplayAnswer shape recorded image first q v t → Same p q u v s t
 same_answer shape recorded image first p q u v s t (replayed x b o m named rack on a) (replayed y c r n other_named other_rack other_on d) =
     let rack_too : IsRackOf x image r = subst (λ (z : List ℕ). IsRackOf z image r) (sym (one_shape_of shape recorded x y named other_named)) other_rack in
     let store : r ≡ o = one_rack x image o r rack rack_too in
     let on_too : IsRecordOn o recorded c n = subst (λ (z : Store). IsRecordOn z recorded c n) store other_on in
-    let one = one_body o recorded b c m n (rack_shape x image o rack) on on_too in
+    let one = one_body o recorded b c m n (rack_blocks x image o rack).0 on on_too in
     let there = subst (λ (z : Store). IsRecordAnswer z recorded c n first (beside q v t)) store d in
     let here = subst (λ (z : List ℕ). IsRecordAnswer o recorded z n first (beside q v t)) (sym one.0) there in
     same_record o recorded b m first p q u v s t (rack_blocks x image o rack) a (subst (λ (k : ℕ). IsRecordAnswer o recorded b k first (beside q v t)) (sym one.1) here)

@@ -6,10 +6,10 @@ use Rattle.module_memory.specs.Store.{Store}
 use Rattle.batch_book.specs.declared.entry.Entry.{Entry}
 use Rattle.book_record.specs.RecordText.{texts}
 use Rattle.book_record.specs.Fronts.{last_lines}
-use Rattle.book_record.specs.Heads.{head_of}
+use Rattle.book_record.specs.Heads.{head_of, record_of}
 use Rattle.book_record.specs.Sums.{adler}
 use Rattle.book_record.proofs.Streams.{texts_both}
-use Rattle.record_replay.specs.SessionRecords.{StreamIsRecorded, record_of}
+use Rattle.record_replay.specs.SessionRecords.{StreamIsRecorded}
 
 -- a record with more entries
 pub record_append : (names : List (List ℕ)) (opening : Store) (es fs : List Entry) → record_of names opening (es ++ fs) ≡ record_of names opening es ++ texts (length es) fs

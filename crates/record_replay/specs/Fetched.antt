@@ -1,4 +1,4 @@
--- Plans that are settled right behind the fetching of their batches, as sessions do it.
+-- Plans that are settled right after the fetching of their batches, as sessions do it.
 use Rattle.std.specs.Prelude.{◌≡◌, ℕ, List, [], ◌∷◌, All, Option, Some, None}
 use Rattle.batch.specs.declared.transfer.Transfer.{Transfer}
 use Rattle.batch_book.specs.declared.call.Call.{Call}
@@ -20,7 +20,7 @@ SettlesFetched None (Settle id plan) = ⊥
 SettlesFetched (Some batch) (Settle id plan) = (id ≡ batch.0) × (plan.batch ≡ batch.1)
 SettlesFetched last call = Unit {0}
 
--- each plan is settled right behind the fetching of its batch; this was fetched before
+-- each plan is settled right after the fetching of its batch; this was fetched before
 abbrev pub SettleFetched : Option (ℕ × List Transfer) → List Entry → Type 0
 SettleFetched last [] = Unit {0}
 SettleFetched last (e ∷ es) =

@@ -1,7 +1,5 @@
 pub mod Replays
-pub mod Laws
 pub mod Fetched
 pub mod SessionLaws
-pub mod ResumeLaws
 pub mod ReplayAnswers
 pub mod SessionRecords

@@ -40,8 +40,8 @@ abbrev pub IsShapeOf : Option (List ℕ) → List ℕ → List ℕ → Type 0
 IsShapeOf (Some shape) recorded text = text ≡ shape
 IsShapeOf None recorded text = (h : HasHead recorded) × (text ≡ shape_text h.shape)
 
--- The record is one on a rack that begins with this store, and this stands behind its head, which
--- says that the numbers of its sessions are below this.
+-- The record is one on a rack that begins with this store, and this follows its head, which says
+-- that the numbers of its sessions are below this.
 pub record IsRecordOn (opening : Store) (recorded body : List ℕ) (limit : ℕ) : Type 0 where
   pub names : List (List ℕ)
   pub are : AreNames names (length names)
@@ -64,23 +64,23 @@ of_record (record_fault.Reply e) = refusal.RecordReply e
 of_record record_fault.More = refusal.RecordMore
 of_record record_fault.NoMemory = refusal.NoMemory
 
--- what is told of a record that was torn off: after so many entries, and where; nothing, where it
--- ends by its last lines, or has all entries that are wanted
+-- what is reported of a record that was torn off: after how many entries, and where; nothing, where
+-- it ends by its last lines, or has all entries that are wanted
 abbrev pub IsTornSo : List ℕ → Option ℕ → ℕ → List ℕ → Option Torn → Type 0
 IsTornSo recorded first entries rest None = (first ≡ Some entries) ⊎ (rest ≡ last_lines entries)
 IsTornSo recorded first entries rest (Some torn) =
     AreFewer entries first × IsTorn rest × (torn.entries ≡ entries)
     × (torn.offset ≡ length recorded - length rest)
 
--- the error of what stands behind the head, as it is told of the whole record
+-- the error in what follows the head, as one of the whole record
 pub record IsBehindHead (head : ℕ) (error told : RecordError) : Type 0 where
   pub fault : told.fault ≡ error.fault
   pub offset : told.offset ≡ head + error.offset
   pub due : option_map (λ line. line.items) told.due
       ≡ option_map (λ line. line.items) error.due
 
--- The image to which the entries lead, or the refusal of what is first wrong with them. Of that it
--- is told where, and which line is due there.
+-- The image to which the entries lead, or the refusal of what is first wrong with them, with its
+-- place and the line that is due there.
 pub data IsRecordAnswer (opening : Store) (recorded body : List ℕ) (limit : ℕ) (first : Option ℕ)
     (replayed : Replayed) : Type 0 where
   led : (es : List Entry) (end : Machine) (rest : List ℕ)
@@ -136,19 +136,19 @@ pub data IsReplayAnswer (shape : Option (List ℕ)) (recorded : List ℕ) (image
       → RefusesHead due printed told torn
       → IsReplayAnswer shape recorded image first printed told torn
 
--- that answer, whatever is told beside it
+-- that answer, whatever is reported beside it
 abbrev pub IsReplayPrinted : Option (List ℕ) → List ℕ → Option (List ℕ) → Option ℕ → Printed
     → Type 0
 IsReplayPrinted shape recorded image first printed =
     (told : Option RecordError) × (torn : Option Torn)
     × IsReplayAnswer shape recorded image first printed told torn
 
--- what is told of a record that is wrong: the fault, how many bytes stand before it, and the line
--- that is due there
+-- what is reported of a record that is wrong: the fault, the number of bytes before it, and the
+-- line that is due there
 abbrev pub told_of : Option RecordError → Option (RecordFault × ℕ × Option (List ℕ))
 told_of = option_map (λ e. (e.fault, e.offset, option_map (λ line. line.items) e.due))
 
--- beside whichever answer, nothing else is told
+-- beside whichever answer, nothing else is reported
 pub record IsOnlyTold (shape : Option (List ℕ)) (recorded : List ℕ) (image : Option (List ℕ))
     (first : Option ℕ) (told : Option RecordError) (torn : Option Torn) : Type 0 where
   pub only : (printed : Printed) (other : Option RecordError) (left : Option Torn)

@@ -1,6 +1,6 @@
 -- How far a record is right, and what is first wrong with it. The numbers of its sessions are below
 -- a limit, which its head says.
-use Rattle.std.specs.Prelude.{◌≡◌, ◌≢◌, ◌⊎◌, ℕ, ◌-◌, ◌<◌, ◌≤◌, List, [], ◌++◌, drop, length, All, Option, Some, None, option_map}
+use Rattle.std.specs.Prelude.{◌≡◌, ◌≢◌, ◌⊎◌, ℕ, ◌<◌, ◌≤◌, List, [], ◌++◌, drop, length, All, Option, Some, None, option_map}
 use Rattle.batch.specs.Text.{IsNumber, number, space}
 use Rattle.module_memory.specs.Store.{Store}
 use Rattle.schedule_certificate.specs.Plans.{Plan}
@@ -36,7 +36,7 @@ abbrev pub HasOwnPlanIn : Machine → ℕ → Call → Type 0
 HasOwnPlanIn m session (Settle id plan) = IsPlanFor plan (batch_of m session id)
 HasOwnPlanIn m session call = Unit {0}
 
--- the text begins with an entry that a record can tell, of a session below this, and the book has it
+-- the text is that of an entry that a record can hold, of a session below this, and the book has it
 pub record GoesOnBy (limit : ℕ) (old new : Account) (body : List ℕ) : Type 0 where
   pub entry : Entry
   pub can : CanTell entry
@@ -44,8 +44,8 @@ pub record GoesOnBy (limit : ℕ) (old new : Account) (body : List ℕ) : Type 0
   pub grown : IsGrown old entry.session entry.call entry.reply new
   pub body_is : body ≡ entry_lines entry
 
--- a call by a session below this stands there, and behind it something else than the line of the
--- reply that comes
+-- it begins with a call by a session below this, and goes on with something else than the line of
+-- the reply that this gets
 pub record IsOtherReply (limit : ℕ) (m : Machine) (body replied due : List ℕ) : Type 0 where
   pub session : ℕ
   pub call : Call
@@ -69,8 +69,8 @@ IsEntryFault limit m body entry_fault.NoMemory = Unit {0}
 
 -- ---- the entries of a record
 
--- these entries of sessions below this stand first, which are legal from this store and lead to this
--- machine, and then the rest
+-- it begins with these entries of sessions below this, which are legal from this store and lead to
+-- this machine, and goes on with the rest
 pub record IsReplayed (limit : ℕ) (text : List ℕ) (opening : Store) (es : List Entry)
     (end : Machine) (rest : List ℕ) : Type 0 where
   pub front : text ≡ texts 0 es ++ rest
@@ -78,39 +78,30 @@ pub record IsReplayed (limit : ℕ) (text : List ℕ) (opening : Store) (es : Li
   pub sessions : All (λ e. e.session < limit) es
   pub replay : IsReplay (opened opening) es end
 
--- so many entries are fewer than are wanted, where these are limited
+-- n entries are fewer than are wanted, where these are limited
 abbrev pub AreFewer : ℕ → Option ℕ → Type 0
 AreFewer n None = Unit {0}
 AreFewer n (Some first) = n < first
 
--- after so many entries the record ends: by its last lines, or since it was torn off
+-- after n entries the record ends: by its last lines, or since it was torn off
 abbrev pub Ends : ℕ → List ℕ → Type 0
 Ends n rest = (rest ≡ last_lines n) ⊎ IsTorn rest
 
--- All entries stand first that are wanted, or all that stand there, and the record ends behind them.
+-- It begins with all entries that are wanted, or with all that it has, and ends after them.
 pub record IsRemade (limit : ℕ) (text : List ℕ) (opening : Store) (first : Option ℕ)
     (es : List Entry) (end : Machine) (rest : List ℕ) : Type 0 where
   pub replayed : IsReplayed limit text opening es end rest
   pub ends : (first ≡ Some (length es)) ⊎ (AreFewer (length es) first × Ends (length es) rest)
 
--- how a record goes on after so many entries
+-- how a record goes on after n entries
 abbrev pub IsNext : ℕ → List ℕ → Next → Type 0
 IsNext n rest (next.Entry body more) = IsSummed n rest body.now more.now × (body.now ≢ end_line n)
 IsNext n rest next.End = Ends n rest
 
 -- ---- what is first wrong
 
--- what is wrong there before a call is looked at, as an error tells of it
-pub data IsWrongNext (n : ℕ) (text rest : List ℕ) (error : RecordError) : Type 0 where
-  damaged_there : IsDamaged n rest → error.fault ≡ OtherSum n
-      → error.offset ≡ length text - length rest → error.due ≡ None
-      → IsWrongNext n text rest error
-  more_there : (more : List ℕ) → rest ≡ last_lines n ++ more → more ≢ [] → error.fault ≡ More
-      → error.offset ≡ length text - length more → error.due ≡ None
-      → IsWrongNext n text rest error
-
--- What is wrong after so many entries, which led to this machine, with what follows them; where that
--- stands, and the line that is due there.
+-- What is wrong after n entries, which led to this machine, with what follows them; the text from
+-- there on, and the line that is due there.
 pub data IsWrongAt (limit n : ℕ) (m : Machine) (last : List ℕ) (fault : RecordFault)
     (rest : List ℕ) (due : Option (List ℕ)) : Type 0 where
   damaged : IsDamaged n last → fault ≡ OtherSum n → rest ≡ last → due ≡ None
@@ -125,7 +116,7 @@ pub data IsWrongAt (limit n : ℕ) (m : Machine) (last : List ℕ) (fault : Reco
   more_after : last ≡ last_lines n ++ rest → rest ≢ [] → fault ≡ More → due ≡ None
       → IsWrongAt limit n m last fault rest due
 
--- what is first wrong with the entries, what stands there, and the line that is due there
+-- what is first wrong with the entries, the text from there on, and the line that is due there
 pub record IsRecordFault (limit : ℕ) (text : List ℕ) (opening : Store) (first : Option ℕ)
     (fault : RecordFault) (rest : List ℕ) (due : Option (List ℕ)) : Type 0 where
   pub es : List Entry
@@ -135,7 +126,7 @@ pub record IsRecordFault (limit : ℕ) (text : List ℕ) (opening : Store) (firs
   pub fewer : AreFewer (length es) first
   pub wrong : IsWrongAt limit (length es) end last fault rest due
 
--- the same, where the error tells how many bytes stand before it
+-- the same, where the error has the number of bytes before it
 pub record IsRecordError (limit : ℕ) (text : List ℕ) (opening : Store) (first : Option ℕ)
     (error : RecordError) : Type 0 where
   pub within : error.offset ≤ length text

@@ -16,7 +16,7 @@ use Rattle.client_session.specs.declared.fault.ServeFault.{ServeFault}
 use Rattle.book_record.specs.RecordText.{CanTell}
 use Rattle.record_replay.specs.Fetched.{AreOfLines, SettleFetched}
 
--- Behind any entries: where each session settles plans right behind the fetching of their batches,
+-- After any entries: where each session settles plans right after the fetching of their batches,
 -- none is another's.
 abbrev pub NoStrangers : Type 0
 NoStrangers =
@@ -25,8 +25,8 @@ NoStrangers =
     → ((session : ℕ) → SettleFetched None (own session es))
     → All (λ e. e.reply ≢ Refused Stranger) es
 
--- Behind any entries: where sessions numbered from 0 have as many as there are, each of them such
--- as lines say, and no run stopped, a record can tell them all.
+-- After any entries: where sessions numbered from 0 have as many as there are, each of them such as
+-- lines say, and no run stopped, a record can hold them all.
 abbrev pub SessionsAreTold : Type 0
 SessionsAreTold =
     (opening : Store) (earlier es : List Entry) (mid end : Machine) (n : ℕ)

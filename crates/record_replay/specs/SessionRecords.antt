@@ -1,16 +1,16 @@
 -- What the laws state. Contracts of `kept_sessions` cite `IsRecorded`; of the rest no contract of a
 -- call cites any.
-use Rattle.std.specs.Prelude.{◌≡◌, ℕ, ◌^◌, ◌<◌, ◌≤◌, Bool, List, ◌++◌, length, All, Option, None, Some}
+use Rattle.std.specs.Prelude.{◌≡◌, ℕ, ◌^◌, ◌<◌, ◌≤◌, Bool, List, [], ◌++◌, length, All, Option, None, Some}
 use Rattle.batch.specs.declared.limits.TheConstants.{MAX_DIGITS}
 use Rattle.module_memory.specs.Images.{image_of}
 use Rattle.module_memory.specs.Store.{Store}
 use Rattle.batch_book.specs.declared.entry.Entry.{Entry}
 use Rattle.batch_book.specs.History.{Account, IsReplay, Starts}
 use Rattle.batch_book.specs.Machine.{Machine, opened}
-use Rattle.book_record.specs.RecordText.{CanTell, texts}
+use Rattle.book_record.specs.RecordText.{CanTell}
 use Rattle.book_record.specs.Fronts.{last_lines}
-use Rattle.book_record.specs.Sums.{adler}
-use Rattle.book_record.specs.Heads.{AreNames, head_of, session_limit, whole_text}
+pub use Rattle.book_record.specs.Heads.{record_of}
+use Rattle.book_record.specs.Heads.{AreNames, session_limit, whole_record}
 use Rattle.book_record.specs.Streams.{IsWritten}
 use Rattle.rack_answers.specs.Openings.{IsRackOf}
 use Rattle.record_replay.specs.ReplayAnswers.{IsReplayPrinted}
@@ -38,8 +38,8 @@ pub record IsReplayedTo (shape : List ℕ) (image : Option (List ℕ)) (opening 
       → IsReplayPrinted given file image None
       (record { text = image_of end.store; status = DONE })
 
--- So it is with the first entries of the book's history. They have all that stand where they belong,
--- in their order, so all that any session was told; and maybe some that nobody was told.
+-- So it is with the first entries of the book's history. They have all that stand where they
+-- belong, in their order, so all that any session got a reply to; and maybe some without.
 pub record IsReplayedInPart (shape : List ℕ) (image : Option (List ℕ)) (book : Account)
     (file : List ℕ) : Type 0 where
   pub front : List Entry
@@ -53,30 +53,25 @@ ServeIsReplayed =
     (shape : List ℕ) (image : Option (List ℕ)) (scripts : List (List ℕ)) (printed : Printed)
     (book : Account) → IsServeAnswer shape image scripts printed (Some book)
     → length scripts ≤ 10 ^ MAX_DIGITS
-    → IsReplayedTo shape image book.opening book.history (whole_text book)
+    → IsReplayedTo shape image book.opening book.history
+    (whole_record [] book.opening book.history)
 
 -- ---- a record that is written as calls are made
 
--- an exchange begins over this book: its history is legal, and a record can tell it whose head names
--- so many clients
+-- an exchange begins over this book: its history is legal, and a record can hold it whose head
+-- names this many clients
 pub record CanGoOn (clients : ℕ) (was : Account) : Type 0 where
   pub led : IsReplay (opened was.opening) was.history was.machine
   pub told : All CanTell was.history
   pub sessions : All (λ e. e.session < session_limit clients) was.history
 
--- the head of a record, by clients of these names, and these entries
-abbrev pub record_of : List (List ℕ) → Store → List Entry → List ℕ
-record_of names opening es =
-    head_of opening.shape (adler (image_of opening)) names ++ texts 0 es
-
--- A file has at least the entries of this book that stand where they belong. Wherever it was cut, it
--- is a front of the whole record.
+-- A file has at least the entries of this book that stand where they belong. Wherever it was cut,
+-- it is a front of the whole record.
 pub record IsRecorded (names : List (List ℕ)) (book : Account) (file : List ℕ) : Type 0 where
   pub rest : List ℕ
   pub has : file ≡ record_of names book.opening book.stands ++ rest
   pub missing : List ℕ
-  pub cut :
-      record_of names book.opening book.history ++ last_lines (length book.history) ≡ file ++ missing
+  pub cut : whole_record names book.opening book.history ≡ file ++ missing
 
 -- An exchange over one book left the other. A stream's writer held the record so far, and has got
 -- the rest. So it is with what it holds; and where all entries stand, a front of the last lines may

@@ -18,23 +18,23 @@ use refusals::Refusal;
 use std::alloc::{AllocError, Global};
 use std::thread::Threads;
 
-/// A record that has no last line.
+/// A record that hasn't ended.
 #[derive(Clone, Copy, Debug, PartialEq, Eq)]
 pub struct Torn {
-    /// How many whole entries it has.
+    /// The number of its whole entries.
     pub entries: usize,
-    /// How many of its bytes stand before what is left behind them.
+    /// The number of bytes before what follows them.
     pub offset: usize,
 }
 
-/// What a replay answers, and what is told beside it.
+/// What a replay answers, and what is reported beside it.
 #[derive(Drop)]
 pub struct Replayed {
     /// The image that is left, or the refusal.
     pub answer: Answer,
-    /// Where the record is wrong, and the line that is due there, where it is refused.
+    /// Where the record is wrong, and the line that is due there, if the record is refused.
     pub error: Option<RecordError>,
-    /// How far a record goes that was torn off, where the image is that of its whole entries.
+    /// How far a torn record goes, if the image is that of its whole entries.
     pub torn: Option<Torn>,
 }
 
@@ -52,8 +52,8 @@ pub fn refusal_of(fault: RecordFault) -> Refusal
     }
 }
 
-/// The refusal of a rack, beside which nothing is told of the record.
-fn unbegun(alloc: Global, refusal: Refusal) -> Result<Replayed, AllocError>
+/// The refusal of a rack, without a report of the record.
+fn refuse_rack(alloc: Global, refusal: Refusal) -> Result<Replayed, AllocError>
     ensures answer { IfOk result (λ replayed. Refuses refusal replayed.answer) }
     ensures error { IfOk result (λ replayed. replayed.error ≡ None) }
     ensures torn { IfOk result (λ replayed. replayed.torn ≡ None) }
@@ -65,8 +65,8 @@ fn unbegun(alloc: Global, refusal: Refusal) -> Result<Replayed, AllocError>
     })
 }
 
-/// The refusal of a record's head, where this line of one is due.
-fn unheaded(alloc: Global, due: Option<Vec<u8>>) -> Result<Replayed, AllocError>
+/// The refusal of a record's head, and the line that is due there, where one is.
+fn refuse_head(alloc: Global, due: Option<Vec<u8>>) -> Result<Replayed, AllocError>
     ensures { IfOk result (λ replayed.
         RefusesHead (option_map (λ line. line.items) due) replayed.answer replayed.error
         replayed.torn) }
@@ -105,8 +105,8 @@ fn wanted_shape(
     Ok(Some(text.into_bytes()))
 }
 
-/// What stands behind the head of a record, where it is one on this rack, and below what the numbers
-/// of its sessions are.
+/// What follows the head of a record, where it is one on this rack, and the number below which its
+/// sessions are.
 fn body_on<'a>(rack: &Rack, recorded: &'a [u8]) -> Result<Option<(&'a [u8], usize)>, AllocError>
     ensures some { IfOk result (λ body. IfSome body (λ b.
         IsRecordOn rack.now recorded.entry.now b.0.now b.1)) }
@@ -124,8 +124,8 @@ fn body_on<'a>(rack: &Rack, recorded: &'a [u8]) -> Result<Option<(&'a [u8], usiz
     Ok(Some((body, session_limit(clients))))
 }
 
-/// The first line that the head of a record on this rack has, by as many clients as the record's
-/// names, where that has a head.
+/// The first line of the head of a record on this rack with as many clients as this record names,
+/// where this has a head.
 fn head_due(alloc: Global, rack: &Rack, recorded: &[u8]) -> Result<Option<Vec<u8>>, AllocError>
     ensures { IfOk result (λ due.
         IsHeadDue rack.now recorded.now (option_map (λ line. line.items) due)) }
@@ -139,7 +139,7 @@ fn head_due(alloc: Global, rack: &Rack, recorded: &[u8]) -> Result<Option<Vec<u8
     Ok(Some(Vec::from_slice(alloc, line.as_bytes())?))
 }
 
-/// The error of what stands behind a head of so many bytes, as it is told of the whole record.
+/// An error in what follows a head of this many bytes, as one of the whole record.
 fn behind_head(head: usize, error: RecordError) -> RecordError
     requires { head + error.offset < 2 ^ 64 }
     ensures { IsBehindHead head error result }
@@ -151,8 +151,8 @@ fn behind_head(head: usize, error: RecordError) -> RecordError
     }
 }
 
-/// Where a record was torn off behind these entries: nowhere, where it ends by its last line, or
-/// has all entries that are wanted.
+/// Where a record was torn off after these entries: nowhere, if it ends by its last lines, or has
+/// all entries that are wanted.
 fn torn_at(recorded: &[u8], first: Option<usize>, entries: usize, rest: &[u8]) -> Option<Torn>
     requires { (first ≡ Some entries) ⊎ (AreFewer entries first × Ends entries rest.now) }
     ensures { IsTornSo recorded.now first entries rest.now result }
@@ -166,8 +166,8 @@ fn torn_at(recorded: &[u8], first: Option<usize>, entries: usize, rest: &[u8]) -
     })
 }
 
-/// The image to which the entries behind a record's head lead, or the refusal of what is first
-/// wrong with them.
+/// The image to which the entries after a record's head lead, or the refusal of what is first wrong
+/// with them.
 fn answer_record<R: Threads + Sync>(
     rt: &R,
     alloc: Global,
@@ -209,11 +209,11 @@ fn answer_texts<R: Threads + Sync>(
         (bytes_of image.entry) first replayed.answer replayed.error replayed.torn) }
 {
     let Some(text) = wanted_shape(alloc, shape, recorded)? else {
-        return unheaded(alloc, None);
+        return refuse_head(alloc, None);
     };
     let rack = match read_rack(alloc, text.as_slice(), image) {
         Ok(rack) => rack,
-        Err(refusal) => return unbegun(alloc, refusal),
+        Err(refusal) => return refuse_rack(alloc, refusal),
     };
     match body_on(&rack, recorded)? {
         Some((body, limit)) => {
@@ -221,22 +221,21 @@ fn answer_texts<R: Threads + Sync>(
         }
         None => {
             let due = head_due(alloc, &rack, recorded)?;
-            unheaded(alloc, due)
+            refuse_head(alloc, due)
         }
     }
 }
 
 /// The answer of `exchange replay`: the image to which the entries of the record lead, all of them
-/// or so many as are wanted, on the rack of its head; or the refusal of what is first wrong.
+/// or the first ones, on the rack of its head; or the refusal of what is first wrong.
 ///
 /// The shape is that which is given, or else that of the record's head. The rack's words are first
-/// those of the image or, where there is none, 0. Shape and image are looked at first. Then the
-/// record's head has to be that of this rack. Then the entries come, one by one: each is one of a
-/// client whom the head names, where it names any; its call is made again, and its reply's line is
-/// compared. A record tells no run that stopped, and no plan of
-/// another batch. One that was torn off is replayed as far as its whole entries go, and
-/// beside the answer it is told how far that is. Planning and runs are given so many workers, and
-/// the answer doesn't depend on their number.
+/// those of the image or, without one, 0. Shape and image are checked first. Then the record's head
+/// has to be that of this rack. Then the entries come, one by one: each is one of a client whom the
+/// head names, if it names any; its call is made again, and its reply's line is compared. A record
+/// has no run that stopped, and no plan of another batch. If it was torn off, its whole entries are
+/// replayed, and `torn` says how far they go. The answer doesn't depend on the number of workers.
+/// It takes memory as [`replay`] does, and for the image.
 pub fn answer_replay<R: Threads + Sync>(
     rt: &R,
     alloc: Global,

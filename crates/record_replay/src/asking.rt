@@ -1,4 +1,4 @@
-//! The call that a record tells, made again.
+//! A call of a record, made again.
 
 ghost use Rattle.std.specs.Prelude.{◌≡◌, IfOk};
 ghost use Rattle.batch_book.specs.Answering.{IsReplyTo};
@@ -21,7 +21,7 @@ use std::thread::Threads;
 /// A port and wires that never fail.
 pub(crate) type PlainPlant = Plant<MemoryPort, PlainWires, OpenGate>;
 
-/// Nobody is told how far a run has come.
+/// Nobody hears how far a run has come.
 #[derive(Drop)]
 struct Unheard;
 
@@ -31,7 +31,7 @@ impl Notice for Unheard {
     fn done(&mut self, _settings: usize) {}
 }
 
-/// A plan of the session's batch of this number; where it has none, of a batch without a transfer.
+/// A plan of the session's batch of this number; if it has none, of a batch without a transfer.
 fn plan_for<R: Threads + Sync>(
     rt: &R,
     alloc: Global,
@@ -50,7 +50,7 @@ fn plan_for<R: Threads + Sync>(
     schedule(rt, alloc, batch, workers, &OpenGate)
 }
 
-/// The call that a record tells, with a plan where one is settled.
+/// The call that a record has, with a plan where one is settled.
 pub(crate) fn call_of<R: Threads + Sync>(
     rt: &R,
     alloc: Global,
@@ -77,8 +77,8 @@ pub(crate) fn call_of<R: Threads + Sync>(
     Ok(call)
 }
 
-/// The reply to a call, over a port and wires that never fail. For want of memory nothing changes,
-/// nor where there is no number for another batch or run, which counts as that.
+/// The reply to a call, over a port and wires that never fail. Without memory nothing changes, nor
+/// without a number for another batch or run, which is the same error.
 pub(crate) fn ask<R: Threads + Sync>(
     rt: &R,
     book: &mut Book<Silent>,
@@ -92,7 +92,7 @@ pub(crate) fn ask<R: Threads + Sync>(
     ensures answers { IfOk result (IsReplyTo call) }
     ensures opening { book.new.opening ≡ book.old.opening }
 {
-    // These are asked for only for their contracts: the machine is sound.
+    // These are called only for their contracts: the machine is sound.
     book.log();
     let _shape = book.rack().shape();
     let reply = book.apply(rt, session, call, plant, &mut Unheard);

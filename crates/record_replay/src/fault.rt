@@ -4,9 +4,9 @@ use thiserror::Error;
 /// Why the lines of an entry aren't those of the one that comes.
 #[derive(Drop)]
 pub(crate) enum EntryFault<'a> {
-    /// No call stands there.
+    /// There is no call.
     Call,
-    /// This stands behind the call, and not this line, which is that of its reply.
+    /// The first follows the call, where the second is due: the line of its reply.
     Reply(&'a [u8], Vec<u8>),
     /// There was no memory.
     NoMemory,
@@ -29,16 +29,16 @@ pub enum RecordFault {
     /// Its head isn't that of the rack, or there is none.
     #[error("head")]
     Head,
-    /// The sum of this entry isn't that of its number and its lines.
+    /// After this many entries comes neither an entry nor the end with its sum.
     #[error("sum {0}")]
     Sum(usize),
-    /// No call stands where that of this entry should, nor the last line.
+    /// After this many entries comes neither a call nor the last lines, though the sum is right.
     #[error("call {0}")]
     Call(usize),
-    /// The reply of this entry isn't the one that comes.
+    /// The reply of this entry isn't the one that its call gets.
     #[error("reply {0}")]
     Reply(usize),
-    /// Something follows the last line.
+    /// Something follows the last lines.
     #[error("more")]
     More,
     /// There was no memory.
@@ -51,10 +51,10 @@ pub enum RecordFault {
 pub struct RecordError {
     /// What is wrong with it.
     pub fault: RecordFault,
-    /// How many of its bytes stand before that.
+    /// The number of bytes before that.
     pub offset: usize,
-    /// The line that is due there, with its line feed, where one is: that of a reply, or the first
-    /// of a head. Whoever has a whole head that is due puts all of it here.
+    /// The line that is due there, with its line feed, if one is: that of a reply, or the first of
+    /// a head. Whoever has a whole head that is due puts all of it here.
     pub due: Option<Vec<u8>>,
 }
 

@@ -23,8 +23,8 @@ fn due_line(alloc: Global, id: usize, reply: &Reply) -> Result<Vec<u8>, AllocErr
     Ok(line)
 }
 
-/// Makes the call of the entry of these lines, by a session whose number is below this. Where the
-/// line of its reply is another, or for want of memory, the book may have the call all the same.
+/// Makes the call of the entry of these lines, by a session whose number is below the limit. If the
+/// line of its reply is another, or without memory, the book may have the call all the same.
 pub(crate) fn follow<'a, R: Threads + Sync>(
     rt: &R,
     alloc: Global,

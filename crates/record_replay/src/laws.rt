@@ -1,31 +1,21 @@
-//! Laws of records and their faults, and of what sessions leave.
+//! Laws of the records that sessions leave.
 
-ghost use Rattle.record_replay.specs.ResumeLaws.{CutIsResumed, StreamIsResumed};
 ghost use Rattle.record_replay.specs.SessionRecords.{HostIsReplayed, ServeIsReplayed, StreamIsRecorded, TalkIsReplayed};
 ghost use Rattle.record_replay.specs.SessionLaws.{NoStrangers, SessionsAreTold, SessionsSay};
 
-/// Whatever entries stand before: where each session settles a plan right behind fetching its
-/// batch, no plan is another batch's; so a record can tell all that sessions leave, where no run
-/// stopped.
+/// Whatever entries come before: if each session settles a plan right after fetching its batch, no
+/// plan is another batch's; so a record can hold all that sessions leave, if no run stopped.
 pub fn sessions_are_told()
     ensures say { SessionsSay }
     ensures strangers { NoStrangers }
     ensures told { SessionsAreTold }
 {}
 
-/// Wherever the text of a legal history is cut, what is read of it leads to the words that a front
-/// of the history leads to. So does what a stream's writer holds, and that front has each entry that
-/// stands there, so each that was told.
-pub fn resumed()
-    ensures cut { CutIsResumed }
-    ensures stream { StreamIsResumed }
-{}
-
 /// The record of the book that `serve` leaves is replayed to that book's words: given the same
-/// image, and the same shape or none, `replay` has just this answer. What stands in the file that
-/// `host` or `talk` writes while it goes on, of which a front of an entry may be the last, is
-/// replayed to the words to which all that was told leads, behind what the record had before, and
-/// maybe some last entries that nobody was told. What a stream's writer holds is such a file.
+/// image, and the same shape or none, `replay` has just this answer. `host` and `talk` write theirs
+/// while calls are made, maybe after an earlier record. Wherever that file ends, even within an
+/// entry, it is replayed to the words to which its whole entries lead: all that any session got a
+/// reply to, and maybe some last ones without. What a stream's writer holds is such a file.
 pub fn record_is_answered()
     ensures serve { ServeIsReplayed }
     ensures host { HostIsReplayed }

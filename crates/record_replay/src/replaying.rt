@@ -1,7 +1,8 @@
 //! The entries of a record, made again.
 
-ghost use Rattle.std.specs.Prelude.{◌≡◌, ◌≢◌, ◌-◌, IfOk, IfErr, None, length};
-ghost use Rattle.record_replay.specs.Replays.{IsNext, IsRecordError, IsRemade, IsWrongNext};
+ghost use Rattle.std.specs.Prelude.{◌≡◌, ◌≢◌, ◌-◌, ℕ, IfOk, IfErr, None, length};
+ghost use Rattle.batch_book.specs.Machine.{Machine};
+ghost use Rattle.record_replay.specs.Replays.{IsNext, IsRecordError, IsRemade, IsWrongAt};
 
 use crate::asking::PlainPlant;
 use crate::fault::{EntryFault, RecordError, RecordFault};
@@ -22,20 +23,20 @@ use std::thread::Threads;
 pub struct Remade<'a> {
     /// The book that has them.
     pub book: Book<Silent>,
-    /// How many there are.
+    /// The number of these.
     pub entries: usize,
-    /// What stands behind them.
+    /// What follows them.
     pub rest: &'a [u8],
 }
 
-/// How many bytes of a text stand before this rest of it.
+/// The number of bytes of a text before this rest of it.
 fn offset_of(text: &[u8], rest: &[u8]) -> usize
     ensures { result ≡ length text.now - length rest.now }
 {
     text.len().saturating_sub(rest.len())
 }
 
-/// The error where what is left of a text is wrong, and no line is due.
+/// The error where this rest of a text is wrong, and no line is due.
 fn wrong_at(fault: RecordFault, text: &[u8], rest: &[u8]) -> RecordError
     ensures fault { result.fault ≡ fault }
     ensures offset { result.offset ≡ length text.now - length rest.now }
@@ -48,22 +49,24 @@ fn wrong_at(fault: RecordFault, text: &[u8], rest: &[u8]) -> RecordError
     }
 }
 
-/// How a record goes on behind so many entries, which are fewer than are wanted.
+/// How a record goes on after some entries, which are fewer than are wanted.
 enum Next<'a> {
-    /// By an entry of these lines, and this behind it.
+    /// By an entry of these lines, and this rest.
     Entry(&'a [u8], &'a [u8]),
     /// Not at all: it ends there, by its last lines or torn off.
     End,
 }
 
-/// How a record goes on behind so many entries, or what is wrong there.
-fn next_of<'a>(text: &[u8], rest: &'a [u8], entries: usize) -> Result<Next<'a>, RecordError>
-    ensures next { IfOk result (IsNext entries rest.entry.now) }
-    ensures wrong { IfErr result (IsWrongNext entries text.now rest.entry.now) }
+/// How a record goes on after this many entries, or what is wrong there, and the text from there
+/// on.
+fn next_of(rest: &[u8], entries: usize) -> Result<Next<'_>, (RecordFault, &[u8])>
+    ensures next { IfOk result (IsNext entries rest.now) }
+    ensures wrong { IfErr result (λ wrong. (limit : ℕ) → (m : Machine)
+        → IsWrongAt limit entries m rest.now wrong.0 wrong.1.now None) }
 {
     match read_front(rest, entries as u64) {
         Front::Torn => Ok(Next::End),
-        Front::Damaged => Err(wrong_at(RecordFault::Sum(entries), text, rest)),
+        Front::Damaged => Err((RecordFault::Sum(entries), rest)),
         Front::Whole(body, more) => {
             if !is_end(body, entries as u64) {
                 return Ok(Next::Entry(body, more));
@@ -71,21 +74,20 @@ fn next_of<'a>(text: &[u8], rest: &'a [u8], entries: usize) -> Result<Next<'a>, 
             if more.is_empty() {
                 return Ok(Next::End);
             }
-            Err(wrong_at(RecordFault::More, text, more))
+            Err((RecordFault::More, more))
         }
     }
 }
 
 /// Makes the calls of the entries of a record again, on a new book of this rack, whose port and
-/// wires never fail: so many of them as are wanted, or all. The text is what stands behind the
-/// record's head, by which the numbers of its sessions are below a limit. Where each sum is right,
-/// and each reply has the line that the record tells, the book has a legal history of these
-/// entries. The record may end by its last lines, or be torn off, so that no sum follows; else the
-/// error tells what is first wrong, and where. A call that settles a plan is made with a plan of
-/// the session's batch.
+/// wires never fail: the first ones, or all. The text is what follows the record's head, which says
+/// the number below which its sessions are (`session_limit` of `book_record`). If each sum is
+/// right, and each reply has the line of the record, the book has a legal history of these entries.
+/// The record may end by its last lines, or be torn off, so that no sum follows; else the error
+/// says what is first wrong, and where. A call that settles a plan is made with a plan of the
+/// session's batch.
 ///
-/// Planning and runs are given so many workers. It takes memory as the book does, and for a reply
-/// line.
+/// Planning and runs get these workers. It takes memory as the book does, and for a reply line.
 pub fn replay<'a, R: Threads + Sync>(
     rt: &R,
     alloc: Global,
@@ -113,11 +115,11 @@ pub fn replay<'a, R: Threads + Sync>(
     };
     let mut rest = text;
     for entries in 0..first.unwrap_or(usize::MAX) {
-        // The history is asked for only for its contract, which says that it is legal.
+        // Called only for its contract: the history is legal.
         book.log();
-        let (body, more) = match next_of(text, rest, entries) {
+        let (body, more) = match next_of(rest, entries) {
             Ok(Next::Entry(body, more)) => (body, more),
-            Err(error) => return Err(error),
+            Err((fault, there)) => return Err(wrong_at(fault, text, there)),
             Ok(Next::End) => {
                 return Ok(Remade {
                     book,

@@ -31,4 +31,4 @@ returns c =
     other_sum c.args.number c.args.text.now c.in-Some.lines.now found c.in-Some.rest.now front.0 front.1 front.2 (λ e. false≢true (sym c.if-eq.false ∙ same.1 (e ∙ ap hex8 (sym sum) ∙ sym due)))
 
 pub returns-in_default : goal.returns-in_default
-returns-in_default c = c.unsummed.ensures c.args.number
+returns-in_default c = c.without_sum.ensures c.args.number

@@ -1,9 +1,6 @@
-use Rattle.book_record.proofs.Fronts.{one_reading, each_front}
+use Rattle.book_record.proofs.Fronts.{each_front}
 use Rattle.book_record.proofs.OneReading.{end_is_no_entry}
 use Rattle.book_record.proofs.laws.fronts.Goals as goal
-
-pub returns-clause-one : goal.returns-clause-one
-returns-clause-one c = one_reading
 
 pub returns-clause-each : goal.returns-clause-each
 returns-clause-each c = each_front

@@ -1,4 +1,4 @@
-use Rattle.std.proofs.Common.{◌≡◌, ◌∙◌, ap, ◌++◌, List, ℕ, [], append_assoc, length, rules, arith}
+use Rattle.std.proofs.Common.{◌≡◌, ◌∙◌, ap, ◌++◌, List, ℕ, [], length, rules, arith}
 use Rattle.module_memory.specs.Images.{image_of}
 use Rattle.book_record.specs.Fronts.{last_lines}
 use Rattle.book_record.specs.Heads.{head_of}
@@ -15,4 +15,3 @@ returns c =
     let front : c.in_ok-text.text.items ≡ head = search rules in
     let last : c.as_bytes.result.now ≡ last_lines (length h) = c.as_bytes.ensures.bytes ∙ c.last_lines.ensures (length h) number in
     c.in_ok-extend_from_slice.ensures.items ∙ ap (λ (l : List ℕ). c.push_history.new.text.items ++ l) last ∙ ap (λ (l : List ℕ). l ++ last_lines (length h)) (c.in_ok-push_history.ensures ∙ ap (λ (l : List ℕ). l ++ texts 0 h) front)
-    ∙ append_assoc head (texts 0 h) (last_lines (length h))

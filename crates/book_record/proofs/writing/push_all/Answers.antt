@@ -1,4 +1,4 @@
-use Rattle.std.proofs.Common.{◌≡◌, ◌∙◌, ap, ◌++◌, List, ℕ, append_assoc, take}
+use Rattle.std.proofs.Common.{◌∙◌, ap, ◌++◌, List, ℕ, append_assoc, take}
 use Rattle.book_record.specs.RecordText.{entry_text, texts}
 use Rattle.book_record.proofs.Streams.{texts_more}
 use Rattle.book_record.proofs.writing.push_all.Goals as goal

@@ -1,4 +1,4 @@
-use Rattle.std.proofs.Common.{◌≡◌, ◌⊎◌, ℕ, Some, ap, length, refl, rules, subst, sym}
+use Rattle.std.proofs.Common.{◌≡◌, ◌⊎◌, ℕ, Some, ap, refl, rules, subst, sym}
 use Rattle.plan_answers.specs.Refusals.{Refuses}
 use Rattle.refusals.specs.declared.refusal.Refusal.{Refusal}
 use Rattle.record_replay.specs.ReplayAnswers.{IsTornSo, led, of_record, record_wrong}

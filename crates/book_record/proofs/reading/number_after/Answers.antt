@@ -3,7 +3,7 @@ use Rattle.batch.specs.Text.{number, line_feed, BeginsWithNoNumber}
 use Rattle.book_record.specs.Reading.{BeginsWithNoneNamed}
 use Rattle.line_words.proofs.Numbers.{behind_word}
 use Rattle.book_record.proofs.Behind.{still_none}
-use Rattle.book_record.proofs.reading.named.Goals as goal
+use Rattle.book_record.proofs.reading.number_after.Goals as goal
 
 pub returns-clause-none : goal.returns-clause-none
 returns-clause-none c =

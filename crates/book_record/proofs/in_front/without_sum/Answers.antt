@@ -1,7 +1,7 @@
 use Rattle.std.proofs.Common.{◌∙◌, sym}
 use Rattle.std.proofs.lemmas.Bool.{false≢true}
 use Rattle.book_record.proofs.Fronts.{other_bytes}
-use Rattle.book_record.proofs.in_front.unsummed.Goals as goal
+use Rattle.book_record.proofs.in_front.without_sum.Goals as goal
 
 pub returns-then-is_lined : goal.returns-then-is_lined
 returns-then-is_lined c n = (c.requires, c.is_lined.ensures.0 c.if-is_lined.true)
