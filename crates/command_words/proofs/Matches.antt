@@ -11,7 +11,7 @@ use Rattle.command_words.specs.declared.jobs.ArgumentsFault.{ArgumentsFault}
 use Rattle.command_words.specs.declared.jobs.ArgumentsFault.TheVariants.{Clap, NoMemory}
 use Rattle.command_words.specs.Jobs.{GivesRequest, IsFaultBy, IsFaultIn, IsMistake, IsTaken, MayBeDone, faults_of}
 use Rattle.command_words.specs.Program.{program}
-use Rattle.command_words.proofs.Wanted.{same_done}
+use Rattle.command_words.proofs.OneRequest.{one_found}
 
 -- the program is a command of which clap says what it matches
 pub program_is_simple : is_simple program ≡ true
@@ -52,4 +52,4 @@ mistaken kind error (Clap e) is help version by =
 pub declined : (arguments : List Text) (request : Request) (fault : ArgumentsFault) → IsTaken arguments → GivesRequest arguments request → IsMistake fault → (fault ≢ NoMemory → MayBeDone request.job → ⊥) → IsFaultIn arguments fault
 declined arguments request NoMemory taken gives mistake barred = tt
 declined arguments request (Clap error) taken gives mistake barred =
-    (mistake.0, inr (taken, mistake, λ other asks. barred (λ e. (let bad : Clap error ≡ NoMemory = e in cc)) (same_done (subcommand_of program arguments) other request asks.gives gives asks.job)))
+    (mistake.0, inr (taken, mistake, λ other asks. barred (λ e. (let bad : Clap error ≡ NoMemory = e in cc)) (subst (λ (r : Request). MayBeDone r.job) (one_found (subcommand_of program arguments) other request asks.gives gives) asks.job)))

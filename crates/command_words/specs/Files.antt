@@ -10,7 +10,7 @@ file_names files =
     record {
       image = bytes_of files.image;
       list = bytes_of files.list;
-      other = bytes_of files.other;
+      schedule = bytes_of files.schedule;
       wiring = bytes_of files.wiring;
       scripts = files.scripts.now;
     }

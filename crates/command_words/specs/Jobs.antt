@@ -16,10 +16,15 @@ use Rattle.plan_answers.specs.declared.source.Source.{Source}
 use Rattle.plan_answers.specs.declared.source.Source.TheVariants as source
 use Rattle.command_words.specs.declared.limits.TheConstants.{LAST_MODULE, MAX_CLIENTS, MAX_NUMBER}
 use Rattle.command_words.specs.declared.uses.Access.{Access}
-use Rattle.command_words.specs.declared.uses.Access.TheVariants.{Read, Write, Port}
+use Rattle.command_words.specs.declared.uses.Access.TheVariants.{Read, Write, Told, Port}
 use Rattle.command_words.specs.declared.uses.FileUse.{FileUse}
 use Rattle.command_words.specs.declared.jobs.Job.{Job}
-use Rattle.command_words.specs.declared.jobs.Job.TheVariants.{Plan, Check, Draw, Prices, Switch, Orders, Drive, C004, Direct, Apply, Run, Serve, Host, Talk, Replay}
+use Rattle.command_words.specs.declared.jobs.Job.TheVariants.{Texts, Ports, Sessions}
+use Rattle.command_words.specs.declared.jobs.TextJob.{TextJob}
+use Rattle.command_words.specs.declared.jobs.TextJob.TheVariants.{Plan, Check, Draw, Prices, Switch, Orders, Direct, Apply, Run, Replay}
+use Rattle.command_words.specs.declared.jobs.PortJob.TheVariants.{Drive, C004}
+use Rattle.command_words.specs.declared.jobs.SessionJob.{SessionJob}
+use Rattle.command_words.specs.declared.jobs.SessionJob.TheVariants.{Serve, Host, Talk}
 use Rattle.command_words.specs.declared.jobs.Request.{Request}
 use Rattle.command_words.specs.declared.jobs.RecordFile.{RecordFile}
 use Rattle.command_words.specs.declared.jobs.SharedRack.{SharedRack}
@@ -81,7 +86,7 @@ HasSource rows (source.Text file) =
     HasOption (codes "schedule") rows (Some file) × (IsGiven (codes "steady") rows → ⊥)
     × (IsGiven (codes "workers") rows → ⊥)
 
--- whether there are two switches: `--switches` excludes `--wiring`
+-- whether it is said that there are two switches: `--switches` excludes `--wiring`
 abbrev pub HasTwo : List Row → Bool → Type 0
 HasTwo rows false = IsGiven (codes "switches") rows → ⊥
 HasTwo rows true = IsGiven (codes "switches") rows × (IsGiven (codes "wiring") rows → ⊥)
@@ -106,60 +111,60 @@ pub record HasRack (rows : List Row) (rack : SharedRack) : Type 0 where
 
 -- the command of a job
 abbrev pub name_of : Job → CommandName
-name_of (Plan file planning workers) = name.Plan
-name_of (Check batch schedule) = name.Check
-name_of (Draw batch schedule settings) = name.Draw
-name_of (Prices batch schedule) = name.Draw
-name_of (Switch batch source wiring has_two workers) = name.Switch
-name_of (Orders batch source of_module workers) = name.Orders
-name_of (Drive batch port port_b source wiring first goes_on workers) = name.Drive
-name_of C004 = name.C004
-name_of (Direct moves) = name.Direct
-name_of (Apply shape batch image workers) = name.Apply
-name_of (Run shape batch source image workers) = name.Run
-name_of (Serve rack scripts workers) = name.Serve
-name_of (Host rack clients workers) = name.Host
-name_of (Talk rack) = name.Talk
-name_of (Replay shape recorded image first) = name.Replay
+name_of (Texts (Plan file planning workers)) = name.Plan
+name_of (Texts (Check batch schedule)) = name.Check
+name_of (Texts (Draw batch schedule settings)) = name.Draw
+name_of (Texts (Prices batch schedule)) = name.Draw
+name_of (Texts (Switch batch source wiring has_two workers)) = name.Switch
+name_of (Texts (Orders batch source of_module workers)) = name.Orders
+name_of (Ports (Drive batch port port_b source wiring first goes_on workers)) = name.Drive
+name_of (Ports C004) = name.C004
+name_of (Texts (Direct moves)) = name.Direct
+name_of (Texts (Apply shape batch image workers)) = name.Apply
+name_of (Texts (Run shape batch source image workers)) = name.Run
+name_of (Sessions rack (Serve scripts workers)) = name.Serve
+name_of (Sessions rack (Host clients workers)) = name.Host
+name_of (Sessions rack Talk) = name.Talk
+name_of (Texts (Replay shape recorded image first)) = name.Replay
 
 -- what the arguments and options of its command say of a job
 abbrev pub HasJob : List Row → Job → Type 0
-HasJob rows (Plan file planning workers) =
+HasJob rows (Texts (Plan file planning workers)) =
     HasText (codes "FILE") rows file × HasPlanning rows planning × HasWorkers rows workers
-HasJob rows (Check batch schedule) =
+HasJob rows (Texts (Check batch schedule)) =
     HasText (codes "BATCH") rows batch × HasText (codes "SCHEDULE") rows schedule
-HasJob rows (Draw batch schedule settings) =
+HasJob rows (Texts (Draw batch schedule settings)) =
     HasText (codes "BATCH") rows batch × HasText (codes "SCHEDULE") rows schedule
     × HasOption (codes "settings") rows settings × (IsGiven (codes "prices") rows → ⊥)
-HasJob rows (Prices batch schedule) =
+HasJob rows (Texts (Prices batch schedule)) =
     HasText (codes "BATCH") rows batch × HasText (codes "SCHEDULE") rows schedule
     × HasOption (codes "settings") rows None × IsGiven (codes "prices") rows
-HasJob rows (Switch batch source wiring has_two workers) =
+HasJob rows (Texts (Switch batch source wiring has_two workers)) =
     HasText (codes "BATCH") rows batch × HasSource rows source
     × HasOption (codes "wiring") rows wiring × HasTwo rows has_two × HasWorkers rows workers
-HasJob rows (Orders batch source of_module workers) =
+HasJob rows (Texts (Orders batch source of_module workers)) =
     HasText (codes "BATCH") rows batch × HasSource rows source
     × HasNumeral (codes "module") LAST_MODULE rows of_module × HasWorkers rows workers
-HasJob rows (Drive batch port port_b source wiring first goes_on workers) =
+HasJob rows (Ports (Drive batch port port_b source wiring first goes_on workers)) =
     HasText (codes "BATCH") rows batch × HasText (codes "PORT") rows port
     × HasOption (codes "PORT_B") rows port_b × HasSource rows source
     × HasOption (codes "wiring") rows wiring
     × HasNumeral (codes "from") MAX_NUMBER rows (Some first)
     × (IsTrue goes_on ↔ IsGiven (codes "go-on") rows) × HasWorkers rows workers
-HasJob rows C004 = ⊤
-HasJob rows (Direct moves) = HasText (codes "MOVES") rows moves
-HasJob rows (Apply shape batch image workers) =
+HasJob rows (Ports C004) = ⊤
+HasJob rows (Texts (Direct moves)) = HasText (codes "MOVES") rows moves
+HasJob rows (Texts (Apply shape batch image workers)) =
     HasText (codes "SHAPE") rows shape × HasText (codes "BATCH") rows batch
     × HasText (codes "IMAGE") rows image × HasWorkers rows workers
-HasJob rows (Run shape batch source image workers) =
+HasJob rows (Texts (Run shape batch source image workers)) =
     HasText (codes "SHAPE") rows shape × HasText (codes "BATCH") rows batch
     × HasSource rows source × HasOption (codes "image") rows image × HasWorkers rows workers
-HasJob rows (Serve rack scripts workers) =
+HasJob rows (Sessions rack (Serve scripts workers)) =
     HasRack rows rack × HasServed (codes "SCRIPT") rows scripts × HasWorkers rows workers
-HasJob rows (Host rack clients workers) =
+HasJob rows (Sessions rack (Host clients workers)) =
     HasRack rows rack × HasServed (codes "CLIENT") rows clients × HasWorkers rows workers
-HasJob rows (Talk rack) = HasRack rows rack
-HasJob rows (Replay shape recorded image first) =
+HasJob rows (Sessions rack Talk) = HasRack rows rack
+HasJob rows (Texts (Replay shape recorded image first)) =
     HasOption (codes "shape") rows shape × HasText (codes "RECORD") rows recorded
     × HasOption (codes "image") rows image × HasNumeral (codes "first") MAX_NUMBER rows first
 
@@ -193,8 +198,8 @@ IsTaken arguments = faults_of arguments ≡ []
 
 -- as many clients, or scripts, as a job has may be served
 abbrev pub IsWithinLimits : Job → Type 0
-IsWithinLimits (Serve rack scripts workers) = CanBeServed scripts
-IsWithinLimits (Host rack clients workers) = CanBeServed clients
+IsWithinLimits (Sessions rack (Serve scripts workers)) = CanBeServed scripts
+IsWithinLimits (Sessions rack (Host clients workers)) = CanBeServed clients
 IsWithinLimits job = ⊤
 
 -- the name of a file that stands for standard input
@@ -202,12 +207,12 @@ abbrev pub input_name : Text
 input_name = codes "-"
 
 -- What a job's files are for, in the order in which they are read: the image with whose words a rack
--- begins; the batch, the moves or the record; behind it the schedule, or the image of `apply`; the
--- wiring of a board; the scripts of sessions.
+-- begins; the batch, the moves or the record; the schedule, or the image of `apply`; the wiring of a
+-- board; the scripts of sessions.
 pub record Files (A : Type 0) : Type 0 where
   pub image : Option A
   pub list : Option A
-  pub other : Option A
+  pub schedule : Option A
   pub wiring : Option A
   pub scripts : List A
 
@@ -216,49 +221,64 @@ abbrev pub all_files : {A : Type 0} → Files A → List A
 all_files files =
     option_to_list files.image
     ++ (option_to_list files.list
-    ++ (option_to_list files.other ++ (option_to_list files.wiring ++ files.scripts)))
+    ++ (option_to_list files.schedule ++ (option_to_list files.wiring ++ files.scripts)))
 
--- one text, what may be read with it, and a wiring
-abbrev pub of_list : {A : Type 0} → A → Option A → Option A → Files A
-of_list text other wiring =
-    record { image = None; list = Some text; other = other; wiring = wiring; scripts = [] }
+-- one text, with an image, a schedule and a wiring
+abbrev pub of_list : {A : Type 0} → Option A → A → Option A → Option A → Files A
+of_list image text schedule wiring =
+    record { image = image; list = Some text; schedule = schedule; wiring = wiring; scripts = [] }
 
 -- scripts, on a rack with this image
 abbrev pub scripts_on : {A : Type 0} → Option A → List A → Files A
 scripts_on image scripts =
-    record { image = image; list = None; other = None; wiring = None; scripts = scripts }
+    record { image = image; list = None; schedule = None; wiring = None; scripts = scripts }
 
 -- the file that has a schedule, where one has
 abbrev pub schedule_in : Source Text → Option Text
 schedule_in (source.Plan planning) = None
 schedule_in (source.Text schedule) = Some schedule
 
+-- the scripts that a job of sessions serves
+abbrev pub scripts_of : SessionJob → List Text
+scripts_of (Serve scripts workers) = scripts
+scripts_of job = []
+
+-- it serves live clients, and no scripts
+abbrev pub serves_live : SessionJob → Bool
+serves_live (Serve scripts workers) = false
+serves_live job = true
+
+-- the names of the live clients that it serves
+abbrev pub live_names : SessionJob → List Text
+live_names (Host clients workers) = clients
+live_names job = []
+
 -- the names of the files that a job reads
+abbrev pub text_files : TextJob → Files Text
+text_files (Plan file planning workers) = of_list None file None None
+text_files (Check batch schedule) = of_list None batch (Some schedule) None
+text_files (Draw batch schedule settings) = of_list None batch (Some schedule) None
+text_files (Prices batch schedule) = of_list None batch (Some schedule) None
+text_files (Switch batch source wiring has_two workers) =
+    of_list None batch (schedule_in source) wiring
+text_files (Orders batch source of_module workers) = of_list None batch (schedule_in source) None
+text_files (Direct moves) = of_list None moves None None
+text_files (Apply shape batch image workers) = of_list None batch (Some image) None
+text_files (Run shape batch source image workers) = of_list image batch (schedule_in source) None
+text_files (Replay shape recorded image first) = of_list image recorded None None
+
 abbrev pub files_of : Job → Files Text
-files_of (Plan file planning workers) = of_list file None None
-files_of (Check batch schedule) = of_list batch (Some schedule) None
-files_of (Draw batch schedule settings) = of_list batch (Some schedule) None
-files_of (Prices batch schedule) = of_list batch (Some schedule) None
-files_of (Switch batch source wiring has_two workers) = of_list batch (schedule_in source) wiring
-files_of (Orders batch source of_module workers) = of_list batch (schedule_in source) None
-files_of (Drive batch port port_b source wiring first goes_on workers) =
-    of_list batch (schedule_in source) wiring
-files_of C004 = scripts_on None []
-files_of (Direct moves) = of_list moves None None
-files_of (Apply shape batch image workers) = of_list batch (Some image) None
-files_of (Run shape batch source image workers) =
-    record (of_list batch (schedule_in source) None) { image = image }
-files_of (Serve rack scripts workers) = scripts_on rack.image scripts
-files_of (Host rack clients workers) = scripts_on rack.image []
-files_of (Talk rack) = scripts_on rack.image []
-files_of (Replay shape recorded image first) =
-    record (of_list recorded None None) { image = image }
+files_of (Texts job) = text_files job
+files_of (Ports (Drive batch port port_b source wiring first goes_on workers)) =
+    of_list None batch (schedule_in source) wiring
+files_of (Ports C004) = scripts_on None []
+files_of (Sessions rack job) = scripts_on rack.image (scripts_of job)
 
 -- a job hears standard input itself: `c004`, `talk`, and `drive` where it waits for lines
 abbrev pub hears_input : Job → Bool
-hears_input (Drive batch port port_b source wiring first goes_on workers) = not goes_on
-hears_input C004 = true
-hears_input (Talk rack) = true
+hears_input (Ports (Drive batch port port_b source wiring first goes_on workers)) = not goes_on
+hears_input (Ports C004) = true
+hears_input (Sessions rack Talk) = true
 hears_input job = false
 
 -- a file of this name, of which a job makes this use
@@ -277,7 +297,7 @@ kept_files rack =
 -- a client's files: from the one it is heard, and by the other it is told
 abbrev pub client_files : Text → List FileUse
 client_files client =
-    file Read (client ++ codes ".in") ∷ file Write (client ++ codes ".out") ∷ []
+    file Read (client ++ codes ".in") ∷ file Told (client ++ codes ".out") ∷ []
 
 -- the files of a port: it is a device, or two pipes, to the switch and from it
 abbrev pub port_files : Text → List FileUse
@@ -286,11 +306,9 @@ port_files port =
 
 -- the files beside those of `files_of` that a job reads or writes
 abbrev pub files_beside : Job → List FileUse
-files_beside (Drive batch port port_b source wiring first goes_on workers) =
+files_beside (Ports (Drive batch port port_b source wiring first goes_on workers)) =
     flat_map port_files (port ∷ option_to_list port_b)
-files_beside (Serve rack scripts workers) = kept_files rack
-files_beside (Host rack clients workers) = kept_files rack ++ flat_map client_files clients
-files_beside (Talk rack) = kept_files rack
+files_beside (Sessions rack job) = kept_files rack ++ flat_map client_files (live_names job)
 files_beside job = []
 
 -- the names of all files that a job reads itself; where it hears standard input, that is the last
@@ -324,7 +342,7 @@ pub record HaveNames (files : List FileUse) : Type 0 where
 
 -- the names of a job's live clients; `host` has some
 abbrev pub clients_of : Job → List Text
-clients_of (Host rack clients workers) = clients
+clients_of (Sessions rack job) = live_names job
 clients_of job = []
 
 -- a client may have this name: it isn't empty, and stands in one line

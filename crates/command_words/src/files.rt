@@ -1,11 +1,12 @@
 //! The files that a job reads.
 
-ghost use Rattle.std.specs.Prelude.{◌≡◌};
+ghost use Rattle.std.specs.Prelude.{◌≡◌, is_some};
 ghost use Rattle.plan_answers.specs.Lent.{bytes_of};
-ghost use Rattle.command_words.specs.Jobs.{files_of, hears_input, of_list as files_by, schedule_in, scripts_on as script_files};
+ghost use Rattle.command_words.specs.Jobs.{files_of, hears_input, of_list as files_by, schedule_in, scripts_on as script_files, text_files};
 ghost use Rattle.command_words.specs.Files.{file_names};
 
-use crate::jobs::Job;
+use crate::jobs::{Job, PortJob, SessionJob, TextJob};
+use crate::role::Role;
 use crate::text::Text;
 use plan_answers::Source;
 
@@ -17,24 +18,34 @@ pub struct JobFiles<'a> {
     pub image: Option<&'a Text>,
     /// The batch, the moves or the record.
     pub list: Option<&'a Text>,
-    /// The schedule, or the image of `apply`.
-    pub other: Option<&'a Text>,
+    /// Which of these it is.
+    pub(crate) list_role: Role,
+    /// The schedule, or the image of `apply`, which comes after its batch.
+    pub schedule: Option<&'a Text>,
     /// The wiring of a board.
     pub wiring: Option<&'a Text>,
     /// The scripts of sessions.
     pub scripts: &'a [Text],
 }
 
-/// One text, what may be read with it, and a wiring.
-fn of_list<'a>(list: &'a Text, other: Option<&'a Text>, wiring: Option<&'a Text>) -> JobFiles<'a>
-    ensures { file_names result ≡ files_by list.now (bytes_of other.entry) (bytes_of wiring.entry) }
+/// A batch, moves or a record, with an image, a schedule and a wiring, where there are such.
+fn of_list<'a>(
+    list_role: Role,
+    image: Option<&'a Text>,
+    list: &'a Text,
+    schedule: Option<&'a Text>,
+    wiring: Option<&'a Text>,
+) -> JobFiles<'a>
+    ensures { file_names result ≡ files_by (bytes_of image.entry) list.now
+        (bytes_of schedule.entry) (bytes_of wiring.entry) }
 {
-    let list = Some(list);
     JobFiles {
-        list,
-        other,
+        image,
+        list: Some(list),
+        list_role,
+        schedule,
         wiring,
-        ..scripts_on(None, &[])
+        scripts: &[],
     }
 }
 
@@ -45,7 +56,8 @@ fn scripts_on<'a>(image: Option<&'a Text>, scripts: &'a [Text]) -> JobFiles<'a>
     JobFiles {
         image,
         list: None,
-        other: None,
+        list_role: Role::Batch,
+        schedule: None,
         wiring: None,
         scripts,
     }
@@ -61,65 +73,100 @@ fn schedule_of(source: &Source<Text>) -> Option<&Text>
     }
 }
 
+impl TextJob {
+    /// The files that it reads.
+    fn files(&self) -> JobFiles<'_>
+        ensures { file_names result ≡ text_files self.now }
+    {
+        match self {
+            TextJob::Plan { file, .. } => of_list(Role::Batch, None, file, None, None),
+            TextJob::Direct { moves } => of_list(Role::Moves, None, moves, None, None),
+            TextJob::Check { batch, schedule }
+            | TextJob::Draw {
+                batch,
+                schedule,
+                ..
+            }
+            | TextJob::Prices { batch, schedule } => {
+                of_list(Role::Batch, None, batch, Some(schedule), None)
+            }
+            TextJob::Switch {
+                batch,
+                source,
+                wiring,
+                ..
+            } => of_list(
+                Role::Batch,
+                None,
+                batch,
+                schedule_of(source),
+                wiring.as_ref(),
+            ),
+            TextJob::Orders { batch, source, .. } => {
+                of_list(Role::Batch, None, batch, schedule_of(source), None)
+            }
+            TextJob::Apply { batch, image, .. } => {
+                of_list(Role::Batch, None, batch, Some(image), None)
+            }
+            TextJob::Run {
+                batch,
+                source,
+                image,
+                ..
+            } => of_list(
+                Role::Batch,
+                image.as_ref(),
+                batch,
+                schedule_of(source),
+                None,
+            ),
+            TextJob::Replay {
+                recorded,
+                image,
+                ..
+            } => of_list(Role::Record, image.as_ref(), recorded, None, None),
+        }
+    }
+}
+
 impl Job {
     /// The files that it reads.
     pub fn files(&self) -> JobFiles<'_>
         ensures { file_names result ≡ files_of self.now }
     {
         match self {
-            Job::Plan { file: list, .. } | Job::Direct { moves: list } => of_list(list, None, None),
-            Job::Check { batch, schedule }
-            | Job::Draw {
+            Job::Texts(job) => job.files(),
+            Job::Ports(
+                PortJob::Drive {
+                    batch,
+                    source,
+                    wiring,
+                    ..
+                },
+            ) => of_list(
+                Role::Batch,
+                None,
                 batch,
-                schedule,
-                ..
-            }
-            | Job::Prices { batch, schedule } => of_list(batch, Some(schedule), None),
-            Job::Switch {
-                batch,
-                source,
-                wiring,
-                ..
-            }
-            | Job::Drive {
-                batch,
-                source,
-                wiring,
-                ..
-            } => of_list(batch, schedule_of(source), wiring.as_ref()),
-            Job::Orders { batch, source, .. } => of_list(batch, schedule_of(source), None),
-            Job::Apply { batch, image, .. } => of_list(batch, Some(image), None),
-            Job::Run {
-                batch,
-                source,
-                image,
-                ..
-            } => JobFiles {
-                image: image.as_ref(),
-                ..of_list(batch, schedule_of(source), None)
-            },
-            Job::Replay {
-                recorded,
-                image,
-                ..
-            } => JobFiles {
-                image: image.as_ref(),
-                ..of_list(recorded, None, None)
-            },
-            Job::Serve { rack, scripts, .. } => scripts_on(rack.image.as_ref(), scripts.as_slice()),
-            Job::Host { rack, .. } | Job::Talk { rack } => scripts_on(rack.image.as_ref(), &[]),
-            Job::C004 => scripts_on(None, &[]),
+                schedule_of(source),
+                wiring.as_ref(),
+            ),
+            Job::Ports(PortJob::C004) => scripts_on(None, &[]),
+            Job::Sessions { rack, job } => scripts_on(rack.image.as_ref(), job.scripts()),
         }
     }
 
-    /// Whether it hears standard input itself.
-    pub fn hears_input(&self) -> bool
-        ensures { result ≡ hears_input self.now }
+    /// What it hears from standard input itself, where it does.
+    pub(crate) fn heard(&self) -> Option<Role>
+        ensures { is_some result ≡ hears_input self.now }
     {
         match self {
-            Job::Drive { goes_on, .. } => !*goes_on,
-            Job::C004 | Job::Talk { .. } => true,
-            _ => false,
+            Job::Ports(PortJob::Drive { goes_on: false, .. }) => Some(Role::GoOn),
+            Job::Ports(PortJob::C004) => Some(Role::Commands),
+            Job::Sessions {
+                job: SessionJob::Talk,
+                ..
+            } => Some(Role::Talk),
+            _ => None,
         }
     }
 }

@@ -211,9 +211,9 @@ have orders, from the first on:
   setting K link L send copy B       or those that were copied aside;
   setting K link L receive block B   or words that come become those of block B
 Words are sent in their order. A module uses link 0 and link 3 at the same time
-in a setting: one after the other it may wait for itself. A setting begins when
-all modules are done with the one before. In the end each block is where BATCH
-wants it.
+in a setting: if it used one after the other, it could wait for itself. A
+setting begins when all modules are done with the one before. In the end each
+block is where BATCH wants it.
 With --module the answer has one module alone.
 
 Else it is the first of these that is wrong. The files are read first:
@@ -278,8 +278,9 @@ Else nothing is sent, and the answer is the first of these that is wrong:
   refused port a          PORT can't be opened, or is a plain file with something
                           in it; `port b`: PORT_B
 
-Status: 0 all settings were set, 1 they weren't, it was refused, or there was no
-memory, 2 the arguments are wrong, 3 standard output couldn't be written.",
+Status: 0 all settings, or those from K on, were set, 1 they weren't, it was
+refused, or there was no memory, 2 the arguments are wrong, 3 standard output
+couldn't be written.",
 };
 
 /// What help says of `c004`.
@@ -511,7 +512,7 @@ mean:
 --record writes each call with its reply, in the form that
 `exchange replay --help` shows, before the reply is sent. FILE has to be empty,
 or not to be there, or to have no more than the head; else it stays as it was. A
-host that is killed leaves all that was answered, and no line `end`. With
+host that is killed leaves all that was answered, and no line `end E`. With
 --resume FILE may have what such a host left, if that had the same SHAPE, image
 and clients: its calls are made again, what isn't whole is cut off, and the
 clients go on where it ends, each in the session of its place. With --sync a
@@ -576,15 +577,16 @@ An entry is
   S CALL   what session S, from 0, asked: a line of a session, as
            `exchange serve --help` shows, and after `batch N` its N lines
   REPLY    the line that answered it
-After the head, after each entry and after the line `end E` comes a line
-  =SUM     the sum of these lines, as eight hexadecimal digits: it is at first
-           the number of entries before them, for the head 0; each byte makes
-           SUM * 2891336453 + BYTE of it, modulo 2 ^ 32
 But `plan ID` is two calls: `fetch ID`, which is answered by `fetched`, and
 `settle ID`, which is answered as `plan ID` is. `progress` and `bye` are none,
 nor is a line that was refused for its form, or a batch that a session couldn't
 hand in. A record may have a batch that names more than the rack has: its
 `run ID` is answered by `refused shape`.
+
+After the head, after each entry and after the line `end E` comes a line
+  =SUM     the sum of these lines, as eight hexadecimal digits. It begins as the
+           number of entries before them, which is 0 for the head. Each of their
+           bytes then makes it SUM * 2891336453 + BYTE, modulo 2 ^ 32
 
 The calls are made again, one after the other, on a rack whose words are at
 first 0, or those of the image where there is one. Each reply is compared with

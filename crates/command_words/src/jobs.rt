@@ -3,7 +3,7 @@
 ghost use Rattle.std.specs.Prelude.{◌≡◌};
 ghost use Rattle.command_words.specs.declared.jobs.ArgumentsFault.TheVariants.{NoMemory};
 ghost use Rattle.plan_answers.specs.Lent.{bytes_of};
-ghost use Rattle.command_words.specs.Jobs.{IsFaultBy, recorded_in};
+ghost use Rattle.command_words.specs.Jobs.{IsFaultBy, live_names, recorded_in, scripts_of, serves_live};
 
 use crate::text::Text;
 use crate::text_list::TextList;
@@ -16,6 +16,17 @@ use thiserror::Error;
 /// What the program is to do.
 #[derive(Drop)]
 pub enum Job {
+    /// Answer what files say.
+    Texts(TextJob),
+    /// Send a switch its commands, or be one.
+    Ports(PortJob),
+    /// Serve sessions on one exchange with this rack.
+    Sessions { rack: SharedRack, job: SessionJob },
+}
+
+/// A job whose files are all that it asks for.
+#[derive(Drop)]
+pub enum TextJob {
     /// Plan the batch of a file, with so many workers.
     Plan {
         file: Text,
@@ -58,22 +69,6 @@ pub enum Job {
         module: Option<usize>,
         workers: WorkerCount,
     },
-    /// Set the switches behind a port, or behind two, or the one switch of a board whose wiring a
-    /// file has, as each setting of a schedule of the batch of a file calls for, from the first one
-    /// on, and behind each wait for a line of standard input, unless it goes on. So many workers
-    /// plan.
-    Drive {
-        batch: Text,
-        port: Text,
-        port_b: Option<Text>,
-        source: Source<Text>,
-        wiring: Option<Text>,
-        first: usize,
-        goes_on: bool,
-        workers: WorkerCount,
-    },
-    /// Be a switch whose configuration link is standard input and output.
-    C004,
     /// Give the moves of a file directions that need the fewest settings.
     Direct {
         moves: Text,
@@ -95,24 +90,6 @@ pub enum Job {
         image: Option<Text>,
         workers: WorkerCount,
     },
-    /// Serve the scripts of 1 to [`MAX_CLIENTS`](crate::MAX_CLIENTS) files, side by side on one
-    /// exchange with this rack, with so many workers.
-    Serve {
-        rack: SharedRack,
-        scripts: TextList,
-        workers: WorkerCount,
-    },
-    /// Serve 1 to [`MAX_CLIENTS`](crate::MAX_CLIENTS) clients of these names while they last, each
-    /// through two files of its own, on one exchange with this rack, with so many workers.
-    Host {
-        rack: SharedRack,
-        clients: TextList,
-        workers: WorkerCount,
-    },
-    /// Serve one client, which is standard input and output, on an exchange with this rack.
-    Talk {
-        rack: SharedRack,
-    },
     /// Make the calls of the record of a file again, or its first ones, so many, on a rack that may
     /// begin with the words of an image's file, and compare each reply. Where a shape is given it
     /// has to be the record's.
@@ -122,6 +99,46 @@ pub enum Job {
         image: Option<Text>,
         first: Option<usize>,
     },
+}
+
+/// A job of a switch.
+#[derive(Drop)]
+pub enum PortJob {
+    /// Set the switches behind a port, or behind two, or the one switch of a board whose wiring a
+    /// file has, as each setting of a schedule of the batch of a file calls for, from the first one
+    /// on, and behind each wait for a line of standard input, unless it goes on. So many workers
+    /// plan.
+    Drive {
+        batch: Text,
+        port: Text,
+        port_b: Option<Text>,
+        source: Source<Text>,
+        wiring: Option<Text>,
+        first: usize,
+        goes_on: bool,
+        workers: WorkerCount,
+    },
+    /// Be a switch whose configuration link is standard input and output.
+    C004,
+}
+
+/// A job that has sessions, which may wait for each other and for clients.
+#[derive(Drop)]
+pub enum SessionJob {
+    /// Serve the scripts of 1 to [`MAX_CLIENTS`](crate::MAX_CLIENTS) files side by side, with so many
+    /// workers.
+    Serve {
+        scripts: TextList,
+        workers: WorkerCount,
+    },
+    /// Serve 1 to [`MAX_CLIENTS`](crate::MAX_CLIENTS) clients of these names while they last, each
+    /// through two files of its own, with so many workers.
+    Host {
+        clients: TextList,
+        workers: WorkerCount,
+    },
+    /// Serve one client, which is standard input and output.
+    Talk,
 }
 
 /// The rack of an exchange.
@@ -155,6 +172,38 @@ impl SharedRack {
         ensures { bytes_of result ≡ recorded_in self.now }
     {
         self.record_out.as_ref().map(|record| &record.name)
+    }
+}
+
+impl SessionJob {
+    /// The scripts that it serves.
+    pub fn scripts(&self) -> &[Text]
+        ensures { result.now ≡ scripts_of self.now }
+    {
+        match self {
+            SessionJob::Serve { scripts, .. } => scripts.as_slice(),
+            SessionJob::Host { .. } | SessionJob::Talk => &[],
+        }
+    }
+
+    /// Whether it serves live clients, and no scripts.
+    pub fn serves_live(&self) -> bool
+        ensures { result ≡ serves_live self.now }
+    {
+        match self {
+            SessionJob::Serve { .. } => false,
+            SessionJob::Host { .. } | SessionJob::Talk => true,
+        }
+    }
+
+    /// The names of the live clients that it serves; `talk` has none.
+    pub fn clients(&self) -> &[Text]
+        ensures { result.now ≡ live_names self.now }
+    {
+        match self {
+            SessionJob::Host { clients, .. } => clients.as_slice(),
+            SessionJob::Serve { .. } | SessionJob::Talk => &[],
+        }
     }
 }
 

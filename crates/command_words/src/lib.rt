@@ -23,7 +23,9 @@ mod text_list;
 mod uses;
 
 pub use files::JobFiles;
-pub use jobs::{ArgumentsFault, Job, RecordFile, Request, SharedRack};
+pub use jobs::{
+    ArgumentsFault, Job, PortJob, RecordFile, Request, SessionJob, SharedRack, TextJob,
+};
 pub use limits::MAX_CLIENTS;
 pub use reading::read_arguments;
 pub use role::{Role, RoleClash, ToldRole};

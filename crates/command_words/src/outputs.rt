@@ -110,7 +110,7 @@ pub(crate) fn names_clients(job: &Job) -> bool
     ensures { IsTrue result ↔ All IsClientName (clients_of job.now) }
 {
     match job {
-        Job::Host { clients, .. } => are_client_names(clients.as_slice()),
-        _ => true,
+        Job::Sessions { job, .. } => are_client_names(job.clients()),
+        Job::Texts(_) | Job::Ports(_) => true,
     }
 }

@@ -8,7 +8,9 @@ ghost use Rattle.command_words.specs.Jobs.{AskFor, HasNumeral, HasOption, HasPla
 use crate::commands::CommandName;
 use crate::faults::{Lack, fault_of};
 use crate::grammar::matches_of;
-use crate::jobs::{ArgumentsFault, Job, RecordFile, Request, SharedRack};
+use crate::jobs::{
+    ArgumentsFault, Job, PortJob, RecordFile, Request, SessionJob, SharedRack, TextJob,
+};
 use crate::limits::{LAST_MODULE, MAX_CLIENTS, MAX_NUMBER};
 use crate::outputs::{first_misnamed, names_clients};
 use crate::text::Text;
@@ -145,21 +147,21 @@ fn rack_of(alloc: Global, matches: &ArgMatches<'_>) -> Result<SharedRack, Lack>
 fn plan_of(alloc: Global, found: &ArgMatches<'_>) -> Result<Job, Lack>
     ensures { IsReading (IsJob CommandName.Plan (rows_in found.now)) result }
 {
-    Ok(Job::Plan {
+    Ok(Job::Texts(TextJob::Plan {
         file: text_of(alloc, found, "FILE")?,
         planning: planning_of(found)?,
         workers: workers_of(found)?,
-    })
+    }))
 }
 
 /// The job of `check`.
 fn check_of(alloc: Global, found: &ArgMatches<'_>) -> Result<Job, Lack>
     ensures { IsReading (IsJob CommandName.Check (rows_in found.now)) result }
 {
-    Ok(Job::Check {
+    Ok(Job::Texts(TextJob::Check {
         batch: text_of(alloc, found, "BATCH")?,
         schedule: text_of(alloc, found, "SCHEDULE")?,
-    })
+    }))
 }
 
 /// The job of `draw --prices`.
@@ -169,10 +171,10 @@ fn prices_of(alloc: Global, found: &ArgMatches<'_>) -> Result<Job, Lack>
 {
     match option_of(alloc, found, "settings")? {
         Some(_) => Err(Lack::Picture),
-        None => Ok(Job::Prices {
+        None => Ok(Job::Texts(TextJob::Prices {
             batch: text_of(alloc, found, "BATCH")?,
             schedule: text_of(alloc, found, "SCHEDULE")?,
-        }),
+        })),
     }
 }
 
@@ -183,11 +185,11 @@ fn draw_of(alloc: Global, found: &ArgMatches<'_>) -> Result<Job, Lack>
     if is_given(found, "prices") {
         return prices_of(alloc, found);
     }
-    Ok(Job::Draw {
+    Ok(Job::Texts(TextJob::Draw {
         batch: text_of(alloc, found, "BATCH")?,
         schedule: text_of(alloc, found, "SCHEDULE")?,
         settings: option_of(alloc, found, "settings")?,
-    })
+    }))
 }
 
 /// Whether there are two switches.
@@ -205,32 +207,32 @@ fn has_two(matches: &ArgMatches<'_>) -> Result<bool, Lack>
 fn switch_of(alloc: Global, found: &ArgMatches<'_>) -> Result<Job, Lack>
     ensures { IsReading (IsJob CommandName.Switch (rows_in found.now)) result }
 {
-    Ok(Job::Switch {
+    Ok(Job::Texts(TextJob::Switch {
         batch: text_of(alloc, found, "BATCH")?,
         source: source_of(alloc, found)?,
         wiring: option_of(alloc, found, "wiring")?,
         has_two: has_two(found)?,
         workers: workers_of(found)?,
-    })
+    }))
 }
 
 /// The job of `orders`.
 fn orders_of(alloc: Global, found: &ArgMatches<'_>) -> Result<Job, Lack>
     ensures { IsReading (IsJob CommandName.Orders (rows_in found.now)) result }
 {
-    Ok(Job::Orders {
+    Ok(Job::Texts(TextJob::Orders {
         batch: text_of(alloc, found, "BATCH")?,
         source: source_of(alloc, found)?,
         module: number_of(found, "module", LAST_MODULE)?,
         workers: workers_of(found)?,
-    })
+    }))
 }
 
 /// The job of `drive`.
 fn drive_of(alloc: Global, found: &ArgMatches<'_>) -> Result<Job, Lack>
     ensures { IsReading (IsJob CommandName.Drive (rows_in found.now)) result }
 {
-    Ok(Job::Drive {
+    Ok(Job::Ports(PortJob::Drive {
         batch: text_of(alloc, found, "BATCH")?,
         port: text_of(alloc, found, "PORT")?,
         port_b: option_of(alloc, found, "PORT_B")?,
@@ -239,51 +241,53 @@ fn drive_of(alloc: Global, found: &ArgMatches<'_>) -> Result<Job, Lack>
         first: first_of(found)?,
         goes_on: is_given(found, "go-on"),
         workers: workers_of(found)?,
-    })
+    }))
 }
 
 /// The job of `direct`.
 fn direct_of(alloc: Global, found: &ArgMatches<'_>) -> Result<Job, Lack>
     ensures { IsReading (IsJob CommandName.Direct (rows_in found.now)) result }
 {
-    Ok(Job::Direct {
+    Ok(Job::Texts(TextJob::Direct {
         moves: text_of(alloc, found, "MOVES")?,
-    })
+    }))
 }
 
 /// The job of `apply`.
 fn apply_of(alloc: Global, found: &ArgMatches<'_>) -> Result<Job, Lack>
     ensures { IsReading (IsJob CommandName.Apply (rows_in found.now)) result }
 {
-    Ok(Job::Apply {
+    Ok(Job::Texts(TextJob::Apply {
         shape: text_of(alloc, found, "SHAPE")?,
         batch: text_of(alloc, found, "BATCH")?,
         image: text_of(alloc, found, "IMAGE")?,
         workers: workers_of(found)?,
-    })
+    }))
 }
 
 /// The job of `run`.
 fn run_of(alloc: Global, found: &ArgMatches<'_>) -> Result<Job, Lack>
     ensures { IsReading (IsJob CommandName.Run (rows_in found.now)) result }
 {
-    Ok(Job::Run {
+    Ok(Job::Texts(TextJob::Run {
         shape: text_of(alloc, found, "SHAPE")?,
         batch: text_of(alloc, found, "BATCH")?,
         source: source_of(alloc, found)?,
         image: option_of(alloc, found, "image")?,
         workers: workers_of(found)?,
-    })
+    }))
 }
 
 /// The job of `serve`.
 fn serve_of(alloc: Global, found: &ArgMatches<'_>) -> Result<Job, Lack>
     ensures { IsReading (IsJob CommandName.Serve (rows_in found.now)) result }
 {
-    Ok(Job::Serve {
+    Ok(Job::Sessions {
         rack: rack_of(alloc, found)?,
-        scripts: served_of(alloc, found, "SCRIPT")?,
-        workers: workers_of(found)?,
+        job: SessionJob::Serve {
+            scripts: served_of(alloc, found, "SCRIPT")?,
+            workers: workers_of(found)?,
+        },
     })
 }
 
@@ -291,10 +295,12 @@ fn serve_of(alloc: Global, found: &ArgMatches<'_>) -> Result<Job, Lack>
 fn host_of(alloc: Global, found: &ArgMatches<'_>) -> Result<Job, Lack>
     ensures { IsReading (IsJob CommandName.Host (rows_in found.now)) result }
 {
-    Ok(Job::Host {
+    Ok(Job::Sessions {
         rack: rack_of(alloc, found)?,
-        clients: served_of(alloc, found, "CLIENT")?,
-        workers: workers_of(found)?,
+        job: SessionJob::Host {
+            clients: served_of(alloc, found, "CLIENT")?,
+            workers: workers_of(found)?,
+        },
     })
 }
 
@@ -302,8 +308,9 @@ fn host_of(alloc: Global, found: &ArgMatches<'_>) -> Result<Job, Lack>
 fn talk_of(alloc: Global, found: &ArgMatches<'_>) -> Result<Job, Lack>
     ensures { IsReading (IsJob CommandName.Talk (rows_in found.now)) result }
 {
-    Ok(Job::Talk {
+    Ok(Job::Sessions {
         rack: rack_of(alloc, found)?,
+        job: SessionJob::Talk,
     })
 }
 
@@ -311,12 +318,12 @@ fn talk_of(alloc: Global, found: &ArgMatches<'_>) -> Result<Job, Lack>
 fn replay_of(alloc: Global, found: &ArgMatches<'_>) -> Result<Job, Lack>
     ensures { IsReading (IsJob CommandName.Replay (rows_in found.now)) result }
 {
-    Ok(Job::Replay {
+    Ok(Job::Texts(TextJob::Replay {
         shape: option_of(alloc, found, "shape")?,
         recorded: text_of(alloc, found, "RECORD")?,
         image: option_of(alloc, found, "image")?,
         first: number_of(found, "first", MAX_NUMBER)?,
-    })
+    }))
 }
 
 /// The job of a command by its matches.
@@ -330,7 +337,7 @@ fn job_of(alloc: Global, name: CommandName, found: &ArgMatches<'_>) -> Result<Jo
         CommandName::Switch => switch_of(alloc, found),
         CommandName::Orders => orders_of(alloc, found),
         CommandName::Drive => drive_of(alloc, found),
-        CommandName::C004 => Ok(Job::C004),
+        CommandName::C004 => Ok(Job::Ports(PortJob::C004)),
         CommandName::Direct => direct_of(alloc, found),
         CommandName::Apply => apply_of(alloc, found),
         CommandName::Run => run_of(alloc, found),

@@ -22,6 +22,8 @@ pub enum Role {
     Talk,
     /// The lines that let a drive go on.
     GoOn,
+    /// What goes to a switch that the program is.
+    Commands,
     /// What a client says.
     Said,
     /// What a client is told.
@@ -58,6 +60,7 @@ impl Display for Role {
             Role::Script => "a script",
             Role::Talk => "what `talk` hears",
             Role::GoOn => "what `drive` hears without `--go-on`",
+            Role::Commands => "what `c004` hears",
             Role::Said => "a client's input",
             Role::Told => "a client's output",
             Role::Port => "a port",

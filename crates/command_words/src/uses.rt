@@ -4,7 +4,7 @@ ghost use Rattle.std.specs.Prelude.{◌≡◌, ◌↔◌, ◌++◌, ◌∷◌, [
 ghost use Rattle.plan_answers.specs.Lent.{bytes_of};
 ghost use Rattle.command_words.specs.Jobs.{Exclude, client_files, file, files_beside, files_read, kept_files, port_files, file_uses as the_uses};
 
-use crate::jobs::{Job, SharedRack};
+use crate::jobs::{Job, PortJob, SessionJob, SharedRack, TextJob};
 use crate::role::{Role, ToldRole};
 use crate::text::Text;
 use std::alloc::{AllocError, Global};
@@ -15,8 +15,10 @@ use std::marker::Model;
 pub enum Access {
     /// It reads it.
     Read,
-    /// It writes it.
+    /// It writes a record or an image there.
     Write,
+    /// It writes there what a client is told.
+    Told,
     /// It sends a switch its commands there.
     Port,
 }
@@ -123,14 +125,18 @@ impl Gathered {
     {
         let files = job.files();
         self.add_option(Access::Read, Role::Image, files.image)?;
-        self.add_option(Access::Read, list_role(job), files.list)?;
-        self.add_option(Access::Read, other_role(job), files.other)?;
+        self.add_option(Access::Read, files.list_role, files.list)?;
+        let beside = match job {
+            Job::Texts(TextJob::Apply { .. }) => Role::Image,
+            _ => Role::Schedule,
+        };
+        self.add_option(Access::Read, beside, files.schedule)?;
         self.add_option(Access::Read, Role::Wiring, files.wiring)?;
         self.read_all(files.scripts)?;
-        if !job.hears_input() {
-            return Ok(());
+        match job.heard() {
+            Some(role) => self.add(Access::Read, role, "-"),
+            None => Ok(()),
         }
-        self.add(Access::Read, heard_role(job), "-")
     }
 
     /// The files for the record of sessions and for the image that they leave.
@@ -147,7 +153,7 @@ impl Gathered {
     {
         for client in clients {
             self.add_ending(Access::Read, Role::Said, client, ".in")?;
-            self.add_ending(Access::Write, Role::Told, client, ".out")?;
+            self.add_ending(Access::Told, Role::Told, client, ".out")?;
         }
         Ok(())
     }
@@ -170,42 +176,16 @@ impl Gathered {
         ensures { OnOk result (self.new ≡ self.old ++ files_beside job.now) }
     {
         match job {
-            Job::Serve { rack, .. } | Job::Talk { rack } => self.add_kept(rack),
-            Job::Host { rack, clients, .. } => {
-                self.add_kept(rack)?;
-                self.add_clients(clients.as_slice())
-            }
-            Job::Drive { port, port_b, .. } => {
+            Job::Ports(PortJob::Drive { port, port_b, .. }) => {
                 self.add_port(Some(port))?;
                 self.add_port(port_b.as_ref())
             }
-            _ => Ok(()),
+            Job::Sessions { rack, job } => {
+                self.add_kept(rack)?;
+                self.add_clients(job.clients())
+            }
+            Job::Texts(_) | Job::Ports(PortJob::C004) => Ok(()),
         }
-    }
-}
-
-/// What a job's batch, moves or record are.
-fn list_role(job: &Job) -> Role {
-    match job {
-        Job::Direct { .. } => Role::Moves,
-        Job::Replay { .. } => Role::Record,
-        _ => Role::Batch,
-    }
-}
-
-/// What a job reads behind them.
-fn other_role(job: &Job) -> Role {
-    match job {
-        Job::Apply { .. } => Role::Image,
-        _ => Role::Schedule,
-    }
-}
-
-/// What a job hears from standard input.
-fn heard_role(job: &Job) -> Role {
-    match job {
-        Job::Drive { .. } => Role::GoOn,
-        _ => Role::Talk,
     }
 }
 

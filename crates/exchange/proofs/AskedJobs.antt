@@ -1,14 +1,17 @@
 -- How a job ends that the arguments ask for.
-use Rattle.std.proofs.Common.{◌≡◌, ◌≤◌, ◌∙◌, ◌++◌, ℕ, zero, suc, List, [], Option, inl, inr, ◌⊎◌, refl, sym, subst, ap, Result, Ok, Err, arith}
+use Rattle.std.proofs.Common.{◌≡◌, ◌≤◌, ◌∙◌, ◌++◌, ℕ, zero, suc, Bool, List, [], Option, inl, inr, ◌⊎◌, refl, sym, subst, ap, Result, Ok, Err, arith}
 use Rattle.std.specs.Prelude.{IfOk, ⊤}
 use Rattle.std.specs.Io.KnownBytes.{Appends}
 use Rattle.clap.specs.Words.{Text}
-use Rattle.command_words.specs.Jobs.{AskFor, Files, file_uses, files_of}
+use Rattle.command_words.specs.Jobs.{AskFor, Files, file_uses, text_files}
 use Rattle.command_words.specs.declared.jobs.ArgumentsFault.TheVariants.{Clap, NoMemory}
 use Rattle.command_words.specs.declared.jobs.Job.{Job}
-use Rattle.command_words.specs.declared.jobs.Job.TheVariants.{C004, Drive, Host, Serve, Talk}
+use Rattle.command_words.specs.declared.jobs.Job.TheVariants.{Sessions, Texts}
+use Rattle.command_words.specs.declared.jobs.SessionJob.{SessionJob}
+use Rattle.command_words.specs.declared.jobs.SharedRack.{SharedRack}
+use Rattle.command_words.specs.declared.jobs.TextJob.{TextJob}
 use Rattle.command_words.specs.declared.jobs.Request.{Request}
-use Rattle.exchange.proofs.OneRequest.{no_fault, one_request}
+use Rattle.command_words.proofs.OneRequest.{no_fault, one_request}
 use Rattle.drive_answers.specs.Ways.{Ways}
 use Rattle.exchange.proofs.EndStatuses.{IsEither, gave_up, of_response}
 use Rattle.exchange.proofs.HeldFiles.{held_files}
@@ -17,7 +20,7 @@ use Rattle.exchange.specs.Ends.{IsCutFor, IsDone, IsDoneInPart, IsEndForArgument
 use Rattle.exchange.specs.Keeping.{AreKeptBut}
 use Rattle.exchange.specs.Promises.{AreHeld, AsksFor, HasGivenUp, HoldsText, KeepsApart, Run, front_of, run_of}
 use Rattle.exchange.proofs.KeepsEach.{HasDone}
-use Rattle.exchange.specs.Responses.{Given, HasSessions, IsAnswerTo, IsJobAnswer, IsJobCut, IsOfTexts, IsResponseTo, IsTextAnswer, IsToldCut, Named, Response}
+use Rattle.exchange.specs.Responses.{Given, IsJobAnswer, IsJobCut, IsResponseTo, IsTextAnswer, IsToldCut, Named, Response}
 use Rattle.exchange.specs.declared.limits.TheConstants.{MISUSED, UNWRITTEN}
 use Rattle.named_files.specs.Apart.{AreSeenApart}
 use Rattle.named_files.specs.Contents.{Holding}
@@ -66,10 +69,10 @@ end_of e request asks (Err (Clap error), has, wrong, ends) = absurd (no_fault e.
 -- ---- jobs whose files are all that they ask for
 
 -- such an answer was printed of what the files hold, under its status
-pub record IsAnswered (run : Run) (job : Job) : Type 0 where
+pub record IsAnswered (run : Run) (job : TextJob) : Type 0 where
   pub files : Files (List ℕ)
   pub printed : Printed
-  pub held : AreHeld run.holds (files_of job) files
+  pub held : AreHeld run.holds (text_files job) files
   pub answer : IsTextAnswer job files printed
   pub prints : run.prints printed.text
   pub status : run.status ≡ printed.status
@@ -78,50 +81,37 @@ pub record IsAnswered (run : Run) (job : Job) : Type 0 where
 abbrev pub IsGivenUp : Run → Type 0
 IsGivenUp run = (why : Unanswered) × run.prints (unanswered why).text × (run.status ≡ REFUSED)
 
-text_answer : (holds : Holding) (job : Job) (files : Files (List ℕ)) (given : Given) (response : Response) → IsOfTexts job → IsAnswerTo holds job files given response → (response.told ≡ []) × IsTextAnswer job files response.end
-text_answer holds (Drive batch port port_b source wiring first goes_on workers) files given response texts is = absurd texts
-text_answer holds C004 files given response texts is = absurd texts
-text_answer holds (Serve rack scripts workers) files given response texts is = absurd texts
-text_answer holds (Host rack clients workers) files given response texts is = absurd texts
-text_answer holds (Talk rack) files given response texts is = absurd texts
-text_answer holds job files given response texts is = (is.1.0, is.1.1)
+answered : (e : Ended) (job : TextJob) (quiet : Bool) (response : Response) → AskFor e.words (record { job = Texts job; is_quiet = quiet }) → IsJobAnswer e.named.holds e.given (Texts job) response → IsPrinted e.streams.out_before e.streams.out_after (printed_of response) e.code
+    → IsAnswered (ended_run e) job
+answered e job quiet response asks is printed = record {
+  files = is.0;
+  printed = response.end;
+  held = held_files e.words (record { job = Texts job; is_quiet = quiet }) e.named.holds e.given.input is.0 is.1 asks is.2;
+  answer = is.3.4;
+  prints = subst (λ (told : List ℕ). Appends e.streams.out_before e.streams.out_after (told ++ response.end.text)) is.3.3 printed.text;
+  status = printed.status;
+}
 
-answered : (e : Ended) (request : Request) (response : Response) → AskFor e.words request → IsOfTexts request.job → IsJobAnswer e.named.holds e.given request.job response → IsPrinted e.streams.out_before e.streams.out_after (printed_of response) e.code
-    → IsAnswered (ended_run e) request.job
-answered e request response asks texts is printed =
-    let answer = text_answer e.named.holds request.job is.0 _ response texts is.3 in
-    record {
-      files = is.0;
-      printed = response.end;
-      held = held_files e.words request e.named.holds e.given.input is.0 is.1 asks is.2;
-      answer = answer.1;
-      prints = subst (λ (told : List ℕ). Appends e.streams.out_before e.streams.out_after (told ++ response.end.text)) answer.0 printed.text;
-      status = printed.status;
-    }
-
-done_text : (e : Ended) (request : Request) → AskFor e.words request → IsOfTexts request.job → IsDone e.named e.keeps e.given request e.streams e.code
-    → IsAnswered (ended_run e) request.job ⊎ IsGivenUp (ended_run e)
-done_text e request asks texts (response, inl comes, kept, printed, noted) = inl (answered e request response asks texts comes.1 printed)
-done_text e request asks texts (response, inr none, kept, printed, noted) =
+done_text : (e : Ended) (job : TextJob) (quiet : Bool) → AskFor e.words (record { job = Texts job; is_quiet = quiet }) → IsDone e.named e.keeps e.given (record { job = Texts job; is_quiet = quiet }) e.streams e.code
+    → IsAnswered (ended_run e) job ⊎ IsGivenUp (ended_run e)
+done_text e job quiet asks (response, inl comes, kept, printed, noted) = inl (answered e job quiet response asks comes.1 printed)
+done_text e job quiet asks (response, inr none, kept, printed, noted) =
     let text = subst (λ (told : List ℕ). Appends e.streams.out_before e.streams.out_after (told ++ response.end.text)) none.0 printed.text in
     inr (none.4.0, subst (λ (p : Printed). Appends e.streams.out_before e.streams.out_after p.text) none.4.1 text, printed.status ∙ ap (λ (p : Printed). p.status) none.4.1)
 
-text_end : (e : Ended) (request : Request) → AskFor e.words request → IsOfTexts request.job → EndsSo e → IsAnswered (ended_run e) request.job ⊎ IsGivenUp (ended_run e)
-text_end e request asks texts ends = elim (end_of e request asks ends) [
-  | inl is ↦ done_text e request asks texts is
+-- whatever job is asked for that needs but texts, it was answered, or there was no answer
+abbrev pub Answers : Run → Type 0
+Answers run = (job : TextJob) → AsksFor run (Texts job) → IsAnswered run job ⊎ IsGivenUp run
+
+pub text_ends : (e : Ended) → EndsSo e → Answers (ended_run e)
+text_ends e ends job asks = elim (end_of e (record { job = Texts job; is_quiet = asks.0 }) asks.1 ends) [
+  | inl is ↦ done_text e job asks.0 asks.1 is
   | inr gives_up ↦ inr (why.NoMemory, gives_up.1.text, gives_up.1.status)
 ]
 
--- whatever job is asked for that needs but texts, it was answered, or there was no answer
-abbrev pub Answers : Run → Type 0
-Answers run = (job : Job) → IsOfTexts job → AsksFor run job → IsAnswered run job ⊎ IsGivenUp run
-
-pub text_ends : (e : Ended) → EndsSo e → Answers (ended_run e)
-text_ends e ends job texts asks = text_end e (record { job = job; is_quiet = asks.0 }) asks.1 texts ends
-
 -- the answer, where it ends with status 0
-pub text_done : (run : Run) (job : Job) → IsOfTexts job → Answers run → HasDone run job → IsAnswered run job
-text_done run job texts all done = elim (all job texts done.0) [
+pub text_done : (run : Run) (job : TextJob) → Answers run → HasDone run (Texts job) → IsAnswered run job
+text_done run job all done = elim (all job done.0) [
   | inl is ↦ is
   | inr gives_up ↦ absurd (never_done run.status gives_up.2 done.1)
 ]
@@ -135,13 +125,13 @@ KeepsSo holds received receipts ends lost job response = AreKeptBut holds receiv
 -- what comes of such a job that is asked for, of which this may be lost
 abbrev pub SessionsCome : {C : Type 0} → Named → Given → (C → Closed) → Receipts C → List SessionEnd → (Lost → Type 0) → Run → Type 0
 SessionsCome named given received receipts ends may run =
-    (request : Request) → HasSessions request.job → AskFor run.words request
-    → ((lost : Lost) × may lost × Comes named given received receipts ends run request.job lost) ⊎ HasNone receipts ends run
+    (rack : SharedRack) (job : SessionJob) → AsksFor run (Sessions rack job)
+    → ((lost : Lost) × may lost × Comes named given received receipts ends run (Sessions rack job) lost) ⊎ HasNone receipts ends run
 
 pub sessions_come : {C : Type 0} (e : Ended) (received : C → Closed) (receipts : Receipts C) (ends : List SessionEnd) → ((job : Job) (response : Response) → e.keeps job response → KeepsSo e.named.holds received receipts ends lost_none job response) → (e.none → (receipts ≡ none_opened) × (ends ≡ []))
     → EndsSo e → SessionsCome e.named e.given received receipts ends (λ lost. lost ≡ lost_none) (ended_run e)
-sessions_come {C} e received receipts ends so none_so is request has asks = elim (end_of e request asks is) [
-  | inl done ↦ inl (lost_none, refl, record { response = done.0; is = done.1; kept = (so request.job done.0 done.2).0; ends_are = (so request.job done.0 done.2).1; prints = done.3.text; status = done.3.status })
+sessions_come {C} e received receipts ends so none_so is rack job asks = elim (end_of e (record { job = Sessions rack job; is_quiet = asks.0 }) asks.1 is) [
+  | inl done ↦ inl (lost_none, refl, record { response = done.0; is = done.1; kept = (so (Sessions rack job) done.0 done.2).0; ends_are = (so (Sessions rack job) done.0 done.2).1; prints = done.3.text; status = done.3.status })
   | inr gives_up ↦ inr (record { prints = gives_up.1.text; status = gives_up.1.status; recorded = ap (λ (r : Receipts C). r.recorded) (none_so gives_up.0).0; image = ap (λ (r : Receipts C). r.image) (none_so gives_up.0).0; none_ended = (none_so gives_up.0).1 })
 ]
 
@@ -212,19 +202,6 @@ asks_nothing e is request asks misused = elim (end_of e request asks is) [
 
 -- ---- where not all could be written
 
--- no line stands before such an answer
-none_cut : (job : Job) (files : Files (List ℕ)) (input : Option (List ℕ)) (was opens : Ways) (told : List ℕ) → IsOfTexts job → IsToldCut job files input was opens told → ⊥
-none_cut (Drive batch port port_b source wiring first goes_on workers) files input was opens told texts cut = texts
-none_cut C004 files input was opens told texts cut = texts
-none_cut job files input was opens told texts cut = cut
-
--- nor before that of sessions
-no_session_cut : (job : Job) (files : Files (List ℕ)) (input : Option (List ℕ)) (was opens : Ways) (told : List ℕ) → HasSessions job → IsToldCut job files input was opens told → ⊥
-no_session_cut (Serve rack scripts workers) files input was opens told has cut = cut
-no_session_cut (Host rack clients workers) files input was opens told has cut = cut
-no_session_cut (Talk rack) files input was opens told has cut = cut
-no_session_cut job files input was opens told has cut = has
-
 module _ {C : Type 0} (received : C → Closed) (receipts : Receipts C) (ends : List SessionEnd) (words : List Text) (named : Named) (left : Leaving) (given : Given) (before after : Option (List ℕ))
     (so : (job : Job) (response : Response) → left.keeps job response → (lost : Lost) × KeepsSo named.holds received receipts ends lost job response) (none_so : left.none → (receipts ≡ none_opened) × (ends ≡ []))
     (ports_so : (job : Job) (response : Response) → left.keeps job response → response.ports ≡ left.ports) (none_ports : left.none → left.ports ≡ given.ports) where
@@ -235,45 +212,44 @@ module _ {C : Type 0} (received : C → Closed) (receipts : Receipts C) (ends : 
   record CutSo (request : Request) : Type 0 where
     status : ℕ
     either : IsEither status
-    texts : IsOfTexts request.job → AskFor words request → IsAnswered (Front status) request.job ⊎ IsGivenUp (Front status)
-    sessions : HasSessions request.job → ((lost : Lost) × ⊤ × Comes named given received receipts ends (Front status) request.job lost) ⊎ HasNone receipts ends (Front status)
+    texts : (job : TextJob) → request.job ≡ Texts job → AskFor words (record { job = Texts job; is_quiet = request.is_quiet }) → IsAnswered (Front status) job ⊎ IsGivenUp (Front status)
+    sessions : (rack : SharedRack) (job : SessionJob) → request.job ≡ Sessions rack job → (lost : Lost) × ⊤ × Comes named given received receipts ends (Front status) request.job lost
     comes : JobComes named given left.ports (Front status) request.job
 
   in_part : (request : Request) → IsDoneInPart named left given request before after → CutSo request
   in_part request (inl (response, inl comes, keeping, part)) = record {
     status = response.end.status;
     either = of_response named given request.job response (inl comes);
-    texts = λ texts asks.
-        let is = comes.1 in
-        let answer = text_answer named.holds request.job is.0 _ response texts is.3 in
+    texts = λ job same asks.
+        let is = subst (λ (j : Job). IsJobAnswer named.holds given j response) same comes.1 in
         inl (record {
           files = is.0;
           printed = response.end;
-          held = held_files words request named.holds given.input is.0 is.1 asks is.2;
-          answer = answer.1;
-          prints = subst (λ (told : List ℕ). IsToldInPart before after (told ++ response.end.text)) answer.0 part;
+          held = held_files words (record { job = Texts job; is_quiet = request.is_quiet }) named.holds given.input is.0 is.1 asks is.2;
+          answer = is.3.4;
+          prints = subst (λ (told : List ℕ). IsToldInPart before after (told ++ response.end.text)) is.3.3 part;
           status = refl;
         });
-    sessions = λ has. let kept = so request.job response keeping in inl (kept.0, tt, record { response = response; is = inl comes; kept = kept.1.0; ends_are = kept.1.1; prints = part; status = refl });
+    sessions = λ rack job same. let kept = so request.job response keeping in (kept.0, tt, record { response = response; is = inl comes; kept = kept.1.0; ends_are = kept.1.1; prints = part; status = refl });
     comes = inl (record { response = response; is = inl comes; ports_are = ports_so request.job response keeping; prints = part; status = refl });
   }
   in_part request (inl (response, inr none, keeping, part)) = record {
     status = response.end.status;
     either = of_response named given request.job response (inr none);
-    texts = λ texts asks.
+    texts = λ job same asks.
         inr (
           none.4.0,
           subst (λ (p : Printed). IsToldInPart before after p.text) none.4.1 (subst (λ (told : List ℕ). IsToldInPart before after (told ++ response.end.text)) none.0 part),
           ap (λ (p : Printed). p.status) none.4.1,
         );
-    sessions = λ has. let kept = so request.job response keeping in inl (kept.0, tt, record { response = response; is = inr none; kept = kept.1.0; ends_are = kept.1.1; prints = part; status = refl });
+    sessions = λ rack job same. let kept = so request.job response keeping in (kept.0, tt, record { response = response; is = inr none; kept = kept.1.0; ends_are = kept.1.1; prints = part; status = refl });
     comes = inl (record { response = response; is = inr none; ports_are = ports_so request.job response keeping; prints = part; status = refl });
   }
   in_part request (inr (told, cut, keeping, part)) = record {
     status = REFUSED;
     either = inr refl;
-    texts = λ texts asks. absurd (none_cut request.job cut.0 cut.1 _ _ told texts cut.3);
-    sessions = λ has. absurd (no_session_cut request.job cut.0 cut.1 _ _ told has cut.3);
+    texts = λ job same asks. absurd (subst (λ (j : Job). IsToldCut j cut.0 cut.1 given.ports left.ports told) same cut.3);
+    sessions = λ rack job same. absurd (subst (λ (j : Job). IsToldCut j cut.0 cut.1 given.ports left.ports told) same cut.3);
     comes = inr (inl (record { told = told; ends = left.ends; cut = cut; prints = λ missing. (told, missing, refl, part); status = refl }));
   }
 
@@ -291,26 +267,26 @@ module _ {C : Type 0} (received : C → Closed) (receipts : Receipts C) (ends : 
       record {
         status = part.status;
         either = part.either;
-        texts = λ job texts asks.
-            let same : other ≡ record { job = job; is_quiet = asks.0 } = one_request words other (record { job = job; is_quiet = asks.0 }) has asks.1 in
-            subst (λ (r : Request). IsAnswered (Front part.status) r.job ⊎ IsGivenUp (Front part.status)) same (part.texts (subst (λ (r : Request). IsOfTexts r.job) (sym same) texts) has);
-        sessions = λ request sessions asks.
-            let same = one_request words other request has asks in
-            subst (λ (r : Request). ((lost : Lost) × ⊤ × Comes named given received receipts ends (Front part.status) r.job lost) ⊎ HasNone receipts ends (Front part.status)) same (part.sessions (subst (λ (r : Request). HasSessions r.job) (sym same) sessions));
+        texts = λ job asks.
+            let same : other ≡ record { job = Texts job; is_quiet = asks.0 } = one_request words other (record { job = Texts job; is_quiet = asks.0 }) has asks.1 in
+            part.texts job (ap (λ (r : Request). r.job) same) (subst (λ (r : Request). AskFor words (record { job = Texts job; is_quiet = r.is_quiet })) (sym same) asks.1);
+        sessions = λ rack job asks.
+            let same : other.job ≡ Sessions rack job = ap (λ (r : Request). r.job) (one_request words other (record { job = Sessions rack job; is_quiet = asks.0 }) has asks.1) in
+            inl (subst (λ (j : Job). (lost : Lost) × ⊤ × Comes named given received receipts ends (Front part.status) j lost) same (part.sessions rack job same));
         jobs = λ request asks. subst (λ (r : Request). JobComes named given left.ports (Front part.status) r.job) (one_request words other request has asks) part.comes;
       }
   cut_ends (Err NoMemory, has, wrong, none) = record {
     status = REFUSED;
     either = inr refl;
-    texts = λ job texts asks. inr (why.NoMemory, none.1, refl);
-    sessions = λ request sessions asks. inr (record { prints = none.1; status = refl; recorded = ap (λ (r : Receipts C). r.recorded) (none_so none.0).0; image = ap (λ (r : Receipts C). r.image) (none_so none.0).0; none_ended = (none_so none.0).1 });
+    texts = λ job asks. inr (why.NoMemory, none.1, refl);
+    sessions = λ rack job asks. inr (record { prints = none.1; status = refl; recorded = ap (λ (r : Receipts C). r.recorded) (none_so none.0).0; image = ap (λ (r : Receipts C). r.image) (none_so none.0).0; none_ended = (none_so none.0).1 });
     jobs = λ request asks. inr (inr (record { prints = none.1; status = refl; ports_are = none_ports none.0 }));
   }
   cut_ends (Err (Clap error), has, wrong, none) = record {
     status = REFUSED;
     either = inr refl;
-    texts = λ job texts asks. absurd (no_fault words (record { job = job; is_quiet = asks.0 }) error asks.1 wrong);
-    sessions = λ request sessions asks. absurd (no_fault words request error asks wrong);
+    texts = λ job asks. absurd (no_fault words (record { job = Texts job; is_quiet = asks.0 }) error asks.1 wrong);
+    sessions = λ rack job asks. absurd (no_fault words (record { job = Sessions rack job; is_quiet = asks.0 }) error asks.1 wrong);
     jobs = λ request asks. absurd (no_fault words request error asks wrong);
   }
 

@@ -5,7 +5,11 @@ use Rattle.board_wiring.specs.declared.board.Board.{Board}
 use Rattle.clap.specs.Words.{Text}
 use Rattle.command_words.specs.Jobs.{Files}
 use Rattle.command_words.specs.declared.jobs.Job.{Job}
-use Rattle.command_words.specs.declared.jobs.Job.TheVariants.{Apply, C004, Check, Direct, Draw, Drive, Host, Orders, Plan, Prices, Replay, Run as RunJob, Serve, Switch as SwitchJob, Talk}
+use Rattle.command_words.specs.declared.jobs.Job.TheVariants.{Ports as OverPorts, Sessions, Texts}
+use Rattle.command_words.specs.declared.jobs.TextJob.{TextJob}
+use Rattle.command_words.specs.declared.jobs.TextJob.TheVariants.{Apply, Check, Direct, Draw, Orders, Plan, Prices, Replay, Run as RunJob, Switch as SwitchJob}
+use Rattle.command_words.specs.declared.jobs.PortJob.TheVariants.{C004, Drive}
+use Rattle.command_words.specs.declared.jobs.SessionJob.TheVariants.{Host, Serve, Talk}
 use Rattle.command_words.specs.declared.jobs.SharedRack.{SharedRack}
 use Rattle.drive_answers.specs.Answers as drives
 use Rattle.drive_answers.specs.Answers.{IsDriveAnswer}
@@ -57,7 +61,7 @@ switched_on from has_two text None printed is = switched from has_two text None 
 switched_on from has_two text (Some wiring) printed (switching.wired board denotes is) = switched from has_two text (Some board) printed is
 switched_on from has_two text (Some wiring) printed (switching.miswired fault first line) = inr line.status
 
-pub of_text : (job : Job) (texts : Files (List ℕ)) (printed : Printed) → IsTextAnswer job texts printed → IsEither printed.status
+pub of_text : (job : TextJob) (texts : Files (List ℕ)) (printed : Printed) → IsTextAnswer job texts printed → IsEither printed.status
 of_text (Plan file planning workers) texts printed (answers.planned batch denotes plan done) = inl done
 of_text (Plan file planning workers) texts printed (answers.refused fault first line) = inr line.status
 of_text (Check batch schedule) texts printed (answers.shortest count shown text done) = inl done
@@ -66,7 +70,7 @@ of_text (Draw batch schedule chosen) texts printed (least, drawn d so_many done)
 of_text (Draw batch schedule chosen) texts printed (least, undrawn refusal wrong line) = inr line.status
 of_text (Prices batch schedule) texts printed (priced transfers settings read says done) = inl done
 of_text (Prices batch schedule) texts printed (unpriced refusal wrong line) = inr line.status
-of_text (SwitchJob batch scheduled wiring has_two workers) texts printed is = switched_on (source_in scheduled (text_in texts.other)) has_two (text_in texts.list) texts.wiring printed is
+of_text (SwitchJob batch scheduled wiring has_two workers) texts printed is = switched_on (source_in scheduled (text_in texts.schedule)) has_two (text_in texts.list) texts.wiring printed is
 of_text (Orders batch scheduled only workers) texts printed (ordering.ordered transfers settings is (ordering.told apart told done)) = inl done
 of_text (Orders batch scheduled only workers) texts printed (ordering.ordered transfers settings is (ordering.overlap i j first line)) = inr line.status
 of_text (Orders batch scheduled only workers) texts printed (ordering.wrong refusal wrong line) = inr line.status
@@ -81,7 +85,6 @@ of_text (Replay shape recorded image first) texts printed (told, torn, replayed 
 of_text (Replay shape recorded image first) texts printed (told, torn, no_head none begins refuses) = inr refuses.refuses.1.status
 of_text (Replay shape recorded image first) texts printed (told, torn, rack_wrong text refusal of wrong refuses so none) = inr refuses.1.status
 of_text (Replay shape recorded image first) texts printed (told, torn, other_head text opening due of on other line refuses) = inr refuses.refuses.1.status
-of_text job texts printed is = absurd is
 
 failed : (any : Bool) (status : ℕ) → status ≡ status_at any → IsEither status
 failed true status is = inr is
@@ -112,13 +115,13 @@ replied input told printed (came, dropped, after, switch, consumed, went, none, 
 replied input told printed (came, dropped, after, switch, consumed, went, none, inr refuses) = inr refuses
 
 of_answer : (holds : Holding) (job : Job) (files : Files (List ℕ)) (given : Given) (response : Response) → IsAnswerTo holds job files given response → IsEither response.end.status
-of_answer holds (Serve rack scripts workers) files given response (none, served opening of (sessions, are, book, is_left, few, closing)) = failed _ response.end.status closing.status
-of_answer holds (Serve rack scripts workers) files given response (none, refused refusal wrong refuses gone) = inr refuses.1.status
-of_answer holds (Host rack clients workers) files given response is = hosted holds rack clients files.image (given.clients clients) response.ends response.end response.left is.1
-of_answer holds (Talk rack) files given response is = talked holds rack files.image given.input is.0 response.told response.end response.left is.1
-of_answer holds (Drive batch port port_b from wiring first goes_on workers) files given response is = driven _ _ _ _ _ _ _ _ _ _ response.end is.1.1
-of_answer holds C004 files given response is = replied given.input response.told response.end is.1
-of_answer holds job files given response is = of_text job files response.end is.1.1
+of_answer holds (Texts job) files given response is = of_text job files response.end is.4
+of_answer holds (OverPorts (Drive batch port port_b from wiring first goes_on workers)) files given response is = driven _ _ _ _ _ _ _ _ _ _ response.end is.2.1
+of_answer holds (OverPorts C004) files given response is = replied given.input response.told response.end is.2.0
+of_answer holds (Sessions rack (Serve scripts workers)) files given response (same, (none, served opening of (sessions, are, book, is_left, few, closing), ended)) = failed _ response.end.status closing.status
+of_answer holds (Sessions rack (Serve scripts workers)) files given response (same, (none, refused refusal wrong refuses gone, ended)) = inr refuses.1.status
+of_answer holds (Sessions rack (Host clients workers)) files given response is = hosted holds rack clients files.image (given.clients clients) response.ends response.end response.left is.1.1
+of_answer holds (Sessions rack Talk) files given response is = talked holds rack files.image given.input is.1.0 response.told response.end response.left is.1.1
 
 pub of_response : (named : Named) (given : Given) (job : Job) (response : Response) → IsResponseTo named given job response → IsEither response.end.status
 of_response named given job response (inl comes) = let is = comes.1 in of_answer named.holds job is.0 _ response is.3

@@ -73,20 +73,20 @@ held_contents : (holds : Holding) (input : Option (List ℕ)) (names : Files Tex
 held_contents holds input names files rest more a reads =
     let i = option_to_list names.image in
     let l = option_to_list names.list in
-    let o = option_to_list names.other in
+    let o = option_to_list names.schedule in
     let w = option_to_list names.wiring in
     let s = names.scripts in
     let flat : Alone (i ++ (l ++ (o ++ (w ++ (s ++ more))))) = (rw (append_assoc i (l ++ (o ++ (w ++ s))) more, append_assoc l (o ++ (w ++ s)) more, append_assoc o (w ++ s) more, append_assoc w s more) at a) in
     let image = reads.4 in
     let list = reads_append holds input reads.0 reads.1 i l (option_to_list files.image) (option_to_list files.list) image reads.5 in
-    let other = reads_append holds input reads.1 reads.2 (i ++ l) o (option_to_list files.image ++ option_to_list files.list) (option_to_list files.other) list reads.6 in
-    let wiring = reads_append holds input reads.2 reads.3 ((i ++ l) ++ o) w ((option_to_list files.image ++ option_to_list files.list) ++ option_to_list files.other) (option_to_list files.wiring) other reads.7 in
+    let schedule = reads_append holds input reads.1 reads.2 (i ++ l) o (option_to_list files.image ++ option_to_list files.list) (option_to_list files.schedule) list reads.6 in
+    let wiring = reads_append holds input reads.2 reads.3 ((i ++ l) ++ o) w ((option_to_list files.image ++ option_to_list files.list) ++ option_to_list files.schedule) (option_to_list files.wiring) schedule reads.7 in
     record {
       image = held_option holds input [] [] input names.image files.image reads.0 (l ++ (o ++ (w ++ (s ++ more)))) flat refl image;
       list = held_option holds input i (option_to_list files.image) reads.0 names.list files.list reads.1 (o ++ (w ++ (s ++ more))) flat image reads.5;
-      other = held_option holds input (i ++ l) (option_to_list files.image ++ option_to_list files.list) reads.1 names.other files.other reads.2 (w ++ (s ++ more)) (rw (append_assoc i l (o ++ (w ++ (s ++ more)))) flat) list reads.6;
-      wiring = held_option holds input ((i ++ l) ++ o) ((option_to_list files.image ++ option_to_list files.list) ++ option_to_list files.other) reads.2 names.wiring files.wiring reads.3 (s ++ more) (rw (append_assoc (i ++ l) o (w ++ (s ++ more)), append_assoc i l (o ++ (w ++ (s ++ more)))) flat) other reads.7;
-      scripts = held_all holds input (((i ++ l) ++ o) ++ w) (((option_to_list files.image ++ option_to_list files.list) ++ option_to_list files.other) ++ option_to_list files.wiring) reads.3 s files.scripts rest more
+      schedule = held_option holds input (i ++ l) (option_to_list files.image ++ option_to_list files.list) reads.1 names.schedule files.schedule reads.2 (w ++ (s ++ more)) (rw (append_assoc i l (o ++ (w ++ (s ++ more)))) flat) list reads.6;
+      wiring = held_option holds input ((i ++ l) ++ o) ((option_to_list files.image ++ option_to_list files.list) ++ option_to_list files.schedule) reads.2 names.wiring files.wiring reads.3 (s ++ more) (rw (append_assoc (i ++ l) o (w ++ (s ++ more)), append_assoc i l (o ++ (w ++ (s ++ more)))) flat) schedule reads.7;
+      scripts = held_all holds input (((i ++ l) ++ o) ++ w) (((option_to_list files.image ++ option_to_list files.list) ++ option_to_list files.schedule) ++ option_to_list files.wiring) reads.3 s files.scripts rest more
           (rw (append_assoc ((i ++ l) ++ o) w (s ++ more), append_assoc (i ++ l) o (w ++ (s ++ more)), append_assoc i l (o ++ (w ++ (s ++ more)))) flat) wiring reads.8;
     }
 

@@ -1,12 +1,16 @@
 -- What is promised of each command, one by one. The clause has one table of these.
 use Rattle.std.specs.Prelude.{◌≡◌, ◌≢◌, ℕ, Bool, List, [], ◌⊎◌, Option, ⊤}
 use Rattle.clap.specs.Words.{Text}
+use Rattle.command_words.specs.Jobs.{recorded_in}
 use Rattle.command_words.specs.declared.jobs.Job.{Job}
-use Rattle.command_words.specs.declared.jobs.Job.TheVariants.{Apply, C004, Check, Direct, Draw, Drive, Host, Orders, Plan, Prices, Replay, Run as RunJob, Serve, Switch as SwitchJob, Talk}
+use Rattle.command_words.specs.declared.jobs.Job.TheVariants.{Texts, Ports as OverPorts, Sessions}
+use Rattle.command_words.specs.declared.jobs.TextJob.{TextJob}
+use Rattle.command_words.specs.declared.jobs.TextJob.TheVariants.{Apply, Check, Direct, Draw, Orders, Plan, Prices, Replay, Run as RunJob, Switch as SwitchJob}
+use Rattle.command_words.specs.declared.jobs.PortJob.TheVariants.{C004, Drive}
+use Rattle.command_words.specs.declared.jobs.SessionJob.TheVariants.{Host, Serve, Talk}
 use Rattle.plan_answers.specs.declared.limits.TheConstants.{DONE, REFUSED}
 use Rattle.plan_answers.specs.declared.source.Planning.{Planning}
 use Rattle.plan_answers.specs.declared.source.Source.{Source}
-use Rattle.plan_answers.specs.declared.source.Source.TheVariants as source
 use Rattle.refusals.specs.declared.refusal.Refusal.TheVariants.{Threads}
 use Rattle.drive_answers.specs.Ways.{Ways}
 use Rattle.command_words.specs.declared.jobs.SharedRack.{SharedRack}
@@ -19,50 +23,50 @@ HasDone run job = AsksFor run job × (run.status ≡ DONE)
 
 abbrev pub KeepsPlans : Run → Type 0
 KeepsPlans run =
-    (file : Text) (planning : Planning) (workers : ℕ) → HasDone run (Plan file planning workers)
+    (file : Text) (planning : Planning) (workers : ℕ) → HasDone run (Texts (Plan file planning workers))
     → HasPlanned run file planning
 
 abbrev pub KeepsChecks : Run → Type 0
 KeepsChecks run =
-    (batch schedule : Text) → HasDone run (Check batch schedule) → HasChecked run batch schedule
+    (batch schedule : Text) → HasDone run (Texts (Check batch schedule)) → HasChecked run batch schedule
 
 abbrev pub KeepsRuns : Run → Type 0
 KeepsRuns run =
     (shape batch : Text) (scheduled : Source Text) (image : Option Text) (workers : ℕ)
-    → HasDone run (RunJob shape batch scheduled image workers)
+    → HasDone run (Texts (RunJob shape batch scheduled image workers))
     → HasRunBatch run shape batch scheduled image
 
 abbrev pub KeepsImages : Run → Type 0
 KeepsImages run =
-    (shape batch image : Text) (workers : ℕ) → HasDone run (Apply shape batch image workers)
+    (shape batch image : Text) (workers : ℕ) → HasDone run (Texts (Apply shape batch image workers))
     → HasApplied run shape batch image
 
 abbrev pub KeepsDirections : Run → Type 0
-KeepsDirections run = (moves : Text) → HasDone run (Direct moves) → HasDirected run moves
+KeepsDirections run = (moves : Text) → HasDone run (Texts (Direct moves)) → HasDirected run moves
 
 abbrev pub KeepsSwitches : Run → Type 0
 KeepsSwitches run =
     (batch : Text) (scheduled : Source Text) (wiring : Option Text) (has_two : Bool) (workers : ℕ)
-    → HasDone run (SwitchJob batch scheduled wiring has_two workers)
+    → HasDone run (Texts (SwitchJob batch scheduled wiring has_two workers))
     → HasSwitched run batch scheduled wiring has_two
 
 abbrev pub KeepsOrders : Run → Type 0
 KeepsOrders run =
     (batch : Text) (scheduled : Source Text) (only : Option ℕ) (workers : ℕ)
-    → HasDone run (Orders batch scheduled only workers) → HasOrdered run batch scheduled only
+    → HasDone run (Texts (Orders batch scheduled only workers)) → HasOrdered run batch scheduled only
 
 abbrev pub KeepsDrives : Run → Ways → Ways → Type 0
 KeepsDrives run before after =
     (batch port : Text) (port_b : Option Text) (scheduled : Source Text) (wiring : Option Text)
     (first : ℕ) (goes_on : Bool) (workers : ℕ)
-    → HasDone run (Drive batch port port_b scheduled wiring first goes_on workers)
+    → HasDone run (OverPorts (Drive batch port port_b scheduled wiring first goes_on workers))
     → HasDriven run (ports_of port port_b before after) batch scheduled wiring first
 
 abbrev pub KeepsStops : Run → Ways → Ways → Type 0
 KeepsStops run before after =
     (batch port : Text) (port_b : Option Text) (scheduled : Source Text) (wiring : Option Text)
     (first : ℕ) (goes_on : Bool) (workers : ℕ)
-    → let job = Drive batch port port_b scheduled wiring first goes_on workers in
+    → let job = OverPorts (Drive batch port port_b scheduled wiring first goes_on workers) in
     let ports = ports_of port port_b before after in
     AsksFor run job → run.status ≡ REFUSED
     → HasStopped run ports batch scheduled wiring first
@@ -70,64 +74,56 @@ KeepsStops run before after =
 
 abbrev pub KeepsReplies : Run → Type 0
 KeepsReplies run =
-    (HasDone run C004 → HasReplied run)
-    × (AsksFor run C004 → run.status ≡ REFUSED → HasRepliedInPart run ⊎ HasGivenUp run)
+    (HasDone run (OverPorts C004) → HasReplied run)
+    × (AsksFor run (OverPorts C004) → run.status ≡ REFUSED → HasRepliedInPart run ⊎ HasGivenUp run)
 
 abbrev pub KeepsPictures : Run → Type 0
 KeepsPictures run =
-    (batch schedule : Text) (chosen : Option Text) → HasDone run (Draw batch schedule chosen)
+    (batch schedule : Text) (chosen : Option Text) → HasDone run (Texts (Draw batch schedule chosen))
     → HasDrawn run batch schedule chosen
 
 abbrev pub KeepsPrices : Run → Type 0
 KeepsPrices run =
-    (batch schedule : Text) → HasDone run (Prices batch schedule) → HasPriced run batch schedule
+    (batch schedule : Text) → HasDone run (Texts (Prices batch schedule)) → HasPriced run batch schedule
 
 abbrev pub KeepsScripts : Run → Kept → Leave → Type 0
 KeepsScripts run kept keeps =
     (rack : SharedRack) (scripts : List Text) (workers : ℕ)
-    → AsksFor run (Serve rack scripts workers) → run.status ≢ UNWRITTEN
+    → AsksFor run (Sessions rack (Serve scripts workers)) → run.status ≢ UNWRITTEN
     → HasServed run rack scripts (keeps rack [])
-    ⊎ HasRefusedSessions run kept (IsWrongRackOf run rack) IsEmpty
+    ⊎ HasRefusedSessions run rack kept (IsWrongRackOf run rack) (IsEmpty (recorded_in rack))
 
 abbrev pub KeepsClients : Run → Kept → Clients → Leave → Type 0
 KeepsClients run kept clients keeps =
-    (rack : SharedRack) (names : List Text) (workers : ℕ) → AsksFor run (Host rack names workers)
+    (rack : SharedRack) (names : List Text) (workers : ℕ) → AsksFor run (Sessions rack (Host names workers))
     → run.status ≢ UNWRITTEN
     → HasHosted run rack names clients (keeps rack names)
-    ⊎ (HasRefusedSessions run kept
+    ⊎ (HasRefusedSessions run rack kept
     (λ refusal. IsWrongLive run rack names refusal ⊎ (refusal ≡ Threads))
     (IsAsItWas run rack.record_out names) × (clients.ends ≡ []))
 
 abbrev pub KeepsTalks : Run → Kept → Leave → Type 0
 KeepsTalks run kept keeps =
-    (rack : SharedRack) → AsksFor run (Talk rack) → run.status ≢ UNWRITTEN
+    (rack : SharedRack) → AsksFor run (Sessions rack Talk) → run.status ≢ UNWRITTEN
     → HasTalked run rack (keeps rack [])
-    ⊎ HasRefusedSessions run kept (IsWrongLive run rack []) (IsAsItWas run rack.record_out [])
+    ⊎ HasRefusedSessions run rack kept (IsWrongLive run rack []) (IsAsItWas run rack.record_out [])
 
 abbrev pub KeepsReplays : Run → Type 0
 KeepsReplays run =
     (shape : Option Text) (recorded : Text) (image : Option Text) (first : Option ℕ)
-    → (HasDone run (Replay shape recorded image first)
+    → (HasDone run (Texts (Replay shape recorded image first))
     → HasReplayed run shape recorded image first)
-    × (AsksFor run (Replay shape recorded image first) → run.status ≡ REFUSED
+    × (AsksFor run (Texts (Replay shape recorded image first)) → run.status ≡ REFUSED
     → HasRefusedReplay run shape recorded image first ⊎ HasGivenUp run)
 
--- a job needs nothing but its texts
-abbrev pub IsOfTextsAlone : Job → Type 0
-IsOfTextsAlone (Plan file planning workers) = ⊤
-IsOfTextsAlone (Check batch schedule) = ⊤
-IsOfTextsAlone (Draw batch schedule chosen) = ⊤
-IsOfTextsAlone (Prices batch schedule) = ⊤
-IsOfTextsAlone (SwitchJob batch scheduled wiring has_two workers) = ⊤
-IsOfTextsAlone (Orders batch scheduled only workers) = ⊤
-IsOfTextsAlone (Direct moves) = ⊤
-IsOfTextsAlone (Apply shape batch image workers) = ⊤
-IsOfTextsAlone (RunJob shape batch scheduled image workers) = ⊤
-IsOfTextsAlone job = ⊥
+-- a job of texts is no replay, of whose refusals more is said
+abbrev pub IsNoReplay : TextJob → Type 0
+IsNoReplay (Replay shape recorded image first) = ⊥
+IsNoReplay job = ⊤
 
 abbrev pub KeepsRefusals : Run → Type 0
 KeepsRefusals run =
-    (job : Job) → IsOfTextsAlone job → AsksFor run job → run.status ≡ REFUSED
+    (job : TextJob) → IsNoReplay job → AsksFor run (Texts job) → run.status ≡ REFUSED
     → HasRefused run job ⊎ HasGivenUp run
 
 -- What is promised of a run that ends with status 0 or 1, with the ways to ports before it and behind

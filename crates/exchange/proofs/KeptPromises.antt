@@ -7,7 +7,12 @@ use Rattle.batch_book.specs.History.{Account}
 use Rattle.clap.specs.Words.{Text}
 use Rattle.command_words.specs.Jobs.{AskFor, Files, MayHaveName, file, file_uses, files_beside, files_of, files_read, input_name, kept_files, recorded_in}
 use Rattle.command_words.specs.declared.jobs.Job.{Job}
-use Rattle.command_words.specs.declared.jobs.Job.TheVariants.{Apply, C004, Check, Direct, Draw, Drive, Host, Orders, Plan, Prices, Replay, Run as RunJob, Serve, Switch as SwitchJob, Talk}
+use Rattle.command_words.specs.declared.jobs.Job.TheVariants.{Texts, Ports as OverPorts, Sessions}
+use Rattle.command_words.specs.declared.jobs.TextJob.{TextJob}
+use Rattle.command_words.specs.declared.jobs.TextJob.TheVariants.{Apply, Check, Direct, Draw, Orders, Plan, Prices, Replay, Run as RunJob, Switch as SwitchJob}
+use Rattle.command_words.specs.declared.jobs.PortJob.TheVariants.{C004, Drive}
+use Rattle.command_words.specs.declared.jobs.SessionJob.{SessionJob}
+use Rattle.command_words.specs.declared.jobs.SessionJob.TheVariants.{Host, Serve, Talk}
 use Rattle.plan_answers.specs.declared.limits.TheConstants.{DONE, REFUSED}
 use Rattle.command_words.specs.declared.jobs.RecordFile.{RecordFile}
 use Rattle.command_words.specs.declared.jobs.SharedRack.{SharedRack}
@@ -16,7 +21,7 @@ use Rattle.drive_answers.specs.Ways.{Ways}
 use Rattle.exchange.proofs.AskedPlan.{some_ask}
 use Rattle.exchange.proofs.AskedJobs.{Answers, never_done, Ended, EndsSo, JobsCome, KeepsSo, SessionsCome, all_written, asks_nothing, cut_ends, ended_run, ends_well, jobs_come, keeps_apart, sessions_come, text_ends, the_run}
 use Rattle.exchange.proofs.HeldFiles.{alone, earlier, held_files, pass}
-use Rattle.exchange.proofs.OneRequest.{one_request}
+use Rattle.command_words.proofs.OneRequest.{one_request}
 use Rattle.exchange.proofs.PromisedSessions.{AreCallsOf}
 use Rattle.exchange.proofs.PromisedCalls.{are_kept, are_part, are_told, before, behind, clients_come, kept_named, none_begun, none_ended, scripts_come, talk_comes}
 use Rattle.exchange.proofs.PromisedDrives.{keeps_drives, keeps_stops}
@@ -46,28 +51,23 @@ use Rattle.session_answers.specs.declared.ended_session.Ending.{Ending}
 -- ---- sessions
 
 -- a record isn't written to standard input
-host_named : (rack : SharedRack) (names : List Text) (workers : ℕ) (words : List Text) (quiet : Bool) → AskFor words (record { job = Host rack names workers; is_quiet = quiet }) → (out : RecordFile) → rack.record_out ≡ Some out → out.name ≢ input_name
-host_named rack names workers words quiet asks out is =
-    let all = recursion_from_All MayHaveName (file_uses (Host rack names workers)) asks.job.files.each in
-    let beside = behind MayHaveName (map (file Read) (files_read (Host rack names workers))) (files_beside (Host rack names workers)) all in
+record_named : (rack : SharedRack) (job : SessionJob) (words : List Text) (quiet : Bool) → AskFor words (record { job = Sessions rack job; is_quiet = quiet }) → (out : RecordFile) → rack.record_out ≡ Some out → out.name ≢ input_name
+record_named rack job words quiet asks out is =
+    let all = recursion_from_All MayHaveName (file_uses (Sessions rack job)) asks.job.files.each in
+    let beside = behind MayHaveName (map (file Read) (files_read (Sessions rack job))) (files_beside (Sessions rack job)) all in
     kept_named (recorded_in rack) rack.image_out out.name (ap (λ (o : Option RecordFile). option_map (λ (r : RecordFile). r.name) o) is) (before MayHaveName (kept_files rack) _ beside)
-
-talk_named : (rack : SharedRack) (words : List Text) (quiet : Bool) → AskFor words (record { job = Talk rack; is_quiet = quiet }) → (out : RecordFile) → rack.record_out ≡ Some out → out.name ≢ input_name
-talk_named rack words quiet asks out is =
-    let all = recursion_from_All MayHaveName (file_uses (Talk rack)) asks.job.files.each in
-    kept_named (recorded_in rack) rack.image_out out.name (ap (λ (o : Option RecordFile). option_map (λ (r : RecordFile). r.name) o) is) (behind MayHaveName (map (file Read) (files_read (Talk rack))) (files_beside (Talk rack)) all)
 
 names_before : (front back : List Text) → AllByRecursion (λ n. n ≢ input_name) (front ++ back) → AllByRecursion (λ n. n ≢ input_name) front
 names_before [] back all = tt
 names_before (n ∷ front) back all = (all.0, names_before front back all.1)
 
 -- the image isn't standard input, so all of that is left for the client
-talk_reads : (holds : Holding) (input : Option (List ℕ)) (rack : SharedRack) (words : List Text) (quiet : Bool) → AskFor words (record { job = Talk rack; is_quiet = quiet }) → (files : Files (List ℕ)) (rest : Option (List ℕ)) → AreContents holds input (files_of (Talk rack)) files rest → rest ≡ input
+talk_reads : (holds : Holding) (input : Option (List ℕ)) (rack : SharedRack) (words : List Text) (quiet : Bool) → AskFor words (record { job = Sessions rack Talk; is_quiet = quiet }) → (files : Files (List ℕ)) (rest : Option (List ℕ)) → AreContents holds input (files_of (Sessions rack Talk)) files rest → rest ≡ input
 talk_reads holds input rack words quiet asks files rest r =
-    let lone = alone (files_read (Talk rack)) (files_beside (Talk rack)) asks.job.files.apart in
+    let lone = alone (files_read (Sessions rack Talk)) (files_beside (Sessions rack Talk)) asks.job.files.apart in
     let other = names_before (option_to_list rack.image) [] (earlier (option_to_list rack.image ++ []) input_name [] lone refl) in
     pass holds r.3 [] files.scripts rest tt r.8 ∙ (pass holds r.2 [] (option_to_list files.wiring) r.3 tt r.7
-    ∙ (pass holds r.1 [] (option_to_list files.other) r.2 tt r.6 ∙ (pass holds r.0 [] (option_to_list files.list) r.1 tt r.5 ∙ pass holds input (option_to_list rack.image) (option_to_list files.image) r.0 other r.4)))
+    ∙ (pass holds r.1 [] (option_to_list files.schedule) r.2 tt r.6 ∙ (pass holds r.0 [] (option_to_list files.list) r.1 tt r.5 ∙ pass holds input (option_to_list rack.image) (option_to_list files.image) r.0 other r.4)))
 
 known_came : (known : Option (List ℕ)) (came : List ℕ) → IfSome known (λ text. text ≡ came) → IfSome known (λ text. came ≡ text)
 known_came None came is = tt
@@ -79,27 +79,27 @@ module _ {C : Type 0} (received : C → Closed) (receipts : Receipts C) (comes :
 
   module _ (come : SessionsCome named given received receipts (ends_of endings) may The) where
     scripts_kept : (keeps : Leave) → ((lost : Lost) → may lost → (rack : SharedRack) (book : Account) (calls : Calls) → AreCallsOf calls book → AreWritten received (recorded_in rack) rack.image_out [] book receipts lost → keeps rack [] calls) → KeepsScripts The (kept_by received receipts) keeps
-    scripts_kept keeps keep rack scripts workers asks written = elim (come (record { job = Serve rack scripts workers; is_quiet = asks.0 }) tt asks.1) [
-      | inl c ↦ scripts_come received receipts c.0 The rack scripts (keeps rack []) (keep c.0 c.1 rack) named given (ends_of endings) workers (λ files rest reads. held_files words (record { job = Serve rack scripts workers; is_quiet = asks.0 }) named.holds given.input files rest asks.1 reads) c.2
-      | inr none ↦ inr (none_begun received receipts (ends_of endings) The (IsWrongRackOf The rack) IsEmpty tt none)
+    scripts_kept keeps keep rack scripts workers asks written = elim (come rack (Serve scripts workers) asks) [
+      | inl c ↦ scripts_come received receipts c.0 The rack scripts (keeps rack []) (keep c.0 c.1 rack) named given (ends_of endings) workers (λ files rest reads. held_files words (record { job = Sessions rack (Serve scripts workers); is_quiet = asks.0 }) named.holds given.input files rest asks.1 reads) c.2
+      | inr none ↦ inr (none_begun received receipts (ends_of endings) rack The (IsWrongRackOf The rack) (IsEmpty (recorded_in rack)) tt none)
     ]
 
     abbrev LiveKeeps : Leave → Type 0
     LiveKeeps keeps = (lost : Lost) → may lost → (rack : SharedRack) (names : List Text) (book : Account) (calls : Calls) → AreCallsOf calls book → AreLiveKept named.holds received rack names (Some book) receipts lost → keeps rack names calls
 
     clients_kept : (keeps : Leave) → LiveKeeps keeps → KeepsClients The (kept_by received receipts) (clients_of comes had endings) keeps
-    clients_kept keeps keep rack names workers asks written = elim (come (record { job = Host rack names workers; is_quiet = asks.0 }) tt asks.1) [
-      | inl c ↦ clients_come received receipts c.0 named given The rack names (keeps rack names) (keep c.0 c.1 rack names) (λ out text is holds. (λ input. absurd (host_named rack names workers words asks.0 asks.1 out is input), λ other. holds)) comes had endings workers (ap (λ clients. clients names) known)
-          (λ files rest reads. held_files words (record { job = Host rack names workers; is_quiet = asks.0 }) named.holds given.input files rest asks.1 reads) c.2
-      | inr none ↦ inr (none_begun received receipts (ends_of endings) The (λ refusal. IsWrongLive The rack names refusal ⊎ (refusal ≡ Threads)) (IsAsItWas The rack.record_out names) tt none, none_ended endings none.none_ended)
+    clients_kept keeps keep rack names workers asks written = elim (come rack (Host names workers) asks) [
+      | inl c ↦ clients_come received receipts c.0 named given The rack names (keeps rack names) (keep c.0 c.1 rack names) (λ out text is holds. (λ input. absurd (record_named rack (Host names workers) words asks.0 asks.1 out is input), λ other. holds)) comes had endings workers (ap (λ clients. clients names) known)
+          (λ files rest reads. held_files words (record { job = Sessions rack (Host names workers); is_quiet = asks.0 }) named.holds given.input files rest asks.1 reads) c.2
+      | inr none ↦ inr (none_begun received receipts (ends_of endings) rack The (λ refusal. IsWrongLive The rack names refusal ⊎ (refusal ≡ Threads)) (IsAsItWas The rack.record_out names) tt none, none_ended endings none.none_ended)
     ]
 
     talks_kept : (keeps : Leave) → LiveKeeps keeps → KeepsTalks The (kept_by received receipts) keeps
-    talks_kept keeps keep rack asks written = elim (come (record { job = Talk rack; is_quiet = asks.0 }) tt asks.1) [
-      | inl c ↦ talk_comes received receipts c.0 named given The rack (keeps rack []) (keep c.0 c.1 rack []) (λ out text is holds. (λ input. absurd (talk_named rack words asks.0 asks.1 out is input), λ other. holds)) (ends_of endings)
+    talks_kept keeps keep rack asks written = elim (come rack Talk asks) [
+      | inl c ↦ talk_comes received receipts c.0 named given The rack (keeps rack []) (keep c.0 c.1 rack []) (λ out text is holds. (λ input. absurd (record_named rack Talk words asks.0 asks.1 out is input), λ other. holds)) (ends_of endings)
           (λ rest files reads came is. (λ same. known_came given.input came (subst (λ (o : Option (List ℕ)). IfSome o (λ text. text ≡ came)) (talk_reads named.holds given.input rack words asks.0 asks.1 files rest reads) is), λ other. absurd (other refl)))
-          (λ files rest reads. held_files words (record { job = Talk rack; is_quiet = asks.0 }) named.holds given.input files rest asks.1 reads) c.2
-      | inr none ↦ inr (none_begun received receipts (ends_of endings) The (IsWrongLive The rack []) (IsAsItWas The rack.record_out []) tt none)
+          (λ files rest reads. held_files words (record { job = Sessions rack Talk; is_quiet = asks.0 }) named.holds given.input files rest asks.1 reads) c.2
+      | inr none ↦ inr (none_begun received receipts (ends_of endings) rack The (IsWrongLive The rack []) (IsAsItWas The rack.record_out []) tt none)
     ]
 
 live_whole : {C : Type 0} (received : C → Closed) (receipts : Receipts C) (holds : Holding) (lost : Lost) → lost ≡ lost_none → (rack : SharedRack) (names : List Text) (book : Account) (calls : Calls) → AreCallsOf calls book → AreLiveKept holds received rack names (Some book) receipts lost → AreKept (kept_by received receipts) rack names calls
@@ -141,21 +141,21 @@ module _ (w : World) (k : KeepsAll w.run w.before w.after w.kept w.clients w.scr
   was_written refused unwritten = omega (arith, refused, unwritten)
 
   done_of : (job : Job) → AsksFor w.run job → w.run.status ≡ DONE → IsDone w job
-  done_of (Plan file planning workers) asks done = k.plans file planning workers (asks, done)
-  done_of (Check batch schedule) asks done = k.checks batch schedule (asks, done)
-  done_of (Draw batch schedule chosen) asks done = k.pictures batch schedule chosen (asks, done)
-  done_of (Prices batch schedule) asks done = k.prices batch schedule (asks, done)
-  done_of (SwitchJob batch scheduled wiring has_two workers) asks done = k.switches batch scheduled wiring has_two workers (asks, done)
-  done_of (Orders batch scheduled only workers) asks done = k.orders batch scheduled only workers (asks, done)
-  done_of (Direct moves) asks done = k.directions moves (asks, done)
-  done_of (Apply shape batch image workers) asks done = k.images shape batch image workers (asks, done)
-  done_of (RunJob shape batch scheduled image workers) asks done = k.runs shape batch scheduled image workers (asks, done)
-  done_of (Drive batch port port_b scheduled wiring first goes_on workers) asks done = k.drives batch port port_b scheduled wiring first goes_on workers (asks, done)
-  done_of C004 asks done = k.replies.0 (asks, done)
-  done_of (Serve rack scripts workers) asks done = elim (k.scripts rack scripts workers asks (is_written done)) [ inl is ↦ is | inr none ↦ absurd (never_done w.run.status none.status done) ]
-  done_of (Host rack names workers) asks done = elim (k.live rack names workers asks (is_written done)) [ inl is ↦ is | inr none ↦ absurd (never_done w.run.status none.0.status done) ]
-  done_of (Talk rack) asks done = elim (k.talks rack asks (is_written done)) [ inl is ↦ is | inr none ↦ absurd (never_done w.run.status none.status done) ]
-  done_of (Replay shape recorded image first) asks done = (k.replays shape recorded image first).0 (asks, done)
+  done_of (Texts (Plan file planning workers)) asks done = k.plans file planning workers (asks, done)
+  done_of (Texts (Check batch schedule)) asks done = k.checks batch schedule (asks, done)
+  done_of (Texts (Draw batch schedule chosen)) asks done = k.pictures batch schedule chosen (asks, done)
+  done_of (Texts (Prices batch schedule)) asks done = k.prices batch schedule (asks, done)
+  done_of (Texts (SwitchJob batch scheduled wiring has_two workers)) asks done = k.switches batch scheduled wiring has_two workers (asks, done)
+  done_of (Texts (Orders batch scheduled only workers)) asks done = k.orders batch scheduled only workers (asks, done)
+  done_of (Texts (Direct moves)) asks done = k.directions moves (asks, done)
+  done_of (Texts (Apply shape batch image workers)) asks done = k.images shape batch image workers (asks, done)
+  done_of (Texts (RunJob shape batch scheduled image workers)) asks done = k.runs shape batch scheduled image workers (asks, done)
+  done_of (OverPorts (Drive batch port port_b scheduled wiring first goes_on workers)) asks done = k.drives batch port port_b scheduled wiring first goes_on workers (asks, done)
+  done_of (OverPorts C004) asks done = k.replies.0 (asks, done)
+  done_of (Sessions rack (Serve scripts workers)) asks done = elim (k.scripts rack scripts workers asks (is_written done)) [ inl is ↦ is | inr none ↦ absurd (never_done w.run.status none.status done) ]
+  done_of (Sessions rack (Host names workers)) asks done = elim (k.live rack names workers asks (is_written done)) [ inl is ↦ is | inr none ↦ absurd (never_done w.run.status none.0.status done) ]
+  done_of (Sessions rack Talk) asks done = elim (k.talks rack asks (is_written done)) [ inl is ↦ is | inr none ↦ absurd (never_done w.run.status none.status done) ]
+  done_of (Texts (Replay shape recorded image first)) asks done = (k.replays shape recorded image first).0 (asks, done)
 
   abbrev GivesUp : Type 0
   GivesUp = HasGivenUp w.run × LeavesAll w.before w.after w.kept w.clients
@@ -164,28 +164,23 @@ module _ (w : World) (k : KeepsAll w.run w.before w.after w.kept w.clients w.scr
   or_given_up P (inl is) left = inl is
   or_given_up P (inr gives_up) left = inr (gives_up, left)
 
+  text_refused : (job : TextJob) → AsksFor w.run (Texts job) → w.run.status ≡ REFUSED → IsRefused w (Texts job) ⊎ GivesUp
+  text_refused (Replay shape recorded image first) asks refused = or_given_up _ ((k.replays shape recorded image first).1 asks refused) (others (Texts (Replay shape recorded image first)) asks)
+  text_refused job asks refused = or_given_up _ (k.refusals job tt asks refused) (others (Texts job) asks)
+
   refused_of : (job : Job) → AsksFor w.run job → w.run.status ≡ REFUSED → IsRefused w job ⊎ GivesUp
-  refused_of (Plan file planning workers) asks refused = or_given_up _ (k.refusals (Plan file planning workers) tt asks refused) (others (Plan file planning workers) asks)
-  refused_of (Check batch schedule) asks refused = or_given_up _ (k.refusals (Check batch schedule) tt asks refused) (others (Check batch schedule) asks)
-  refused_of (Draw batch schedule chosen) asks refused = or_given_up _ (k.refusals (Draw batch schedule chosen) tt asks refused) (others (Draw batch schedule chosen) asks)
-  refused_of (Prices batch schedule) asks refused = or_given_up _ (k.refusals (Prices batch schedule) tt asks refused) (others (Prices batch schedule) asks)
-  refused_of (SwitchJob batch scheduled wiring has_two workers) asks refused = or_given_up _ (k.refusals (SwitchJob batch scheduled wiring has_two workers) tt asks refused) (others (SwitchJob batch scheduled wiring has_two workers) asks)
-  refused_of (Orders batch scheduled only workers) asks refused = or_given_up _ (k.refusals (Orders batch scheduled only workers) tt asks refused) (others (Orders batch scheduled only workers) asks)
-  refused_of (Direct moves) asks refused = or_given_up _ (k.refusals (Direct moves) tt asks refused) (others (Direct moves) asks)
-  refused_of (Apply shape batch image workers) asks refused = or_given_up _ (k.refusals (Apply shape batch image workers) tt asks refused) (others (Apply shape batch image workers) asks)
-  refused_of (RunJob shape batch scheduled image workers) asks refused = or_given_up _ (k.refusals (RunJob shape batch scheduled image workers) tt asks refused) (others (RunJob shape batch scheduled image workers) asks)
-  refused_of (Drive batch port port_b scheduled wiring first goes_on workers) asks refused = elim (k.stops batch port port_b scheduled wiring first goes_on workers asks refused) [
+  refused_of (Texts job) asks refused = text_refused job asks refused
+  refused_of (OverPorts (Drive batch port port_b scheduled wiring first goes_on workers)) asks refused = elim (k.stops batch port port_b scheduled wiring first goes_on workers asks refused) [
     | inl stopped ↦ inl (inl stopped)
     | inr other ↦ elim other [
       | inl is ↦ inl (inr is)
-      | inr gives_up ↦ let left = others (Drive batch port port_b scheduled wiring first goes_on workers) asks in inr (gives_up.0, (gives_up.1, left.0, left.1))
+      | inr gives_up ↦ let left = others (OverPorts (Drive batch port port_b scheduled wiring first goes_on workers)) asks in inr (gives_up.0, (gives_up.1, left.0, left.1))
     ]
   ]
-  refused_of C004 asks refused = or_given_up _ (k.replies.1 asks refused) (others C004 asks)
-  refused_of (Serve rack scripts workers) asks refused = inl (k.scripts rack scripts workers asks (was_written refused))
-  refused_of (Host rack names workers) asks refused = inl (k.live rack names workers asks (was_written refused))
-  refused_of (Talk rack) asks refused = inl (k.talks rack asks (was_written refused))
-  refused_of (Replay shape recorded image first) asks refused = or_given_up _ ((k.replays shape recorded image first).1 asks refused) (others (Replay shape recorded image first) asks)
+  refused_of (OverPorts C004) asks refused = or_given_up _ (k.replies.1 asks refused) (others (OverPorts C004) asks)
+  refused_of (Sessions rack (Serve scripts workers)) asks refused = inl (k.scripts rack scripts workers asks (was_written refused))
+  refused_of (Sessions rack (Host names workers)) asks refused = inl (k.live rack names workers asks (was_written refused))
+  refused_of (Sessions rack Talk) asks refused = inl (k.talks rack asks (was_written refused))
 
   pub keeps_jobs : KeepsJobs w
   keeps_jobs job asks = (done_of job asks, refused_of job asks)

@@ -1,7 +1,8 @@
 -- A job by whose sessions nothing is written.
 use Rattle.std.proofs.Common.{ℕ, List, [], Option, None, refl}
 use Rattle.command_words.specs.declared.jobs.Job.{Job}
-use Rattle.command_words.specs.declared.jobs.Job.TheVariants.{Host, Talk}
+use Rattle.command_words.specs.declared.jobs.Job.TheVariants.{Sessions}
+use Rattle.command_words.specs.declared.jobs.SessionJob.TheVariants.{Host, Talk}
 use Rattle.exchange.specs.Keeping.{AreKept}
 use Rattle.named_files.specs.Outputs.{AreOpened, IsLeftOfAny, begins_with, is_live, output_of, record_of, stream_of}
 use Rattle.named_files.specs.Streams.{Closed}
@@ -15,9 +16,9 @@ pub kept_none : {F C : Type 0} (holds : List ℕ → List ℕ → Type 0) (conte
     → AreOpened contents (begins_with holds (is_live job)) (record_of job) (output_of job) outputs
     → IsLeftOfAny contents received (stream_of outputs.recorded) receipts.recorded → IsLeftOfAny contents received (stream_of outputs.image) receipts.image
     → AreKept holds received job None receipts
-kept_none holds contents received (Host rack clients workers) outputs receipts opened one two =
+kept_none holds contents received (Sessions rack (Host clients workers)) outputs receipts opened one two =
     (as_held holds contents received rack.record_out clients outputs.recorded receipts.recorded opened.0 one, nothing_gone contents received rack.image_out outputs.image receipts.image opened.1 two, refl)
-kept_none holds contents received (Talk rack) outputs receipts opened one two =
+kept_none holds contents received (Sessions rack Talk) outputs receipts opened one two =
     (as_held holds contents received rack.record_out [] outputs.recorded receipts.recorded opened.0 one, nothing_gone contents received rack.image_out outputs.image receipts.image opened.1 two, refl)
 kept_none holds contents received job outputs receipts opened one two =
     (nothing_gone contents received (record_of job) outputs.recorded receipts.recorded opened.0 one, nothing_gone contents received (output_of job) outputs.image receipts.image opened.1 two, refl)

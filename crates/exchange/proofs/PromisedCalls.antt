@@ -18,7 +18,8 @@ use Rattle.client_session.specs.Turns.{AreReadings, turn_text}
 use Rattle.client_session.specs.declared.fault.ServeFault.{ServeFault}
 use Rattle.command_words.specs.Jobs.{Files, MayHaveName, file, files_of, input_name, recorded_in}
 use Rattle.command_words.specs.declared.jobs.Job.{Job}
-use Rattle.command_words.specs.declared.jobs.Job.TheVariants.{Host, Serve, Talk}
+use Rattle.command_words.specs.declared.jobs.Job.TheVariants.{Sessions}
+use Rattle.command_words.specs.declared.jobs.SessionJob.TheVariants.{Host, Serve, Talk}
 use Rattle.command_words.specs.declared.jobs.RecordFile.{RecordFile}
 use Rattle.command_words.specs.declared.jobs.SharedRack.{SharedRack}
 use Rattle.command_words.specs.declared.uses.Access.TheVariants.{Write}
@@ -86,11 +87,6 @@ module _ {C : Type 0} (received : C → Closed) where
       let text = told.1 ∙ ap (λ (x : List ℕ). Some x) r.has ∙ ap₂ (λ (o : Store) (es : List Entry). Some (record_of names o es ++ r.rest)) (sym are.opening) (sym are.stand) in
       (r.rest, (received receipt).stands, ap Some (the_left (received receipt) name _ (received receipt).stands is.2 text refl))
 
-  unput : (name : Option Text) (receipt : Option C) → HasNothingGone received name receipt → IsUnput (option_map received receipt)
-  unput name None is = tt
-  unput None (Some receipt) is = absurd is
-  unput (Some name) (Some receipt) is = ap (λ (c : Closed). c.stands) is
-
   put_nowhere : (image : Option C) → IsPutNowhere received image → IsUnput (option_map received image)
   put_nowhere None is = tt
   put_nowhere (Some receipt) is = is
@@ -144,22 +140,19 @@ pub record HasNone {C : Type 0} (receipts : Receipts C) (ends : List SessionEnd)
   pub image : receipts.image ≡ None
   pub none_ended : ends ≡ []
 
-unput_none : {C : Type 0} (received : C → Closed) (receipts : Receipts C) → receipts.image ≡ None → IsUnput (kept_by received receipts).image
-unput_none received receipts none = subst (λ r. IsUnput (option_map received r)) (sym none) tt
-
-pub none_begun : {C : Type 0} (received : C → Closed) (receipts : Receipts C) (ends : List SessionEnd) (run : Run) (is_wrong : Refusal → Type 0) (is_left : Option Closed → Type 0) → is_left None → HasNone receipts ends run → HasRefusedSessions run (kept_by received receipts) is_wrong is_left
-none_begun {C} received receipts ends run is_wrong is_left none_left none = record {
+pub none_begun : {C : Type 0} (received : C → Closed) (receipts : Receipts C) (ends : List SessionEnd) (rack : SharedRack) (run : Run) (is_wrong : Refusal → Type 0) (is_left : Option Closed → Type 0) → is_left None → HasNone receipts ends run → HasRefusedSessions run rack (kept_by received receipts) is_wrong is_left
+none_begun {C} received receipts ends rack run is_wrong is_left none_left none = record {
   status = none.status;
   refuses = inr (gave_up run why.NoMemory none.prints);
   recorded = subst (λ (r : Option C). is_left (option_map received r)) (sym none.recorded) none_left;
-  unput = unput_none received receipts none.image;
+  image = subst (λ (r : Option C). IsEmpty rack.image_out (option_map received r)) (sym none.image) tt;
 }
 
 -- what is left of the file for a record then
-is_empty : {C : Type 0} (received : C → Closed) (name : Option Text) (receipt : Option C) → HasNothingGone received name receipt → IsEmpty (option_map received receipt)
+is_empty : {C : Type 0} (received : C → Closed) (name : Option Text) (receipt : Option C) → HasNothingGone received name receipt → IsEmpty name (option_map received receipt)
 is_empty received name None gone = tt
 is_empty received None (Some receipt) gone = absurd gone
-is_empty received (Some name) (Some receipt) gone = (ap (λ (c : Closed). c.bytes) gone, ap (λ (c : Closed). c.stands) gone)
+is_empty received (Some name) (Some receipt) gone = gone
 
 as_it_was : {C : Type 0} (holds : Holding) (received : C → Closed) (record_out : Option RecordFile) (names : List Text) (receipt : Option C) (run : Run) → ((out : RecordFile) (text : List ℕ) → record_out ≡ Some out → holds out.name text → run.holds out.name text)
     → IsAsBegun holds received record_out names receipt → IsAsItWas run record_out names (option_map received receipt)
@@ -169,23 +162,23 @@ as_it_was holds received (Some out) names (Some receipt) run by_name (held, text
     (held, text, by_name out held refl holds_so, so, begins)
 
 -- a refusal was printed
-refused_so : {C : Type 0} (received : C → Closed) (receipts : Receipts C) (name : Option Text) (run : Run) (is_wrong : Refusal → Type 0) (is_left : Option Closed → Type 0) (refusal : Refusal) (printed : Printed) → is_wrong refusal → Refuses refusal printed → run.prints printed.text → run.status ≡ printed.status → is_left (option_map received receipts.recorded) → HasNothingGone received name receipts.image
-    → HasRefusedSessions run (kept_by received receipts) is_wrong is_left
-refused_so received receipts name run is_wrong is_left refusal printed wrong refuses prints status left gone = record {
+refused_so : {C : Type 0} (received : C → Closed) (receipts : Receipts C) (rack : SharedRack) (run : Run) (is_wrong : Refusal → Type 0) (is_left : Option Closed → Type 0) (refusal : Refusal) (printed : Printed) → is_wrong refusal → Refuses refusal printed → run.prints printed.text → run.status ≡ printed.status → is_left (option_map received receipts.recorded) → HasNothingGone received rack.image_out receipts.image
+    → HasRefusedSessions run rack (kept_by received receipts) is_wrong is_left
+refused_so received receipts rack run is_wrong is_left refusal printed wrong refuses prints status left gone = record {
   recorded = left;
   status = status ∙ refuses.1.status;
   refuses = inl (refusal, wrong, subst run.prints refuses.1.line prints);
-  unput = unput received name receipts.image gone;
+  image = is_empty received rack.image_out receipts.image gone;
 }
 
 -- there was no answer
-unanswered_so : {C : Type 0} (received : C → Closed) (receipts : Receipts C) (name : Option Text) (run : Run) (is_wrong : Refusal → Type 0) (is_left : Option Closed → Type 0) (told : List ℕ) (printed : Printed) (reason : Unanswered) → told ≡ [] → printed ≡ unanswered reason → run.prints (told ++ printed.text) → run.status ≡ printed.status → is_left (option_map received receipts.recorded) → HasNothingGone received name receipts.image
-    → HasRefusedSessions run (kept_by received receipts) is_wrong is_left
-unanswered_so received receipts name run is_wrong is_left told printed reason none is prints status left gone = record {
+unanswered_so : {C : Type 0} (received : C → Closed) (receipts : Receipts C) (rack : SharedRack) (run : Run) (is_wrong : Refusal → Type 0) (is_left : Option Closed → Type 0) (told : List ℕ) (printed : Printed) (reason : Unanswered) → told ≡ [] → printed ≡ unanswered reason → run.prints (told ++ printed.text) → run.status ≡ printed.status → is_left (option_map received receipts.recorded) → HasNothingGone received rack.image_out receipts.image
+    → HasRefusedSessions run rack (kept_by received receipts) is_wrong is_left
+unanswered_so received receipts rack run is_wrong is_left told printed reason none is prints status left gone = record {
   recorded = left;
   status = status ∙ ap (λ (p : Printed). p.status) is;
   refuses = inr (gave_up run reason (subst (λ (p : Printed). run.prints p.text) is (subst (λ (x : List ℕ). run.prints (x ++ printed.text)) none prints)));
-  unput = unput received name receipts.image gone;
+  image = is_empty received rack.image_out receipts.image gone;
 }
 
 -- why live sessions don't begin
@@ -204,10 +197,10 @@ module _ {C : Type 0} (received : C → Closed) (receipts : Receipts C) (lost : 
     (keep : (book : Account) (calls : Calls) → AreCallsOf calls book → AreWritten received (recorded_in rack) rack.image_out [] book receipts lost → keeps calls) where
   served_so : (bytes : Option (List ℕ)) (texts : List (List ℕ)) (printed : Printed) (left : Option Account)
       → HoldsGiven run.holds rack.image bytes → AreAllHeld run.holds scripts texts → run.prints printed.text → run.status ≡ printed.status → AreScriptsKept received (recorded_in rack) rack.image_out left receipts lost → IsServeAnswer rack.shape bytes texts printed left
-      → HasServed run rack scripts keeps ⊎ HasRefusedSessions run (kept_by received receipts) (IsWrongRackOf run rack) IsEmpty
+      → HasServed run rack scripts keeps ⊎ HasRefusedSessions run rack (kept_by received receipts) (IsWrongRackOf run rack) (IsEmpty (recorded_in rack))
   served_so bytes texts printed left held_image held prints status kept (refused refusal wrong refuses none) =
       let gone = subst (λ (l : Option Account). AreScriptsKept received (recorded_in rack) rack.image_out l receipts lost) none kept in
-      inr (refused_so received receipts rack.image_out run (IsWrongRackOf run rack) IsEmpty refusal printed (bytes, held_image, wrong) refuses prints status (is_empty received (recorded_in rack) receipts.recorded gone.0) gone.1)
+      inr (refused_so received receipts rack run (IsWrongRackOf run rack) (IsEmpty (recorded_in rack)) refusal printed (bytes, held_image, wrong) refuses prints status (is_empty received (recorded_in rack) receipts.recorded gone.0) gone.1)
   served_so bytes texts printed left held_image held prints status kept (served opening of_rack (sessions, of, book, is_left, few, closing)) =
       let one = closing.one in
       let b = beginning false (new_account opening) in
@@ -234,18 +227,18 @@ module _ {C : Type 0} (received : C → Closed) (receipts : Receipts C) (lost : 
       })
 
   pub scripts_come : (named : Named) (given : Given) (ends : List SessionEnd) (workers : ℕ)
-      → ((files : Files (List ℕ)) (rest : Option (List ℕ)) → AreContents named.holds given.input (files_of (Serve rack scripts workers)) files rest → AreHeld run.holds (files_of (Serve rack scripts workers)) files)
-      → Comes named given received receipts ends run (Serve rack scripts workers) lost → HasServed run rack scripts keeps ⊎ HasRefusedSessions run (kept_by received receipts) (IsWrongRackOf run rack) IsEmpty
+      → ((files : Files (List ℕ)) (rest : Option (List ℕ)) → AreContents named.holds given.input (files_of (Sessions rack (Serve scripts workers))) files rest → AreHeld run.holds (files_of (Sessions rack (Serve scripts workers))) files)
+      → Comes named given received receipts ends run (Sessions rack (Serve scripts workers)) lost → HasServed run rack scripts keeps ⊎ HasRefusedSessions run rack (kept_by received receipts) (IsWrongRackOf run rack) (IsEmpty (recorded_in rack))
   scripts_come named given ends workers held c = by c.is
     where
-      by : IsResponseTo named given (Serve rack scripts workers) c.response → HasServed run rack scripts keeps ⊎ HasRefusedSessions run (kept_by received receipts) (IsWrongRackOf run rack) IsEmpty
+      by : IsResponseTo named given (Sessions rack (Serve scripts workers)) c.response → HasServed run rack scripts keeps ⊎ HasRefusedSessions run rack (kept_by received receipts) (IsWrongRackOf run rack) (IsEmpty (recorded_in rack))
       by (inl comes) =
           let is = comes.1 in
           let h = held is.0 is.1 is.2 in
-          served_so is.0.image is.0.scripts c.response.end c.response.left h.image h.scripts (subst (λ (x : List ℕ). run.prints (x ++ c.response.end.text)) is.3.0 c.prints) c.status c.kept is.3.1
+          served_so is.0.image is.0.scripts c.response.end c.response.left h.image h.scripts (subst (λ (x : List ℕ). run.prints (x ++ c.response.end.text)) is.3.1.0 c.prints) c.status c.kept is.3.1.1
       by (inr none) =
           let gone = subst (λ (l : Option Account). AreScriptsKept received (recorded_in rack) rack.image_out l receipts lost) none.3 c.kept in
-          inr (unanswered_so received receipts rack.image_out run (IsWrongRackOf run rack) IsEmpty c.response.told c.response.end none.4.0 none.0 none.4.1 c.prints c.status (is_empty received (recorded_in rack) receipts.recorded gone.0) gone.1)
+          inr (unanswered_so received receipts rack run (IsWrongRackOf run rack) (IsEmpty (recorded_in rack)) c.response.told c.response.end none.4.0 none.0 none.4.1 c.prints c.status (is_empty received (recorded_in rack) receipts.recorded gone.0) gone.1)
 
 -- ---- live sessions
 
@@ -414,14 +407,14 @@ module _ {C : Type 0} (received : C → Closed) (receipts : Receipts C) (lost : 
     IsWrongHost refusal = IsWrongLive run rack names refusal ⊎ (refusal ≡ Threads)
 
     abbrev HostedOr : Type 0
-    HostedOr = HasHosted run rack names (clients_of comes had endings) keeps ⊎ (HasRefusedSessions run (kept_by received receipts) IsWrongHost (IsAsItWas run rack.record_out names) × (endings ≡ []))
+    HostedOr = HasHosted run rack names (clients_of comes had endings) keeps ⊎ (HasRefusedSessions run rack (kept_by received receipts) IsWrongHost (IsAsItWas run rack.record_out names) × (endings ≡ []))
 
     hosted_so : (bytes : Option (List ℕ)) (ends : List SessionEnd) (printed : Printed) (left : Option Account) → ends ≡ ends_of endings → HoldsGiven run.holds rack.image bytes → run.prints printed.text → run.status ≡ printed.status → AreLiveKept named.holds received rack names left receipts lost
         → IsLiveAnswer named.holds rack names bytes (hosting rack (clients_by comes had names) ends printed) printed left → HostedOr
     hosted_so bytes ends printed None same held prints status kept (unserved, (refusal, refuses, inl wrong)) =
-        inr (refused_so received receipts rack.image_out run IsWrongHost (IsAsItWas run rack.record_out names) refusal printed (inl (wrong_live run named.holds rack names bytes refusal by_name held wrong)) refuses prints status (as_it_was named.holds received rack.record_out names receipts.recorded run by_name kept.0) kept.1, none_ended endings (sym same ∙ unserved))
+        inr (refused_so received receipts rack run IsWrongHost (IsAsItWas run rack.record_out names) refusal printed (inl (wrong_live run named.holds rack names bytes refusal by_name held wrong)) refuses prints status (as_it_was named.holds received rack.record_out names receipts.recorded run by_name kept.0) kept.1, none_ended endings (sym same ∙ unserved))
     hosted_so bytes ends printed None same held prints status kept (unserved, (refusal, refuses, inr threads)) =
-        inr (refused_so received receipts rack.image_out run IsWrongHost (IsAsItWas run rack.record_out names) refusal printed (inr threads.2) refuses prints status (as_it_was named.holds received rack.record_out names receipts.recorded run by_name kept.0) kept.1, none_ended endings (sym same ∙ unserved))
+        inr (refused_so received receipts rack run IsWrongHost (IsAsItWas run rack.record_out names) refusal printed (inr threads.2) refuses prints status (as_it_was named.holds received rack.record_out names receipts.recorded run by_name kept.0) kept.1, none_ended endings (sym same ∙ unserved))
     hosted_so bytes ends printed (Some book) same held prints status kept (opening, of_rack, was, begins, (sessions, ended, of, closing)) =
         let one = closing.one in
         let b = beginning (loses rack) was in
@@ -446,19 +439,19 @@ module _ {C : Type 0} (received : C → Closed) (receipts : Receipts C) (lost : 
         })
 
     pub clients_come : (workers : ℕ) → given.clients names ≡ clients_by comes had names
-        → ((files : Files (List ℕ)) (rest : Option (List ℕ)) → AreContents named.holds given.input (files_of (Host rack names workers)) files rest → AreHeld run.holds (files_of (Host rack names workers)) files)
-        → Comes named given received receipts (ends_of endings) run (Host rack names workers) lost → HostedOr
+        → ((files : Files (List ℕ)) (rest : Option (List ℕ)) → AreContents named.holds given.input (files_of (Sessions rack (Host names workers))) files rest → AreHeld run.holds (files_of (Sessions rack (Host names workers))) files)
+        → Comes named given received receipts (ends_of endings) run (Sessions rack (Host names workers)) lost → HostedOr
     clients_come workers known held c = by c.is
       where
-        by : IsResponseTo named given (Host rack names workers) c.response → HostedOr
+        by : IsResponseTo named given (Sessions rack (Host names workers)) c.response → HostedOr
         by (inl comes) =
             let is = comes.1 in
             let h = held is.0 is.1 is.2 in
-            hosted_so is.0.image c.response.ends c.response.end c.response.left c.ends_are h.image (subst (λ (x : List ℕ). run.prints (x ++ c.response.end.text)) is.3.0 c.prints) c.status c.kept
-            (subst (λ (k : KnownClients). IsLiveAnswer named.holds rack names is.0.image (hosting rack k c.response.ends c.response.end) c.response.end c.response.left) known is.3.1)
+            hosted_so is.0.image c.response.ends c.response.end c.response.left c.ends_are h.image (subst (λ (x : List ℕ). run.prints (x ++ c.response.end.text)) is.3.1.0 c.prints) c.status c.kept
+            (subst (λ (k : KnownClients). IsLiveAnswer named.holds rack names is.0.image (hosting rack k c.response.ends c.response.end) c.response.end c.response.left) known is.3.1.1)
         by (inr none) =
             let gone = subst (λ (l : Option Account). AreLiveKept named.holds received rack names l receipts lost) none.3 c.kept in
-            inr (unanswered_so received receipts rack.image_out run IsWrongHost (IsAsItWas run rack.record_out names) c.response.told c.response.end none.4.0 none.0 none.4.1 c.prints c.status (as_it_was named.holds received rack.record_out names receipts.recorded run by_name gone.0) gone.1, none_ended endings (sym c.ends_are ∙ none.2))
+            inr (unanswered_so received receipts rack run IsWrongHost (IsAsItWas run rack.record_out names) c.response.told c.response.end none.4.0 none.0 none.4.1 c.prints c.status (as_it_was named.holds received rack.record_out names receipts.recorded run by_name gone.0) gone.1, none_ended endings (sym c.ends_are ∙ none.2))
 
 -- ---- `talk`
 
@@ -466,14 +459,14 @@ module _ {C : Type 0} (received : C → Closed) (receipts : Receipts C) (lost : 
     (keeps : Calls → Type 0) (keep : (book : Account) (calls : Calls) → AreCallsOf calls book → AreLiveKept named.holds received rack [] (Some book) receipts lost → keeps calls)
     (by_name : (out : RecordFile) (text : List ℕ) → rack.record_out ≡ Some out → named.holds out.name text → run.holds out.name text) where
   abbrev TalkedOr : Type 0
-  TalkedOr = HasTalked run rack keeps ⊎ HasRefusedSessions run (kept_by received receipts) (IsWrongLive run rack []) (IsAsItWas run rack.record_out [])
+  TalkedOr = HasTalked run rack keeps ⊎ HasRefusedSessions run rack (kept_by received receipts) (IsWrongLive run rack []) (IsAsItWas run rack.record_out [])
 
   talked_so : (bytes : Option (List ℕ)) (before after : Option (List ℕ)) (told : List ℕ) (printed : Printed) (left : Option Account) → ((came : List ℕ) → IfSome before (λ text. text ≡ came) → run.holds input_name came)
       → HoldsGiven run.holds rack.image bytes → run.prints (told ++ printed.text) → run.status ≡ printed.status → AreLiveKept named.holds received rack [] left receipts lost
       → IsLiveAnswer named.holds rack [] bytes (talking rack before after told printed) printed left → TalkedOr
   talked_so bytes before after told printed None input held prints status kept (untouched, (refusal, refuses, inr none)) = absurd none.2
   talked_so bytes before after told printed None input held prints status kept (untouched, (refusal, refuses, inl wrong)) =
-      inr (refused_so received receipts rack.image_out run (IsWrongLive run rack []) (IsAsItWas run rack.record_out []) refusal printed (wrong_live run named.holds rack [] bytes refusal by_name held wrong) refuses (subst (λ (x : List ℕ). run.prints (x ++ printed.text)) untouched.1 prints) status (as_it_was named.holds received rack.record_out [] receipts.recorded run by_name kept.0) kept.1)
+      inr (refused_so received receipts rack run (IsWrongLive run rack []) (IsAsItWas run rack.record_out []) refusal printed (wrong_live run named.holds rack [] bytes refusal by_name held wrong) refuses (subst (λ (x : List ℕ). run.prints (x ++ printed.text)) untouched.1 prints) status (as_it_was named.holds received rack.record_out [] receipts.recorded run by_name kept.0) kept.1)
   talked_so bytes before after told printed (Some book) input held prints status kept (opening, of_rack, was, begins, (t, first, told_is, session, closing)) =
       let one = closing.one in
       let b = beginning (loses rack) was in
@@ -499,16 +492,16 @@ module _ {C : Type 0} (received : C → Closed) (receipts : Receipts C) (lost : 
         kept = keep book calls (are_calls (loses rack) was.opening was.history parts book one) kept;
       })
 
-  pub talk_comes : (ends : List SessionEnd) → ((before : Option (List ℕ)) (files : Files (List ℕ)) → AreContents named.holds given.input (files_of (Talk rack)) files before → (came : List ℕ) → IfSome before (λ text. text ≡ came) → run.holds input_name came)
-      → ((files : Files (List ℕ)) (rest : Option (List ℕ)) → AreContents named.holds given.input (files_of (Talk rack)) files rest → AreHeld run.holds (files_of (Talk rack)) files)
-      → Comes named given received receipts ends run (Talk rack) lost → TalkedOr
+  pub talk_comes : (ends : List SessionEnd) → ((before : Option (List ℕ)) (files : Files (List ℕ)) → AreContents named.holds given.input (files_of (Sessions rack Talk)) files before → (came : List ℕ) → IfSome before (λ text. text ≡ came) → run.holds input_name came)
+      → ((files : Files (List ℕ)) (rest : Option (List ℕ)) → AreContents named.holds given.input (files_of (Sessions rack Talk)) files rest → AreHeld run.holds (files_of (Sessions rack Talk)) files)
+      → Comes named given received receipts ends run (Sessions rack Talk) lost → TalkedOr
   talk_comes ends input held c = by c.is
     where
-      by : IsResponseTo named given (Talk rack) c.response → TalkedOr
+      by : IsResponseTo named given (Sessions rack Talk) c.response → TalkedOr
       by (inl comes) =
           let is = comes.1 in
           let h = held is.0 is.1 is.2 in
-          talked_so is.0.image is.1 is.3.0 c.response.told c.response.end c.response.left (input is.1 is.0 is.2) h.image c.prints c.status c.kept is.3.1
+          talked_so is.0.image is.1 is.3.1.0 c.response.told c.response.end c.response.left (input is.1 is.0 is.2) h.image c.prints c.status c.kept is.3.1.1
       by (inr none) =
           let gone = subst (λ (l : Option Account). AreLiveKept named.holds received rack [] l receipts lost) none.3 c.kept in
-          inr (unanswered_so received receipts rack.image_out run (IsWrongLive run rack []) (IsAsItWas run rack.record_out []) c.response.told c.response.end none.4.0 none.0 none.4.1 c.prints c.status (as_it_was named.holds received rack.record_out [] receipts.recorded run by_name gone.0) gone.1)
+          inr (unanswered_so received receipts rack run (IsWrongLive run rack []) (IsAsItWas run rack.record_out []) c.response.told c.response.end none.4.0 none.0 none.4.1 c.prints c.status (as_it_was named.holds received rack.record_out [] receipts.recorded run by_name gone.0) gone.1)

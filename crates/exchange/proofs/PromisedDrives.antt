@@ -13,7 +13,8 @@ use Rattle.c004_commands.specs.Commands.{text}
 use Rattle.c004_commands.specs.declared.command.Command.TheVariants.{Settle}
 use Rattle.clap.specs.Words.{Text}
 use Rattle.command_words.specs.Jobs.{AskFor, Files, files_of, schedule_in}
-use Rattle.command_words.specs.declared.jobs.Job.TheVariants.{Drive}
+use Rattle.command_words.specs.declared.jobs.Job.TheVariants.{Ports as OverPorts}
+use Rattle.command_words.specs.declared.jobs.PortJob.TheVariants.{Drive}
 use Rattle.crossbar.proofs.Conversed.{conversed_bytes}
 use Rattle.crossbar.specs.Pairs.{room_of, switch_of}
 use Rattle.crossbar.specs.Switch.{Switch}
@@ -299,6 +300,12 @@ break_front fault standing pairs (step ∷ steps) known old new same (inr (mid, 
 
 -- ---- the answer
 
+-- so many switches
+many_switches : (filled : Option BoardWiring) (wide : Bool) → switches_in (rack_for filled wide) ≡ length (switches_of filled wide)
+many_switches (Some board) wide = refl
+many_switches None true = refl
+many_switches None false = refl
+
 driven : (run : Run) (batch : Text) (from : Source Text) (file : Option Text) (first : ℕ) (names : Names) (was opens : Ways) (waits : Bool) (text : List ℕ) (other : Option (List ℕ)) (board : Option BoardText) (filled : Option BoardWiring) (transfers : List Transfer) (settings : List (List ℕ)) (start final : Dialogue) (printed : Printed)
     → run.holds batch text → HoldsGiven run.holds (schedule_in from) other → HoldsBoard run file board → start.told ≡ [] → run.prints (final.told ++ printed.text) → printed.status ≡ DONE
     → IsScheduleFrom (source_in from (text_in other)) widest text transfers settings → HasWaysOn board transfers → IsFilled board filled
@@ -323,6 +330,7 @@ driven run batch from file first names was opens waits text other board filled t
       held = record { text = text; held = held; denotes = reads };
       schedule = schedule;
       wired = wired_so run file board transfers filled held_board ways fills;
+      ways = many ∙ many_switches filled (is_wide_over names transfers);
       opened = over.ways ∙ ap (λ (c : Option (List Passing)). used names c over.failed was) t.known ∙ ap (λ (n : ℕ). used names (Some t.passed) n was) over.cause;
       all = sum;
       stood = t.stood;
@@ -352,22 +360,22 @@ answered run batch from file first names was opens waits text other wiring start
     driven run batch from file first names was opens waits text other board filled transfers settings start final printed held held_schedule (board_held run file wiring board held_wiring of) none prints status is ways fills tries
 answered run batch from file first names was opens waits text other wiring start final printed held held_schedule held_wiring none prints status (drives.wrong refusal wrong refuses same left) = absurd (never_done printed.status refuses.1.status status)
 
-done_so : (named : Named) (known : Knows) (after : Ways) (words : List Text) (prints : List ℕ → Type 0) (status : ℕ) (batch port : Text) (port_b : Option Text) (from : Source Text) (wiring : Option Text) (first : ℕ) (goes_on : Bool) (workers : ℕ) (quiet : Bool) → AskFor words (record { job = Drive batch port port_b from wiring first goes_on workers; is_quiet = quiet })
-    → Responded named known after (the_run named known words prints status) (Drive batch port port_b from wiring first goes_on workers) → status ≡ DONE → HasDriven (the_run named known words prints status) (ports_of port port_b known.ports after) batch from wiring first
+done_so : (named : Named) (known : Knows) (after : Ways) (words : List Text) (prints : List ℕ → Type 0) (status : ℕ) (batch port : Text) (port_b : Option Text) (from : Source Text) (wiring : Option Text) (first : ℕ) (goes_on : Bool) (workers : ℕ) (quiet : Bool) → AskFor words (record { job = OverPorts (Drive batch port port_b from wiring first goes_on workers); is_quiet = quiet })
+    → Responded named known after (the_run named known words prints status) (OverPorts (Drive batch port port_b from wiring first goes_on workers)) → status ≡ DONE → HasDriven (the_run named known words prints status) (ports_of port port_b known.ports after) batch from wiring first
 done_so named known after words prints status batch port port_b from wiring first goes_on workers quiet asks r done = elim r.is [
   | inl comes ↦
       let is = comes.1 in
       let run = the_run named known words prints status in
-      let held = held_files words (record { job = Drive batch port port_b from wiring first goes_on workers; is_quiet = quiet }) named.holds known.input is.0 is.1 asks is.2 in
-      let by = is.3.1 in
+      let held = held_files words (record { job = OverPorts (Drive batch port port_b from wiring first goes_on workers); is_quiet = quiet }) named.holds known.input is.0 is.1 asks is.2 in
+      let by = is.3.2 in
       subst (λ (w : Ways). HasDriven run (ports_of port port_b known.ports w) batch from wiring first) r.ports_are
-      (answered run batch from wiring first (record { port = port; port_b = port_b }) known.ports r.response.ports (not goes_on) (text_in is.0.list) is.0.other is.0.wiring
-      (record { told = []; left = is.1 }) (record { told = r.response.told; left = by.0 }) r.response.end (given_text run.holds batch is.0.list held.list) held.other held.wiring refl r.prints (sym r.status ∙ done) by.1)
+      (answered run batch from wiring first (record { port = port; port_b = port_b }) known.ports r.response.ports (not goes_on) (text_in is.0.list) is.0.schedule is.0.wiring
+      (record { told = []; left = is.1 }) (record { told = r.response.told; left = by.0 }) r.response.end (given_text run.holds batch is.0.list held.list) held.schedule held.wiring refl r.prints (sym r.status ∙ done) by.1)
   | inr none ↦ absurd (never_done status (r.status ∙ ap (λ (p : Printed). p.status) none.4.1) done)
 ]
 
 pub keeps_drives : (named : Named) (known : Knows) (after : Ways) (words : List Text) (prints : List ℕ → Type 0) (status : ℕ) → JobsCome named known after (the_run named known words prints status) → KeepsDrives (the_run named known words prints status) known.ports after
-keeps_drives named known after words prints status come batch port port_b from wiring first goes_on workers done = elim (come (record { job = Drive batch port port_b from wiring first goes_on workers; is_quiet = done.0.0 }) done.0.1) [
+keeps_drives named known after words prints status come batch port port_b from wiring first goes_on workers done = elim (come (record { job = OverPorts (Drive batch port port_b from wiring first goes_on workers); is_quiet = done.0.0 }) done.0.1) [
   | inl r ↦ done_so named known after words prints status batch port port_b from wiring first goes_on workers done.0.0 done.0.1 r done.1
   | inr other ↦ elim other [
     | inl cut ↦ absurd (never_done status cut.status done.1)
@@ -496,17 +504,11 @@ wrong_on from text wiring first refusal (drives.texts_wrong board of wrong has) 
 wrong_on from text wiring first refusal (drives.no_setting board batch settings of is ways other same) =
     let begun = not_begun first (length settings) other in no_setting board batch settings of (says from text batch settings is) ways begun.0 begun.1 same
 
--- so many switches
-many_switches : (filled : Option BoardWiring) (wide : Bool) → switches_in (rack_for filled wide) ≡ length (switches_of filled wide)
-many_switches (Some board) wide = refl
-many_switches None true = refl
-many_switches None false = refl
-
 -- the refusal was all that was printed, and no port was opened
 refused_so : (run : Run) (ports : Ports) (batch port : Text) (port_b : Option Text) (from : Source Text) (file : Option Text) (first : ℕ) (goes_on : Bool) (workers : ℕ) (texts : Files (List ℕ)) (refusal : Refusal) (start final : Dialogue) (printed : Printed)
-    → AreHeld run.holds (files_of (Drive batch port port_b from file first goes_on workers)) texts → start.told ≡ [] → final ≡ start → run.prints (final.told ++ printed.text) → IsRefused (refusal_words refusal) printed → ports.after ≡ ports.before
-    → IsFirstWrongOn (source_in from (text_in texts.other)) (text_in texts.list) texts.wiring first refusal ⊎ AreNoWays (source_in from (text_in texts.other)) (text_in texts.list) texts.wiring ports refusal
-    → HasRefusedDrive run ports (Drive batch port port_b from file first goes_on workers) from first
+    → AreHeld run.holds (files_of (OverPorts (Drive batch port port_b from file first goes_on workers))) texts → start.told ≡ [] → final ≡ start → run.prints (final.told ++ printed.text) → IsRefused (refusal_words refusal) printed → ports.after ≡ ports.before
+    → IsFirstWrongOn (source_in from (text_in texts.schedule)) (text_in texts.list) texts.wiring first refusal ⊎ AreNoWays (source_in from (text_in texts.schedule)) (text_in texts.list) texts.wiring ports refusal
+    → HasRefusedDrive run ports (OverPorts (Drive batch port port_b from file first goes_on workers)) from first
 refused_so run ports batch port port_b from file first goes_on workers texts refusal start final printed held none same prints line left wrong =
     let told : final.told ≡ [] = ap (λ (d : Dialogue). d.told) same ∙ none in
     record {
@@ -519,12 +521,12 @@ refused_so run ports batch port port_b from file first goes_on workers texts ref
     }
 
 module _ (run : Run) (batch port : Text) (port_b : Option Text) (from : Source Text) (file : Option Text) (first : ℕ) (goes_on : Bool) (workers : ℕ) (texts : Files (List ℕ)) (was opens : Ways) (start final : Dialogue) (printed : Printed)
-    (held : AreHeld run.holds (files_of (Drive batch port port_b from file first goes_on workers)) texts) (none : start.told ≡ []) (prints : run.prints (final.told ++ printed.text)) (status : printed.status ≡ REFUSED) where
+    (held : AreHeld run.holds (files_of (OverPorts (Drive batch port port_b from file first goes_on workers))) texts) (none : start.told ≡ []) (prints : run.prints (final.told ++ printed.text)) (status : printed.status ≡ REFUSED) where
   abbrev Ended1 : Type 0
-  Ended1 = HasStopped run (ports_of port port_b was opens) batch from file first ⊎ HasRefusedDrive run (ports_of port port_b was opens) (Drive batch port port_b from file first goes_on workers) from first
+  Ended1 = HasStopped run (ports_of port port_b was opens) batch from file first ⊎ HasRefusedDrive run (ports_of port port_b was opens) (OverPorts (Drive batch port port_b from file first goes_on workers)) from first
 
   tried_so : (board : Option BoardText) (filled : Option BoardWiring) (transfers : List Transfer) (settings : List (List ℕ)) → Read run batch from file (record { port = port; port_b = port_b }) filled transfers settings
-      → ((refusal : Refusal) → IsUnopened (record { port = port; port_b = port_b }) (switches_in (rack_for filled (is_wide_over (record { port = port; port_b = port_b }) transfers))) refusal → AreNoWays (source_in from (text_in texts.other)) (text_in texts.list) texts.wiring (ports_of port port_b was opens) refusal)
+      → ((refusal : Refusal) → IsUnopened (record { port = port; port_b = port_b }) (switches_in (rack_for filled (is_wide_over (record { port = port; port_b = port_b }) transfers))) refusal → AreNoWays (source_in from (text_in texts.schedule)) (text_in texts.list) texts.wiring (ports_of port port_b was opens) refusal)
       → IsTried (TellsLine (not goes_on)) (rack_for filled (is_wide_over (record { port = port; port_b = port_b }) transfers)) transfers settings first (record { port = port; port_b = port_b }) was opens start final printed → Ended1
   tried_so board filled transfers settings r no_ways (drives.driven (Completed all) many over ends) = absurd (done_is printed.status ends.1 status)
   tried_so board filled transfers settings r no_ways (drives.driven (Stopped k fault) many over ends) =
@@ -537,28 +539,28 @@ module _ (run : Run) (batch port : Text) (port_b : Option Text) (from : Source T
   tried_so board filled transfers settings r no_ways (drives.unopened refusal why refuses same left) =
       inr (refused_so run (ports_of port port_b was opens) batch port port_b from file first goes_on workers texts refusal start final printed held none same prints refuses.1 left (inr (no_ways refusal why)))
 
-  stops_so : IsDriveAnswer (TellsLine (not goes_on)) (source_in from (text_in texts.other)) (text_in texts.list) texts.wiring first (record { port = port; port_b = port_b }) was opens start final printed → Ended1
+  stops_so : IsDriveAnswer (TellsLine (not goes_on)) (source_in from (text_in texts.schedule)) (text_in texts.list) texts.wiring first (record { port = port; port_b = port_b }) was opens start final printed → Ended1
   stops_so (drives.tried board filled transfers settings of is ways fills begins tries) =
-      tried_so board filled transfers settings (read_so run batch from file (record { port = port; port_b = port_b }) (text_in texts.list) texts.other board filled transfers settings (given_text run.holds batch texts.list held.list) held.other (board_held run file texts.wiring board held.wiring of) is ways fills)
-      (λ refusal why. (board, filled, transfers, settings, of, fills, says (source_in from (text_in texts.other)) (text_in texts.list) transfers settings is, subst (λ (n : ℕ). IsUnopened (record { port = port; port_b = port_b }) n refusal) (many_switches filled (is_wide_over (record { port = port; port_b = port_b }) transfers)) why)) tries
+      tried_so board filled transfers settings (read_so run batch from file (record { port = port; port_b = port_b }) (text_in texts.list) texts.schedule board filled transfers settings (given_text run.holds batch texts.list held.list) held.schedule (board_held run file texts.wiring board held.wiring of) is ways fills)
+      (λ refusal why. (board, filled, transfers, settings, of, fills, says (source_in from (text_in texts.schedule)) (text_in texts.list) transfers settings is, subst (λ (n : ℕ). IsUnopened (record { port = port; port_b = port_b }) n refusal) (many_switches filled (is_wide_over (record { port = port; port_b = port_b }) transfers)) why)) tries
   stops_so (drives.wrong refusal wrong refuses same left) =
       inr (refused_so run (ports_of port port_b was opens) batch port port_b from file first goes_on workers texts refusal start final printed held none same prints refuses.1 left (inl (wrong_on _ (text_in texts.list) texts.wiring first refusal wrong)))
 
 module _ (named : Named) (known : Knows) (after : Ways) (words : List Text) (prints : List ℕ → Type 0) (status : ℕ) (batch port : Text) (port_b : Option Text) (from : Source Text) (wiring : Option Text) (first : ℕ) (goes_on : Bool) (workers : ℕ) (quiet : Bool)
-    (asks : AskFor words (record { job = Drive batch port port_b from wiring first goes_on workers; is_quiet = quiet })) where
+    (asks : AskFor words (record { job = OverPorts (Drive batch port port_b from wiring first goes_on workers); is_quiet = quiet })) where
   abbrev Stopped1 : Type 0
   Stopped1 = HasStopped (the_run named known words prints status) (ports_of port port_b known.ports after) batch from wiring first
 
-  refused_or : Responded named known after (the_run named known words prints status) (Drive batch port port_b from wiring first goes_on workers) → status ≡ REFUSED
-      → Stopped1 ⊎ (HasRefusedDrive (the_run named known words prints status) (ports_of port port_b known.ports after) (Drive batch port port_b from wiring first goes_on workers) from first ⊎ (HasGivenUp (the_run named known words prints status) × (after ≡ known.ports)))
+  refused_or : Responded named known after (the_run named known words prints status) (OverPorts (Drive batch port port_b from wiring first goes_on workers)) → status ≡ REFUSED
+      → Stopped1 ⊎ (HasRefusedDrive (the_run named known words prints status) (ports_of port port_b known.ports after) (OverPorts (Drive batch port port_b from wiring first goes_on workers)) from first ⊎ (HasGivenUp (the_run named known words prints status) × (after ≡ known.ports)))
   refused_or r refused = elim r.is [
     | inl comes ↦
         let is = comes.1 in
         let run = the_run named known words prints status in
-        let held = held_files words (record { job = Drive batch port port_b from wiring first goes_on workers; is_quiet = quiet }) named.holds known.input is.0 is.1 asks is.2 in
-        let by = is.3.1 in
+        let held = held_files words (record { job = OverPorts (Drive batch port port_b from wiring first goes_on workers); is_quiet = quiet }) named.holds known.input is.0 is.1 asks is.2 in
+        let by = is.3.2 in
         let came = stops_so run batch port port_b from wiring first goes_on workers is.0 known.ports r.response.ports (record { told = []; left = is.1 }) (record { told = r.response.told; left = by.0 }) r.response.end held refl r.prints (sym r.status ∙ refused) by.1 in
-        let moved = subst (λ (w : Ways). HasStopped run (ports_of port port_b known.ports w) batch from wiring first ⊎ HasRefusedDrive run (ports_of port port_b known.ports w) (Drive batch port port_b from wiring first goes_on workers) from first) r.ports_are came in
+        let moved = subst (λ (w : Ways). HasStopped run (ports_of port port_b known.ports w) batch from wiring first ⊎ HasRefusedDrive run (ports_of port port_b known.ports w) (OverPorts (Drive batch port port_b from wiring first goes_on workers)) from first) r.ports_are came in
         elim moved [
           | inl stopped ↦ inl stopped
           | inr refuses ↦ inr (inl refuses)
@@ -569,16 +571,16 @@ module _ (named : Named) (known : Knows) (after : Ways) (words : List Text) (pri
   ]
 
   -- settings stood, and the line of the last one couldn't all be written
-  cut_so : ToldInPart named known after (the_run named known words prints status) (Drive batch port port_b from wiring first goes_on workers) → Stopped1
+  cut_so : ToldInPart named known after (the_run named known words prints status) (OverPorts (Drive batch port port_b from wiring first goes_on workers)) → Stopped1
   cut_so t =
       let is = t.cut in
       let run = the_run named known words prints status in
-      let held = held_files words (record { job = Drive batch port port_b from wiring first goes_on workers; is_quiet = quiet }) named.holds known.input is.0 is.1 asks is.2 in
+      let held = held_files words (record { job = OverPorts (Drive batch port port_b from wiring first goes_on workers); is_quiet = quiet }) named.holds known.input is.0 is.1 asks is.2 in
       let failed = is.3.1 in
       let over = failed.8.1 in
       let start : Dialogue = record { told = []; left = is.1 } in
       let final : Dialogue = record { told = t.told; left = is.3.0 } in
-      let read = read_so run batch from wiring (record { port = port; port_b = port_b }) (text_in is.0.list) is.0.other failed.0 failed.1 failed.2 failed.3 (given_text run.holds batch is.0.list held.list) held.other (board_held run wiring is.0.wiring failed.0 held.wiring failed.4) failed.5 failed.6 failed.7 in
+      let read = read_so run batch from wiring (record { port = port; port_b = port_b }) (text_in is.0.list) is.0.schedule failed.0 failed.1 failed.2 failed.3 (given_text run.holds batch is.0.list held.list) held.schedule (board_held run wiring is.0.wiring failed.0 held.wiring failed.4) failed.5 failed.6 failed.7 in
       let lines = told_before run batch from wiring first (record { port = port; port_b = port_b }) (not goes_on) failed.1 failed.2 failed.3 start final read refl Untold failed.8.0 over.carried over.went in
       let said = over.went.said in
       let line = stage_line failed.8.0 (numbers_in failed.3 failed.8.0) in
@@ -590,7 +592,7 @@ module _ (named : Named) (known : Knows) (after : Ways) (words : List Text) (pri
       last_stood run batch from wiring first (record { port = port; port_b = port_b }) (not goes_on) failed.1 failed.2 failed.3 start final read refl known.ports after Untold failed.8.0 (left_line failed.8.0) over.carried over.failed over.went over.ways (inl refl) (subst prints whole (t.prints more))
 
 pub keeps_stops : (named : Named) (known : Knows) (after : Ways) (words : List Text) (prints : List ℕ → Type 0) (status : ℕ) → JobsCome named known after (the_run named known words prints status) → KeepsStops (the_run named known words prints status) known.ports after
-keeps_stops named known after words prints status come batch port port_b from wiring first goes_on workers asks refused = elim (come (record { job = Drive batch port port_b from wiring first goes_on workers; is_quiet = asks.0 }) asks.1) [
+keeps_stops named known after words prints status come batch port port_b from wiring first goes_on workers asks refused = elim (come (record { job = OverPorts (Drive batch port port_b from wiring first goes_on workers); is_quiet = asks.0 }) asks.1) [
   | inl r ↦ refused_or named known after words prints status batch port port_b from wiring first goes_on workers asks.0 asks.1 r refused
   | inr other ↦ elim other [
     | inl cut ↦ inl (cut_so named known after words prints status batch port port_b from wiring first goes_on workers asks.0 asks.1 cut)

@@ -1,5 +1,5 @@
 -- The promises of what isn't asked for: no port, no file and no client's is opened for it.
-use Rattle.std.proofs.Common.{◌≡◌, ℕ, List, [], Option, Some, None, Result, Ok, Err, OnErr, inl, inr, ◌⊎◌, refl, sym, ap, subst, true, false}
+use Rattle.std.proofs.Common.{◌≡◌, ◌∙◌, ℕ, List, [], Option, Some, None, Result, Ok, Err, OnErr, inl, inr, ◌⊎◌, refl, sym, ap, subst}
 use Rattle.std.specs.Prelude.{option_map}
 use Rattle.std.specs.Io.KnownBytes.{Appends}
 use Rattle.std.proofs.KnownBytes.{Appends-nil}
@@ -12,18 +12,20 @@ use Rattle.clap.specs.declared.error.kind.ErrorKind.TheVariants.{DisplayHelp, Di
 use Rattle.command_words.specs.Jobs.{Files, IsFaultIn, faults_of, recorded_in}
 use Rattle.command_words.specs.declared.jobs.ArgumentsFault.TheVariants.{Clap, NoMemory}
 use Rattle.command_words.specs.declared.jobs.Job.{Job}
-use Rattle.command_words.specs.declared.jobs.Job.TheVariants.{Drive, Host, Serve, Talk}
+use Rattle.command_words.specs.declared.jobs.Job.TheVariants.{Ports as OverPorts, Sessions, Texts}
+use Rattle.command_words.specs.declared.jobs.PortJob.TheVariants.{C004, Drive}
+use Rattle.command_words.specs.declared.jobs.SessionJob.TheVariants.{Host, Serve, Talk}
 use Rattle.command_words.specs.declared.jobs.RecordFile.{RecordFile}
 use Rattle.command_words.specs.declared.jobs.Request.{Request}
 use Rattle.command_words.specs.declared.jobs.SharedRack.{SharedRack}
 use Rattle.drive_answers.specs.Ways.{Ways}
 use Rattle.exchange.proofs.AskedJobs.{Ended, EndsSo, KeepsSo, end_of, ended_run}
-use Rattle.exchange.proofs.OneRequest.{no_fault, one_request}
+use Rattle.command_words.proofs.OneRequest.{no_fault, one_request}
 use Rattle.exchange.proofs.PromisedCalls.{none_ended}
 use Rattle.exchange.specs.Ends.{IsCutFor, IsDoneInPart, IsEndWithoutArguments, IsNoneLeft, leaving}
 use Rattle.exchange.specs.Keeping.{AreKeptBut}
 use Rattle.exchange.specs.Promises.{AskForHelp, HasDoneNothing, HasNoFiles, HasOnlyFiles, IsMisused, KeepsNothing, KeepsOthers, KeepsUnread, LeavesAll, LeavesOthers, clients_of, kept_by, run_of}
-use Rattle.exchange.specs.Responses.{Given, HasNoSessions, IsAnswerTo, IsResponseTo, LeavesRest, Named, Response}
+use Rattle.exchange.specs.Responses.{Given, IsAnswerTo, IsResponseTo, IsToldCut, Named, Response}
 use Rattle.exchange.specs.declared.limits.TheConstants.{UNWRITTEN}
 use Rattle.kept_sessions.specs.Keeping.{AreLiveKept, AreScriptsKept, AreWritten}
 use Rattle.kept_sessions.specs.Records.{IsAsBegun}
@@ -34,31 +36,7 @@ use Rattle.named_files.specs.Streams.{Closed}
 use Rattle.named_files.specs.declared.lost.Lost.{Lost}
 use Rattle.named_files.specs.declared.lost.Reason.{Reason}
 use Rattle.named_files.specs.declared.outputs.Receipts.{Receipts}
-use Rattle.session_answers.specs.HostAnswers.{SessionEnd}
 use Rattle.session_answers.specs.declared.ended_session.Ending.{Ending}
-
--- ---- what a response leaves
-
--- a job without sessions leaves no book
-no_book : (holds : Holding) (job : Job) (files : Files (List ℕ)) (given : Given) (response : Response) → IsAnswerTo holds job files given response → HasNoSessions job → response.left ≡ None
-no_book holds (Serve rack scripts workers) files given response is none = absurd none
-no_book holds (Host rack clients workers) files given response is none = absurd none
-no_book holds (Talk rack) files given response is none = absurd none
-no_book holds job files given response is none = is.0
-
--- where nothing was opened, no more was than is asked for
-none_opened_for : (job : Job) (was opens : Ways) (ends : List SessionEnd) → opens ≡ was → ends ≡ [] → LeavesRest job was opens ends
-none_opened_for (Drive batch port port_b source wiring first goes_on workers) was opens ends ports none = none
-none_opened_for (Host rack clients workers) was opens ends ports none = ports
-none_opened_for job was opens ends ports none = (ports, none)
-
-record IsLeftBy (job : Job) (was : Ways) (response : Response) : Type 0 where
-  rest : LeavesRest job was response.ports response.ends
-  book : HasNoSessions job → response.left ≡ None
-
-left_by : (named : Named) (given : Given) (job : Job) (response : Response) → IsResponseTo named given job response → IsLeftBy job given.ports response
-left_by named given job response (inl comes) = let is = comes.1 in record { rest = is.4; book = no_book named.holds job is.0 _ response is.3 }
-left_by named given job response (inr none) = record { rest = none_opened_for job given.ports response.ports response.ends none.1 none.2; book = λ other. none.3 }
 
 -- ---- the files
 
@@ -102,30 +80,10 @@ module _ {C : Type 0} (received : C → Closed) (receipts : Receipts C) (comes :
   abbrev AreAllLeft : Type 0
   AreAllLeft = LeavesAll was after (kept_by received receipts) (clients_of comes had endings)
 
-  no_files : (holds : Holding) (job : Job) (lost : Lost) → HasNoSessions job → AreKeptBut holds received job None receipts lost → HasNoFiles (kept_by received receipts)
-  no_files holds (Serve rack scripts workers) lost none kept = absurd none
-  no_files holds (Host rack clients workers) lost none kept = absurd none
-  no_files holds (Talk rack) lost none kept = absurd none
-  no_files holds job lost none kept = (none_gone received receipts.recorded kept.0, none_gone received receipts.image kept.1)
-
-  -- so it is of a job, where this book is left
-  left_so : (holds : Holding) (job : Job) (left : Option Account) (lost : Lost) → LeavesRest job was after (ends_of endings) → (HasNoSessions job → left ≡ None) → AreKeptBut holds received job left receipts lost → IsLeft job
-  left_so holds (Drive batch port port_b source wiring first goes_on workers) left lost rest none kept =
-      let job = Drive batch port port_b source wiring first goes_on workers in
-      (no_files holds job lost tt (subst (λ (l : Option Account). AreKeptBut holds received job l receipts lost) (none tt) kept), none_ended endings rest)
-  left_so holds (Serve rack scripts workers) left lost rest none kept = (rest.0, scripts_only received receipts rack left lost kept, none_ended endings rest.1)
-  left_so holds (Host rack clients workers) left lost rest none kept = (rest, live_only holds received receipts rack clients left lost kept)
-  left_so holds (Talk rack) left lost rest none kept = (rest.0, live_only holds received receipts rack [] left lost kept, none_ended endings rest.1)
-  left_so holds job left lost rest none kept =
-      (rest.0, no_files holds job lost tt (subst (λ (l : Option Account). AreKeptBut holds received job l receipts lost) (none tt) kept), none_ended endings rest.1)
-
-  -- a response to it leaves this
-  response_left : (named : Named) (given : Given) (job : Job) (response : Response) (lost : Lost) → given.ports ≡ was → response.ports ≡ after → KeepsSo named.holds received receipts (ends_of endings) lost job response → IsResponseTo named given job response → IsLeft job
-  response_left named given job response lost same ports kept is =
-      let by = left_by named given job response is in
-      let rest = subst (λ (w : Ways). LeavesRest job w response.ports response.ends) same by.rest in
-      let opens = subst (λ (w : Ways). LeavesRest job was w response.ends) ports rest in
-      left_so named.holds job response.left lost (subst (λ (ends : List SessionEnd). LeavesRest job was after ends) kept.1 opens) by.book kept.0
+  no_files : (left : Option Account) (lost : Lost) → left ≡ None → AreScriptsKept received None None left receipts lost → HasNoFiles (kept_by received receipts)
+  no_files left lost none kept =
+      let gone = subst (λ (l : Option Account). AreScriptsKept received None None l receipts lost) none kept in
+      (none_gone received receipts.recorded gone.0, none_gone received receipts.image gone.1)
 
   -- nothing was opened
   all_left : IsNoneLeft receipts was after (ends_of endings) → AreAllLeft
@@ -137,11 +95,40 @@ module _ {C : Type 0} (received : C → Closed) (receipts : Receipts C) (comes :
 
   -- then no more was than any job asks for
   all_left_by : (job : Job) → AreAllLeft → IsLeft job
-  all_left_by (Drive batch port port_b source wiring first goes_on workers) all = (all.1, all.2)
-  all_left_by (Serve rack scripts workers) all = (all.0, (λ none. all.1.0, λ none. all.1.1), all.2)
-  all_left_by (Host rack clients workers) all = (all.0, (λ none. all.1.0, λ none. all.1.1))
-  all_left_by (Talk rack) all = (all.0, (λ none. all.1.0, λ none. all.1.1), all.2)
-  all_left_by job all = all
+  all_left_by (Texts job) all = all
+  all_left_by (OverPorts C004) all = all
+  all_left_by (OverPorts (Drive batch port port_b source wiring first goes_on workers)) all = (all.1, all.2)
+  all_left_by (Sessions rack (Host clients workers)) all = (all.0, (λ none. all.1.0, λ none. all.1.1))
+  all_left_by (Sessions rack job) all = (all.0, (λ none. all.1.0, λ none. all.1.1), all.2)
+
+  -- an answer to it leaves this
+  answer_left : (holds : Holding) (job : Job) (files : Files (List ℕ)) (given : Given) (response : Response) (lost : Lost) → given.ports ≡ was → response.ports ≡ after → response.ends ≡ ends_of endings → AreKeptBut holds received job response.left receipts lost → IsAnswerTo holds job files given response → IsLeft job
+  answer_left holds (Texts job) files given response lost same ports ends kept is = (sym ports ∙ is.2 ∙ same, no_files response.left lost is.0 kept, none_ended endings (sym ends ∙ is.1))
+  answer_left holds (OverPorts C004) files given response lost same ports ends kept is = (sym ports ∙ is.2.1 ∙ same, no_files response.left lost is.0 kept, none_ended endings (sym ends ∙ is.1))
+  answer_left holds (OverPorts (Drive batch port port_b source wiring first goes_on workers)) files given response lost same ports ends kept is = (no_files response.left lost is.0 kept, none_ended endings (sym ends ∙ is.1))
+  answer_left holds (Sessions rack (Serve scripts workers)) files given response lost same ports ends kept is = (sym ports ∙ is.0 ∙ same, scripts_only received receipts rack response.left lost kept, none_ended endings (sym ends ∙ is.1.2))
+  answer_left holds (Sessions rack (Host clients workers)) files given response lost same ports ends kept is = (sym ports ∙ is.0 ∙ same, live_only holds received receipts rack clients response.left lost kept)
+  answer_left holds (Sessions rack Talk) files given response lost same ports ends kept is = (sym ports ∙ is.0 ∙ same, live_only holds received receipts rack [] response.left lost kept, none_ended endings (sym ends ∙ is.1.2))
+
+  -- so does a refusal before it
+  none_left : (holds : Holding) (job : Job) (lost : Lost) → after ≡ was → ends_of endings ≡ [] → AreKeptBut holds received job None receipts lost → IsLeft job
+  none_left holds (Texts job) lost ports ends kept = (ports, no_files None lost refl kept, none_ended endings ends)
+  none_left holds (OverPorts C004) lost ports ends kept = (ports, no_files None lost refl kept, none_ended endings ends)
+  none_left holds (OverPorts (Drive batch port port_b source wiring first goes_on workers)) lost ports ends kept = (no_files None lost refl kept, none_ended endings ends)
+  none_left holds (Sessions rack (Serve scripts workers)) lost ports ends kept = (ports, scripts_only received receipts rack None lost kept, none_ended endings ends)
+  none_left holds (Sessions rack (Host clients workers)) lost ports ends kept = (ports, live_only holds received receipts rack clients None lost kept)
+  none_left holds (Sessions rack Talk) lost ports ends kept = (ports, live_only holds received receipts rack [] None lost kept, none_ended endings ends)
+
+  response_left : (named : Named) (given : Given) (job : Job) (response : Response) (lost : Lost) → given.ports ≡ was → response.ports ≡ after → KeepsSo named.holds received receipts (ends_of endings) lost job response → IsResponseTo named given job response → IsLeft job
+  response_left named given job response lost same ports kept (inl comes) = answer_left named.holds job comes.1.0 _ response lost same ports kept.1 kept.0 comes.1.3
+  response_left named given job response lost same ports kept (inr none) =
+      none_left named.holds job lost (sym ports ∙ none.1 ∙ same) (sym kept.1 ∙ none.2) (subst (λ (l : Option Account). AreKeptBut named.holds received job l receipts lost) none.3 kept.0)
+
+  -- so does what was told before an answer that couldn't all be written
+  cut_left : (holds : Holding) (job : Job) (files : Files (List ℕ)) (input : Option (List ℕ)) (told : List ℕ) → IsToldCut job files input was after told → ends_of endings ≡ [] → AreKeptBut holds received job None receipts lost_none → IsLeft job
+  cut_left holds (OverPorts C004) files input told is none kept = (is.1, no_files None lost_none refl kept, none_ended endings none)
+  cut_left holds (OverPorts (Drive batch port port_b source wiring first goes_on workers)) files input told is none kept = (no_files None lost_none refl kept, none_ended endings none)
+  cut_left holds job files input told is none kept = absurd is
 
 -- ---- help
 
@@ -192,7 +179,7 @@ module _ {C : Type 0} (received : C → Closed) (receipts : Receipts C) (comes :
     part_left request (inl (response, is, kept, part)) =
         response_left received receipts comes had endings given.ports after named given request.job response kept.0.0 refl kept.1 (kept.0.1, kept.2) is
     part_left request (inr (told, is, kept, part)) =
-        left_so received receipts comes had endings given.ports after named.holds request.job None lost_none is.4 (λ other. refl) kept
+        cut_left received receipts comes had endings given.ports after named.holds request.job is.0 is.1 told is.3 is.4 kept
 
     pub cut_others : KeepsOthers (run_of named.holds given.input before behind words code) given.ports after (kept_by received receipts) (clients_of comes had endings)
     cut_others job asks = by cut

@@ -4,7 +4,7 @@ use Rattle.batch.specs.Batches.{IsBatch}
 use Rattle.batch.specs.Extent.{widest}
 use Rattle.batch.specs.declared.transfer.Transfer.{Transfer}
 use Rattle.clap.specs.Words.{Text}
-use Rattle.command_words.specs.declared.jobs.Job.TheVariants.{Draw, Prices}
+use Rattle.command_words.specs.declared.jobs.TextJob.TheVariants.{Draw, Prices}
 use Rattle.exchange.proofs.AskedJobs.{Answers, never_done, text_done}
 use Rattle.exchange.proofs.HeldFiles.{given_text}
 use Rattle.exchange.specs.Promises.{HasDrawn, HasPriced, IsTitled, Run, StandsIn}
@@ -105,9 +105,9 @@ drawn_so run batch schedule chosen text other least printed held held_schedule p
 
 pub keeps_pictures : (run : Run) → Answers run → KeepsPictures run
 keeps_pictures run all batch schedule chosen done =
-    let is = text_done run (Draw batch schedule chosen) tt all done in
+    let is = text_done run (Draw batch schedule chosen) all done in
     let holds = run.holds in
-    drawn_so run batch schedule chosen (text_in is.files.list) (text_in is.files.other) is.answer.0 is.printed (given_text holds batch is.files.list is.held.list) (given_text holds schedule is.files.other is.held.other) is.prints (sym is.status ∙ done.1) is.answer.1
+    drawn_so run batch schedule chosen (text_in is.files.list) (text_in is.files.schedule) is.answer.0 is.printed (given_text holds batch is.files.list is.held.list) (given_text holds schedule is.files.schedule is.held.schedule) is.prints (sym is.status ∙ done.1) is.answer.1
 
 -- ---- prices
 
@@ -132,5 +132,5 @@ priced_so run batch schedule text other printed held held_schedule prints status
 
 pub keeps_prices : (run : Run) → Answers run → KeepsPrices run
 keeps_prices run all batch schedule done =
-    let is = text_done run (Prices batch schedule) tt all done in
-    priced_so run batch schedule (text_in is.files.list) (text_in is.files.other) is.printed (given_text run.holds batch is.files.list is.held.list) (given_text run.holds schedule is.files.other is.held.other) is.prints (sym is.status ∙ done.1) is.answer
+    let is = text_done run (Prices batch schedule) all done in
+    priced_so run batch schedule (text_in is.files.list) (text_in is.files.schedule) is.printed (given_text run.holds batch is.files.list is.held.list) (given_text run.holds schedule is.files.schedule is.held.schedule) is.prints (sym is.status ∙ done.1) is.answer

@@ -7,7 +7,7 @@ use Rattle.batch.specs.declared.limits.TheConstants.{MAX_BLOCKS, MAX_MODULES}
 use Rattle.batch.specs.Text.{Denotes, IsWithin}
 use Rattle.batch.specs.declared.transfer.Transfer.{Transfer}
 use Rattle.clap.specs.Words.{Text}
-use Rattle.command_words.specs.declared.jobs.Job.TheVariants.{Check, Direct, Plan}
+use Rattle.command_words.specs.declared.jobs.TextJob.TheVariants.{Check, Direct, Plan}
 use Rattle.exchange.proofs.AskedJobs.{Answers, never_done, text_done}
 use Rattle.exchange.proofs.HeldFiles.{given_text}
 use Rattle.exchange.specs.Promises.{HasChecked, HasDirected, HasPlanned, HoldsBatch, IsPlanOf, Run}
@@ -66,7 +66,7 @@ planned run file planning text printed held prints status (answers.refused fault
 
 pub keeps_plans : (run : Run) → Answers run → KeepsPlans run
 keeps_plans run all file planning workers done =
-    let is = text_done run (Plan file planning workers) tt all done in
+    let is = text_done run (Plan file planning workers) all done in
     planned run file planning (text_in is.files.list) is.printed (given_text run.holds file is.files.list is.held.list) is.prints (sym is.status ∙ done.1) is.answer
 
 -- ---- checks
@@ -92,9 +92,9 @@ checked run batch schedule text other printed held held_schedule prints status (
 
 pub keeps_checks : (run : Run) → Answers run → KeepsChecks run
 keeps_checks run all batch schedule done =
-    let is = text_done run (Check batch schedule) tt all done in
+    let is = text_done run (Check batch schedule) all done in
     let holds = run.holds in
-    checked run batch schedule (text_in is.files.list) (text_in is.files.other) is.printed (given_text holds batch is.files.list is.held.list) (given_text holds schedule is.files.other is.held.other) is.prints (sym is.status ∙ done.1) is.answer
+    checked run batch schedule (text_in is.files.list) (text_in is.files.schedule) is.printed (given_text holds batch is.files.list is.held.list) (given_text holds schedule is.files.schedule is.held.schedule) is.prints (sym is.status ∙ done.1) is.answer
 
 -- ---- directions
 
@@ -115,5 +115,5 @@ directed run file text printed held prints status (directing.refused fault first
 
 pub keeps_directions : (run : Run) → Answers run → KeepsDirections run
 keeps_directions run all moves done =
-    let is = text_done run (Direct moves) tt all done in
+    let is = text_done run (Direct moves) all done in
     directed run moves (text_in is.files.list) is.printed (given_text run.holds moves is.files.list is.held.list) is.prints (sym is.status ∙ done.1) is.answer

@@ -10,14 +10,14 @@ use Rattle.board_wiring.specs.Boards.{IsBoardOf}
 use Rattle.board_wiring.specs.Sources.{of_wiring}
 use Rattle.board_wiring.specs.declared.board.Board.{Board}
 use Rattle.command_words.specs.Jobs.{Files}
-use Rattle.command_words.specs.declared.jobs.Job.{Job}
-use Rattle.command_words.specs.declared.jobs.Job.TheVariants.{Apply, Check, Direct, Draw, Orders, Plan, Prices, Run as RunJob, Switch as SwitchJob}
+use Rattle.command_words.specs.declared.jobs.TextJob.{TextJob}
+use Rattle.command_words.specs.declared.jobs.TextJob.TheVariants.{Apply, Check, Direct, Draw, Orders, Plan, Prices, Replay, Run as RunJob, Switch as SwitchJob}
 use Rattle.exchange.proofs.AskedJobs.{Answers, IsAnswered}
 use Rattle.exchange.proofs.EndStatuses.{gave_up}
 use Rattle.exchange.proofs.PromisedRights.{drawings_right, switches_right}
 use Rattle.exchange.specs.Promises.{AreRightTexts, CanBeRun, HasRefused, IsFirstOverlapIn, IsFirstWrongDrawn, IsFirstWrongIn, IsFirstWrongOn, IsShown, Run, invalid, lacking, no_range, outside, texts_wrong, wiring_wrong}
-use Rattle.exchange.proofs.KeepsEach.{IsOfTextsAlone, KeepsRefusals}
-use Rattle.exchange.specs.Responses.{IsOfTexts, IsTextAnswer, source_in, text_in}
+use Rattle.exchange.proofs.KeepsEach.{IsNoReplay, KeepsRefusals}
+use Rattle.exchange.specs.Responses.{IsTextAnswer, source_in, text_in}
 use Rattle.move_directions.proofs.OneReading as moves_reading
 use Rattle.plan_answers.proofs.OneDrawing.{read_right}
 use Rattle.plan_answers.proofs.OneSource.{from_right, right_denoted, right_or_wrong}
@@ -70,19 +70,19 @@ undrawn_so text schedule chosen refusal (drawings.no_range bad is) = no_range ba
 undrawn_so text schedule chosen refusal (drawings.invalid range wanted wrong) = invalid range wanted wrong
 undrawn_so text schedule chosen refusal (drawings.no_setting range batch settings k wanted read beyond is) = outside range batch settings k wanted read beyond is
 
-wrong_of : (job : Job) (texts : Files (List ℕ)) (printed : Printed) → IsOfTextsAlone job → IsTextAnswer job texts printed → printed.status ≡ REFUSED → Refused (IsFirstWrongIn job texts) printed
+wrong_of : (job : TextJob) (texts : Files (List ℕ)) (printed : Printed) → IsNoReplay job → IsTextAnswer job texts printed → printed.status ≡ REFUSED → Refused (IsFirstWrongIn job texts) printed
 wrong_of (Plan file planning workers) texts printed alone (answers.planned batch denotes plan done) status = absurd (done_is printed.status done status)
 wrong_of (Plan file planning workers) texts printed alone (answers.refused fault first line) status = record { refusal = of_batch fault; wrong = (fault, first, refl); line = line }
 wrong_of (Check batch schedule) texts printed alone (answers.shortest count shown text done) status = absurd (done_is printed.status done status)
 wrong_of (Check batch schedule) texts printed alone (answers.refused refusal wrong line) status = record { refusal = refusal; wrong = wrong; line = line }
 wrong_of (Draw batch schedule chosen) texts printed alone (least, drawn d so_many done) status = absurd (done_is printed.status done status)
-wrong_of (Draw batch schedule chosen) texts printed alone (least, undrawn refusal wrong line) status = record { refusal = refusal; wrong = undrawn_so (text_in texts.list) (text_in texts.other) chosen refusal wrong; line = line }
+wrong_of (Draw batch schedule chosen) texts printed alone (least, undrawn refusal wrong line) status = record { refusal = refusal; wrong = undrawn_so (text_in texts.list) (text_in texts.schedule) chosen refusal wrong; line = line }
 wrong_of (Prices batch schedule) texts printed alone (priced transfers settings read says done) status = absurd (done_is printed.status done status)
 wrong_of (Prices batch schedule) texts printed alone (unpriced refusal wrong line) status = record { refusal = refusal; wrong = wrong; line = line }
-wrong_of (SwitchJob batch scheduled wiring has_two workers) texts printed alone is status = switched_on (source_in scheduled (text_in texts.other)) has_two (text_in texts.list) texts.wiring printed is status
+wrong_of (SwitchJob batch scheduled wiring has_two workers) texts printed alone is status = switched_on (source_in scheduled (text_in texts.schedule)) has_two (text_in texts.list) texts.wiring printed is status
 wrong_of (Orders batch scheduled only workers) texts printed alone (ordering.ordered transfers settings is (ordering.told apart told done)) status = absurd (done_is printed.status done status)
 wrong_of (Orders batch scheduled only workers) texts printed alone (ordering.ordered transfers settings is (ordering.overlap i j first line)) status =
-    record { refusal = Overlap i j; wrong = inr (transfers, i, j, from_right (source_in scheduled (text_in texts.other)) widest (text_in texts.list) transfers settings is, first, refl); line = line }
+    record { refusal = Overlap i j; wrong = inr (transfers, i, j, from_right (source_in scheduled (text_in texts.schedule)) widest (text_in texts.list) transfers settings is, first, refl); line = line }
 wrong_of (Orders batch scheduled only workers) texts printed alone (ordering.wrong refusal wrong line) status = record { refusal = refusal; wrong = inl wrong; line = line }
 wrong_of (Direct moves) texts printed alone (directing.directed list reads says done) status = absurd (done_is printed.status done status)
 wrong_of (Direct moves) texts printed alone (directing.refused fault first line) status = record { refusal = of_moves fault; wrong = (fault, first, refl); line = line }
@@ -90,7 +90,7 @@ wrong_of (Apply shape batch image workers) texts printed alone (ran r done) stat
 wrong_of (Apply shape batch image workers) texts printed alone (run_refused refusal wrong line) status = record { refusal = refusal; wrong = wrong; line = line }
 wrong_of (RunJob shape batch scheduled image workers) texts printed alone (ran r done) status = absurd (done_is printed.status done status)
 wrong_of (RunJob shape batch scheduled image workers) texts printed alone (run_refused refusal wrong line) status = record { refusal = refusal; wrong = wrong; line = line }
-wrong_of job texts printed alone is status = absurd alone
+wrong_of (Replay shape recorded image first) texts printed alone is status = absurd alone
 
 -- ---- right texts have nothing wrong
 
@@ -127,33 +127,21 @@ orders_right : (from : Source (List ℕ)) (text : List ℕ) (transfers : List Tr
 orders_right from text transfers refusal right apart (inl wrong) = right_or_wrong from widest widest_shape text transfers refusal right wrong
 orders_right from text transfers refusal right apart (inr over) = of_apart widest widest_shape from text transfers over.0 right over.3 apart over.1 over.2 over.4.overlap
 
-not_right : (job : Job) (texts : Files (List ℕ)) (refusal : Refusal) → IsFirstWrongIn job texts refusal → AreRightTexts job texts → ⊥
+not_right : (job : TextJob) (texts : Files (List ℕ)) (refusal : Refusal) → IsFirstWrongIn job texts refusal → AreRightTexts job texts → ⊥
 not_right (Plan file planning workers) texts refusal wrong right = batch_reading.apart widest widest_shape (text_in texts.list) right.0 wrong.0 right.1 wrong.1
-not_right (Check batch schedule) texts refusal wrong right = checks_right (text_in texts.list) (text_in texts.other) right.0 right.1 refusal right.2 right.3 wrong
-not_right (Draw batch schedule chosen) texts refusal wrong right = drawings_right (text_in texts.list) (text_in texts.other) chosen refusal right wrong
-not_right (Prices batch schedule) texts refusal wrong right = read_right widest widest_shape (text_in texts.list) (text_in texts.other) right.0 right.1 refusal right.2 wrong
-not_right (SwitchJob batch scheduled wiring has_two workers) texts refusal wrong right = switches_right (source_in scheduled (text_in texts.other)) (text_in texts.list) texts.wiring refusal right wrong
-not_right (Orders batch scheduled only workers) texts refusal wrong right = orders_right (source_in scheduled (text_in texts.other)) (text_in texts.list) right.0 refusal right.1 right.2 wrong
+not_right (Check batch schedule) texts refusal wrong right = checks_right (text_in texts.list) (text_in texts.schedule) right.0 right.1 refusal right.2 right.3 wrong
+not_right (Draw batch schedule chosen) texts refusal wrong right = drawings_right (text_in texts.list) (text_in texts.schedule) chosen refusal right wrong
+not_right (Prices batch schedule) texts refusal wrong right = read_right widest widest_shape (text_in texts.list) (text_in texts.schedule) right.0 right.1 refusal right.2 wrong
+not_right (SwitchJob batch scheduled wiring has_two workers) texts refusal wrong right = switches_right (source_in scheduled (text_in texts.schedule)) (text_in texts.list) texts.wiring refusal right wrong
+not_right (Orders batch scheduled only workers) texts refusal wrong right = orders_right (source_in scheduled (text_in texts.schedule)) (text_in texts.list) right.0 refusal right.1 right.2 wrong
 not_right (Direct moves) texts refusal wrong right = moves_reading.apart (text_in texts.list) right.0 wrong.0 right.1 wrong.1
-not_right (Apply shape batch image workers) texts refusal wrong right = runs_right _ shape (text_in texts.list) (Some (text_in texts.other)) refusal right wrong
+not_right (Apply shape batch image workers) texts refusal wrong right = runs_right _ shape (text_in texts.list) (Some (text_in texts.schedule)) refusal right wrong
 not_right (RunJob shape batch scheduled image workers) texts refusal wrong right = runs_right _ shape (text_in texts.list) texts.image refusal right wrong
-not_right job texts refusal wrong right = absurd right
+not_right (Replay shape recorded image first) texts refusal wrong right = absurd right
 
 -- ---- the promise
 
-of_texts : (job : Job) → IsOfTextsAlone job → IsOfTexts job
-of_texts (Plan file planning workers) alone = tt
-of_texts (Check batch schedule) alone = tt
-of_texts (Draw batch schedule chosen) alone = tt
-of_texts (Prices batch schedule) alone = tt
-of_texts (SwitchJob batch scheduled wiring has_two workers) alone = tt
-of_texts (Orders batch scheduled only workers) alone = tt
-of_texts (Direct moves) alone = tt
-of_texts (Apply shape batch image workers) alone = tt
-of_texts (RunJob shape batch scheduled image workers) alone = tt
-of_texts job alone = absurd alone
-
-refused : (run : Run) (job : Job) → IsOfTextsAlone job → IsAnswered run job → run.status ≡ REFUSED → HasRefused run job
+refused : (run : Run) (job : TextJob) → IsNoReplay job → IsAnswered run job → run.status ≡ REFUSED → HasRefused run job
 refused run job alone is status =
     let wrong = wrong_of job is.files is.printed alone is.answer (sym is.status ∙ status) in
     record {
@@ -166,7 +154,7 @@ refused run job alone is status =
     }
 
 pub keeps_refusals : (run : Run) → Answers run → KeepsRefusals run
-keeps_refusals run all job alone asks status = elim (all job (of_texts job alone) asks) [
+keeps_refusals run all job alone asks status = elim (all job asks) [
   | inl is ↦ inl (refused run job alone is status)
   | inr gives_up ↦ inr (gave_up run gives_up.0 gives_up.1)
 ]

@@ -4,7 +4,8 @@ use Rattle.std.specs.Prelude.{IfSome}
 use Rattle.batch.specs.Extent.{Extent}
 use Rattle.batch.specs.ShapeText.{DenotesShape}
 use Rattle.clap.specs.Words.{Text}
-use Rattle.command_words.specs.declared.jobs.Job.TheVariants.{Replay}
+use Rattle.command_words.specs.declared.jobs.Job.TheVariants.{Texts}
+use Rattle.command_words.specs.declared.jobs.TextJob.TheVariants.{Replay}
 use Rattle.exchange.proofs.AskedJobs.{Answers, never_done, text_done}
 use Rattle.exchange.proofs.EndStatuses.{gave_up}
 use Rattle.exchange.proofs.HeldFiles.{given_text}
@@ -67,13 +68,13 @@ refused_so run shape recorded image first text bytes printed told torn held held
 refused_so run shape recorded image first text bytes printed told torn held held_image prints status (other_head words opening due of rack other line refuses) =
     refused_by run shape recorded image first text bytes printed RecordHead held held_image prints (promise.other_head words opening of rack other refl) refuses.refuses
 
-replay_done : (run : Run) → Answers run → (shape : Option Text) (recorded : Text) (image : Option Text) (first : Option ℕ) → HasDone run (Replay shape recorded image first) → HasReplayed run shape recorded image first
+replay_done : (run : Run) → Answers run → (shape : Option Text) (recorded : Text) (image : Option Text) (first : Option ℕ) → HasDone run (Texts (Replay shape recorded image first)) → HasReplayed run shape recorded image first
 replay_done run all shape recorded image first done =
-    let is = text_done run (Replay shape recorded image first) tt all done in
+    let is = text_done run (Replay shape recorded image first) all done in
     replayed_so run shape recorded image first (text_in is.files.list) is.files.image is.printed is.answer.0 is.answer.1 (given_text run.holds recorded is.files.list is.held.list) is.held.image is.prints (sym is.status ∙ done.1) is.answer.2
 
-replay_refused : (run : Run) → Answers run → (shape : Option Text) (recorded : Text) (image : Option Text) (first : Option ℕ) → AsksFor run (Replay shape recorded image first) → run.status ≡ REFUSED → HasRefusedReplay run shape recorded image first ⊎ HasGivenUp run
-replay_refused run all shape recorded image first asks status = elim (all (Replay shape recorded image first) tt asks) [
+replay_refused : (run : Run) → Answers run → (shape : Option Text) (recorded : Text) (image : Option Text) (first : Option ℕ) → AsksFor run (Texts (Replay shape recorded image first)) → run.status ≡ REFUSED → HasRefusedReplay run shape recorded image first ⊎ HasGivenUp run
+replay_refused run all shape recorded image first asks status = elim (all (Replay shape recorded image first) asks) [
   | inl is ↦
       inl (refused_so run shape recorded image first (text_in is.files.list) is.files.image is.printed is.answer.0 is.answer.1 (given_text run.holds recorded is.files.list is.held.list) is.held.image is.prints (sym is.status ∙ status) is.answer.2)
   | inr gives_up ↦ inr (gave_up run gives_up.0 gives_up.1)

@@ -5,7 +5,8 @@ use Rattle.std.specs.Io.KnownBytes.{Consumes, IsAtEnd}
 use Rattle.std.proofs.lemmas.List.{append-nil}
 use Rattle.clap.specs.Words.{Text}
 use Rattle.command_words.specs.Jobs.{Files, files_of}
-use Rattle.command_words.specs.declared.jobs.Job.TheVariants.{C004}
+use Rattle.command_words.specs.declared.jobs.Job.TheVariants.{Ports as OverPorts}
+use Rattle.command_words.specs.declared.jobs.PortJob.TheVariants.{C004}
 use Rattle.drive_answers.specs.Ways.{Ways}
 use Rattle.exchange.proofs.AskedJobs.{JobsCome, Responded, ToldInPart, never_done, the_run}
 use Rattle.exchange.proofs.EndStatuses.{gave_up}
@@ -19,10 +20,10 @@ use Rattle.plan_answers.specs.Refusals.{Printed}
 use Rattle.plan_answers.specs.declared.limits.TheConstants.{DONE}
 
 -- no file was read
-none_read : (holds : Holding) (input : Option (List ℕ)) (texts : Files (List ℕ)) (rest : Option (List ℕ)) → AreContents holds input (files_of C004) texts rest → rest ≡ input
+none_read : (holds : Holding) (input : Option (List ℕ)) (texts : Files (List ℕ)) (rest : Option (List ℕ)) → AreContents holds input (files_of (OverPorts C004)) texts rest → rest ≡ input
 none_read holds input texts rest r =
     pass holds r.3 [] texts.scripts rest tt r.8 ∙ (pass holds r.2 [] (option_to_list texts.wiring) r.3 tt r.7
-    ∙ (pass holds r.1 [] (option_to_list texts.other) r.2 tt r.6 ∙ (pass holds r.0 [] (option_to_list texts.list) r.1 tt r.5 ∙ pass holds input [] (option_to_list texts.image) r.0 tt r.4)))
+    ∙ (pass holds r.1 [] (option_to_list texts.schedule) r.2 tt r.6 ∙ (pass holds r.0 [] (option_to_list texts.list) r.1 tt r.5 ∙ pass holds input [] (option_to_list texts.image) r.0 tt r.4)))
 
 -- all of standard input came
 all_came : (input after : Option (List ℕ)) (came : List ℕ) → Consumes input after came → IsAtEnd after → IfSome input (λ known. came ≡ known)
@@ -69,37 +70,37 @@ module _ (named : Named) (given : Given) (ports : Ways) (words : List Text) (pri
   nothing_behind : (rest : Option (List ℕ)) (told : List ℕ) (end : Printed) → IsC004By rest told end → prints (told ++ end.text) → prints told
   nothing_behind rest told end by = subst prints (ap (λ (t : List ℕ). told ++ t) by.6 ∙ append-nil told)
 
-  done_so : Responded named given ports The C004 → status ≡ DONE → HasReplied The
+  done_so : Responded named given ports The (OverPorts C004) → status ≡ DONE → HasReplied The
   done_so r done = elim r.is [
-    | inl comes ↦ let is = comes.1 in replied is.1 r.response.told r.response.end (none_read named.holds given.input is.0 is.1 is.2) (sym r.status ∙ done) r.prints is.3.1
+    | inl comes ↦ let is = comes.1 in replied is.1 r.response.told r.response.end (none_read named.holds given.input is.0 is.1 is.2) (sym r.status ∙ done) r.prints is.3.2.0
     | inr none ↦ absurd (never_done status (r.status ∙ ap (λ (p : Printed). p.status) none.4.1) done)
   ]
 
-  part_so : Responded named given ports The C004 → HasRepliedInPart The ⊎ HasGivenUp The
+  part_so : Responded named given ports The (OverPorts C004) → HasRepliedInPart The ⊎ HasGivenUp The
   part_so r = elim r.is [
-    | inl comes ↦ let is = comes.1 in inl (replied_part is.1 r.response.told r.response.end (none_read named.holds given.input is.0 is.1 is.2) (nothing_behind is.1 r.response.told r.response.end is.3.1 r.prints) is.3.1)
+    | inl comes ↦ let is = comes.1 in inl (replied_part is.1 r.response.told r.response.end (none_read named.holds given.input is.0 is.1 is.2) (nothing_behind is.1 r.response.told r.response.end is.3.2.0 r.prints) is.3.2.0)
     | inr none ↦
         let text = subst (λ (told : List ℕ). prints (told ++ r.response.end.text)) none.0 r.prints in
         inr (gave_up The none.4.0 (subst (λ (p : Printed). prints p.text) none.4.1 text))
   ]
 
   -- replies that couldn't all be written
-  cut_so : ToldInPart named given ports The C004 → HasRepliedInPart The
+  cut_so : ToldInPart named given ports The (OverPorts C004) → HasRepliedInPart The
   cut_so t =
       let is = t.cut in
-      let by = is.3 in
+      let by = is.3.0 in
       replied_part is.1 (t.told ++ by.0) by.1 (none_read named.holds given.input is.0 is.1 is.2) (t.prints by.0) by.2
 
   pub keeps_replies : JobsCome named given ports The → KeepsReplies The
   keeps_replies come = (
-    λ done. elim (come (record { job = C004; is_quiet = done.0.0 }) done.0.1) [
+    λ done. elim (come (record { job = OverPorts C004; is_quiet = done.0.0 }) done.0.1) [
       | inl r ↦ done_so r done.1
       | inr other ↦ elim other [
         | inl cut ↦ absurd (never_done status cut.status done.1)
         | inr none ↦ absurd (never_done status none.status done.1)
       ]
     ],
-    λ asks refused. elim (come (record { job = C004; is_quiet = asks.0 }) asks.1) [
+    λ asks refused. elim (come (record { job = OverPorts C004; is_quiet = asks.0 }) asks.1) [
       | inl r ↦ part_so r
       | inr other ↦ elim other [
         | inl cut ↦ inl (cut_so cut)

@@ -5,7 +5,7 @@ use Rattle.batch.specs.Text.{Denotes}
 use Rattle.batch.specs.declared.transfer.Transfer.{Transfer}
 use Rattle.clap.specs.Words.{Text}
 use Rattle.command_words.specs.Jobs.{schedule_in}
-use Rattle.command_words.specs.declared.jobs.Job.TheVariants.{Apply, Run as RunJob}
+use Rattle.command_words.specs.declared.jobs.TextJob.TheVariants.{Apply, Run as RunJob}
 use Rattle.exchange.proofs.AskedJobs.{Answers, never_done, text_done}
 use Rattle.exchange.proofs.HeldFiles.{given_text}
 use Rattle.exchange.proofs.PromisedPlans.{plan_is, wider}
@@ -73,8 +73,8 @@ ran_so run shape batch from image text other bytes printed held held_schedule he
 
 pub keeps_runs : (run : Run) → Answers run → KeepsRuns run
 keeps_runs run all shape batch from image workers done =
-    let is = text_done run (RunJob shape batch from image workers) tt all done in
-    ran_so run shape batch from image (text_in is.files.list) is.files.other is.files.image is.printed (given_text run.holds batch is.files.list is.held.list) is.held.other is.held.image is.prints (sym is.status ∙ done.1) is.answer
+    let is = text_done run (RunJob shape batch from image workers) all done in
+    ran_so run shape batch from image (text_in is.files.list) is.files.schedule is.files.image is.printed (given_text run.holds batch is.files.list is.held.list) is.held.schedule is.held.image is.prints (sym is.status ∙ done.1) is.answer
 
 applied : (run : Run) (shape batch image : Text) (text bytes : List ℕ) (printed : Printed) → run.holds batch text → run.holds image bytes → run.prints printed.text → printed.status ≡ DONE → IsApplied shape text bytes printed → HasApplied run shape batch image
 applied run shape batch image text bytes printed held held_image prints status (ran r done) = record {
@@ -88,6 +88,6 @@ applied run shape batch image text bytes printed held held_image prints status (
 
 pub keeps_images : (run : Run) → Answers run → KeepsImages run
 keeps_images run all shape batch image workers done =
-    let is = text_done run (Apply shape batch image workers) tt all done in
+    let is = text_done run (Apply shape batch image workers) all done in
     let holds = run.holds in
-    applied run shape batch image (text_in is.files.list) (text_in is.files.other) is.printed (given_text holds batch is.files.list is.held.list) (given_text holds image is.files.other is.held.other) is.prints (sym is.status ∙ done.1) is.answer
+    applied run shape batch image (text_in is.files.list) (text_in is.files.schedule) is.printed (given_text holds batch is.files.list is.held.list) (given_text holds image is.files.schedule is.held.schedule) is.prints (sym is.status ∙ done.1) is.answer

@@ -11,7 +11,7 @@ use Rattle.board_wiring.specs.Text.{Denotes as DenotesWiring}
 use Rattle.board_wiring.specs.declared.board.Board.{Board as BoardText}
 use Rattle.clap.specs.Words.{Text}
 use Rattle.command_words.specs.Jobs.{schedule_in}
-use Rattle.command_words.specs.declared.jobs.Job.TheVariants.{Orders, Switch as SwitchJob}
+use Rattle.command_words.specs.declared.jobs.TextJob.TheVariants.{Orders, Switch as SwitchJob}
 use Rattle.crossbar.specs.Pairs.{ArePairs, room_of}
 use Rattle.crossbar.specs.Switch.{enquiries}
 use Rattle.crossbar.specs.declared.board.BoardWiring.{BoardWiring}
@@ -141,8 +141,8 @@ switched_on run batch from (Some file) has_two text other (Some wiring) printed 
 
 pub keeps_switches : (run : Run) → Answers run → KeepsSwitches run
 keeps_switches run all batch from wiring has_two workers done =
-    let is = text_done run (SwitchJob batch from wiring has_two workers) tt all done in
-    switched_on run batch from wiring has_two (text_in is.files.list) is.files.other is.files.wiring is.printed (given_text run.holds batch is.files.list is.held.list) is.held.other is.held.wiring is.prints (sym is.status ∙ done.1) is.answer
+    let is = text_done run (SwitchJob batch from wiring has_two workers) all done in
+    switched_on run batch from wiring has_two (text_in is.files.list) is.files.schedule is.files.wiring is.printed (given_text run.holds batch is.files.list is.held.list) is.held.schedule is.held.wiring is.prints (sym is.status ∙ done.1) is.answer
 
 -- ---- `orders`
 
@@ -178,5 +178,5 @@ ordered run batch from only text other printed held held_schedule prints status 
 
 pub keeps_orders : (run : Run) → Answers run → KeepsOrders run
 keeps_orders run all batch from only workers done =
-    let is = text_done run (Orders batch from only workers) tt all done in
-    ordered run batch from only (text_in is.files.list) is.files.other is.printed (given_text run.holds batch is.files.list is.held.list) is.held.other is.prints (sym is.status ∙ done.1) is.answer
+    let is = text_done run (Orders batch from only workers) all done in
+    ordered run batch from only (text_in is.files.list) is.files.schedule is.printed (given_text run.holds batch is.files.list is.held.list) is.held.schedule is.prints (sym is.status ∙ done.1) is.answer

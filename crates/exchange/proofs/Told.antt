@@ -7,7 +7,6 @@ use Rattle.std.proofs.KnownBytes.{Appends-nil, Appends-trans}
 use Rattle.client_session.specs.Listening.{TellsOfRefusals, Told as Heard}
 use Rattle.plan_answers.specs.Refusals.{Printed}
 use Rattle.command_words.specs.declared.jobs.Job.{Job}
-use Rattle.named_files.specs.declared.notes.NoAnswer.TheVariants as missed
 use Rattle.command_words.specs.declared.jobs.Request.{Request}
 use Rattle.batch_book.specs.History.{Account}
 use Rattle.named_files.specs.declared.unwritten.Unwritten.{Unwritten}
@@ -16,27 +15,20 @@ use Rattle.named_files.specs.declared.unanswered.Unanswered.{Unanswered}
 use Rattle.named_files.specs.declared.unanswered.Unanswered.TheVariants.{NoMemory}
 use Rattle.named_files.specs.Outputs.{lost_none}
 use Rattle.exchange.specs.declared.answered.Answered.{Answered}
-use Rattle.named_files.specs.declared.notes.NoAnswer.{NoAnswer}
 use Rattle.named_files.specs.Apart.{AreSeenApart}
 use Rattle.drive_answers.specs.Ways.{Ways}
 use Rattle.session_answers.specs.HostAnswers.{SessionEnd}
 use Rattle.session_answers.specs.declared.ended_session.Ending.{Ending}
 use Rattle.named_files.specs.Clients.{ends_of}
 use Rattle.exchange.specs.Responses.{Given, IsJobAnswer, IsTalk, Named, Response}
-use Rattle.named_files.specs.Notes.{unanswered, AreToldLines, HasToldLines, IsToldInPart, IsNoteOn, IsToldUnless, IsWholeLine, IsRefused}
+use Rattle.named_files.specs.Notes.{unanswered, AreToldLines, HasToldLines, IsToldInPart, IsNoteOn, IsToldUnless}
 use Rattle.exchange.specs.Notes.{IsJobWarnedOf, IsBeside, IsNoted, MayTell, TellsLines, told_there}
-use Rattle.exchange.specs.Outcomes.{HasTold, IsAnswered}
+use Rattle.exchange.specs.Outcomes.{IsAnswered}
 use Rattle.command_words.specs.declared.jobs.ArgumentsFault.TheVariants as arguments_fault
 use Rattle.command_words.specs.Jobs.{AskFor, file_uses}
 use Rattle.exchange.specs.declared.limits.TheConstants.{UNWRITTEN}
 use Rattle.exchange.specs.Ends.{Leaving, Streams, IsDone, IsEndForArguments, IsCutFor, IsFaultEnd, IsPrinted, IsUnwrittenOf, streams_of}
 use Rattle.named_files.proofs.Told.{bytes_of_line}
-
--- nothing was told before what is answered, or refused
-pub told_nothing : {X : Type 0} (r : Result X NoAnswer) (before : Option (List ℕ)) (is : List ℕ → X → Type 0) (behind cut : List ℕ → Type 0) → behind [] → IfErr r IsRefused → IfOk r (is []) → HasTold before before is behind cut r
-told_nothing (Ok x) before is behind cut none refused so = ([], Appends-nil before, so, tt)
-told_nothing (Err (missed.Refused why line)) before is behind cut none refused so = ([], Appends-nil before, tt, none)
-told_nothing (Err (missed.Unwritten what)) before is behind cut none refused so = absurd refused
 
 -- no session of a live client ended
 pub none_served : (endings : List (Ending (List ℕ))) → endings ≡ [] → ends_of endings ≡ []
@@ -49,11 +41,6 @@ beside_of P Q request before after f (inr (inl talk)) = inr (inl talk)
 beside_of P Q request before after f (inr (inr (inl dropped))) = inr (inr (inl dropped))
 beside_of P Q request before after f (inr (inr (inr (inl t)))) = inr (inr (inr (inl (t.0, f t.1, t.2))))
 beside_of P Q request before after f (inr (inr (inr (inr lines)))) = inr (inr (inr (inr lines)))
-
--- one line more
-pub told_line_more : (a b c : Option (List ℕ)) (lines : List (List ℕ)) (line : List ℕ) → AreToldLines a b lines → IsWholeLine line → IsToldInPart b c line → AreToldLines a c (lines ++ line ∷ [])
-told_line_more a b c [] line are whole told = (c, whole, subst (λ (x : Option (List ℕ)). IsToldInPart x c line) are told, refl)
-told_line_more a b c (first ∷ lines) line are whole told = (are.0, are.1, are.2, told_line_more are.0 b c lines line are.3 whole told)
 
 -- lines behind lines
 lines_more : (a b c : Option (List ℕ)) (lines more : List (List ℕ)) → AreToldLines a b lines → AreToldLines b c more → AreToldLines a c (lines ++ more)

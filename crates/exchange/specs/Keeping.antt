@@ -2,7 +2,8 @@
 use Rattle.std.specs.Prelude.{[], Option}
 use Rattle.batch_book.specs.History.{Account}
 use Rattle.command_words.specs.declared.jobs.Job.{Job}
-use Rattle.command_words.specs.declared.jobs.Job.TheVariants.{Host, Talk}
+use Rattle.command_words.specs.declared.jobs.Job.TheVariants.{Sessions}
+use Rattle.command_words.specs.declared.jobs.SessionJob.TheVariants.{Host, Talk}
 use Rattle.named_files.specs.Contents.{Holding}
 use Rattle.named_files.specs.Streams.{Closed}
 use Rattle.named_files.specs.declared.lost.Lost.{Lost}
@@ -14,9 +15,9 @@ use Rattle.kept_sessions.specs.Keeping.{AreLiveKept, AreScriptsKept}
 -- it: of the book that is left, its record and the image of its rack.
 abbrev pub AreKeptBut : {C : Type 0} → Holding → (C → Closed) → Job → Option Account → Receipts C
     → Lost → Type 0
-AreKeptBut holds received (Host rack clients workers) left receipts lost =
+AreKeptBut holds received (Sessions rack (Host clients workers)) left receipts lost =
     AreLiveKept holds received rack clients left receipts lost
-AreKeptBut holds received (Talk rack) left receipts lost =
+AreKeptBut holds received (Sessions rack Talk) left receipts lost =
     AreLiveKept holds received rack [] left receipts lost
 AreKeptBut holds received job left receipts lost =
     AreScriptsKept received (record_of job) (output_of job) left receipts lost

@@ -5,7 +5,10 @@ use Rattle.std.specs.Io.KnownBytes.{Appends}
 use Rattle.client_session.specs.Listening.{Told, TellsOfRefusals}
 use Rattle.plan_answers.specs.Refusals.{Printed}
 use Rattle.command_words.specs.declared.jobs.Job.{Job}
-use Rattle.command_words.specs.declared.jobs.Job.TheVariants.{Plan, Draw, Switch, Drive, C004, Host, Replay}
+use Rattle.command_words.specs.declared.jobs.Job.TheVariants.{Texts, Ports as OverPorts, Sessions}
+use Rattle.command_words.specs.declared.jobs.TextJob.TheVariants.{Plan, Draw, Switch, Replay}
+use Rattle.command_words.specs.declared.jobs.PortJob.TheVariants.{Drive, C004}
+use Rattle.command_words.specs.declared.jobs.SessionJob.TheVariants.{Host}
 use Rattle.command_words.specs.declared.jobs.Request.{Request}
 use Rattle.refusals.specs.declared.refusal.Refusal.{Refusal}
 use Rattle.refusals.specs.declared.refusal.Refusal.TheVariants.{NoMemory}
@@ -20,10 +23,6 @@ use Rattle.exchange.specs.declared.warnings.TheConstants.{MAX_DRAWN}
 use Rattle.exchange.specs.Responses.{Given, IsTalk, text_in}
 use Rattle.named_files.specs.Notes.{AreToldLines, HasSecondLine, HasToldLines, IsToldInPart, IsWholeLine}
 
--- ---- of what a line is told
-
--- ---- what goes to standard error
-
 -- what may be told beside a session of a reply that is a refusal: nothing, or as much of a whole
 -- line as could be written, and of want of memory nothing
 abbrev pub MayTell : Refusal → List ℕ → Type 0
@@ -36,7 +35,7 @@ told_there bytes = record { bytes = bytes; loan = None }
 
 -- the job is `c004`
 abbrev pub IsC004 : Job → Type 0
-IsC004 C004 = ⊤
+IsC004 (OverPorts C004) = ⊤
 IsC004 job = ⊥
 
 -- two transfers of the batch of this text write one block
@@ -58,12 +57,13 @@ IsTooWide text = (width : ℕ) × HasWidth text width × (MAX_DRAWN < width)
 -- what a line warns of beside the answer to a job whose files contain this: `draw` of such a
 -- picture, `plan`, `switch` and `drive` of two such transfers
 abbrev pub IsWarnedOf : Job → Files (List ℕ) → Type 0
-IsWarnedOf (Draw batch schedule settings) files =
-    (drawn : Printed) × IsDrawn widest (text_in files.list) (text_in files.other) settings drawn
+IsWarnedOf (Texts (Draw batch schedule settings)) files =
+    (drawn : Printed) × IsDrawn widest (text_in files.list) (text_in files.schedule) settings drawn
     × IsTooWide drawn.text
-IsWarnedOf (Plan batch planning workers) files = HasOverlap (text_in files.list)
-IsWarnedOf (Switch batch source wiring has_two workers) files = HasOverlap (text_in files.list)
-IsWarnedOf (Drive batch port port_b source wiring first goes_on workers) files =
+IsWarnedOf (Texts (Plan batch planning workers)) files = HasOverlap (text_in files.list)
+IsWarnedOf (Texts (Switch batch source wiring has_two workers)) files =
+    HasOverlap (text_in files.list)
+IsWarnedOf (OverPorts (Drive batch port port_b source wiring first goes_on workers)) files =
     HasOverlap (text_in files.list)
 IsWarnedOf job files = ⊥
 
@@ -80,8 +80,8 @@ IsWarning {Z} cause request line =
 
 -- the job is `host` or `replay`
 abbrev pub TellsLines : Job → Type 0
-TellsLines (Host rack clients workers) = ⊤
-TellsLines (Replay shape recorded image first) = ⊤
+TellsLines (Sessions rack (Host clients workers)) = ⊤
+TellsLines (Texts (Replay shape recorded image first)) = ⊤
 TellsLines job = ⊥
 
 -- What was told beside what is replied, where the arguments don't ask for silence, and else

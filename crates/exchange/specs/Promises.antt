@@ -19,9 +19,13 @@ use Rattle.c004_commands.specs.Commands.{AreCommands}
 use Rattle.c004_commands.specs.declared.command.Command.{Command}
 use Rattle.clap.specs.Words.{IsAmong, Text}
 use Rattle.clap.specs.declared.error.kind.ErrorKind.TheVariants.{DisplayHelp, DisplayVersion}
-use Rattle.command_words.specs.Jobs.{AskFor, Files, faults_of, file_uses, files_of, input_name, recorded_in}
+use Rattle.command_words.specs.Jobs.{AskFor, Files, faults_of, file_uses, files_of, input_name, recorded_in, text_files}
 use Rattle.command_words.specs.declared.jobs.Job.{Job}
-use Rattle.command_words.specs.declared.jobs.Job.TheVariants.{Apply, C004, Check, Direct, Draw, Drive, Host, Orders, Plan, Prices, Replay, Run as RunJob, Serve, Switch as SwitchJob, Talk}
+use Rattle.command_words.specs.declared.jobs.Job.TheVariants.{Texts, Ports as OverPorts, Sessions}
+use Rattle.command_words.specs.declared.jobs.TextJob.{TextJob}
+use Rattle.command_words.specs.declared.jobs.TextJob.TheVariants.{Apply, Check, Direct, Draw, Orders, Plan, Prices, Replay, Run as RunJob, Switch as SwitchJob}
+use Rattle.command_words.specs.declared.jobs.PortJob.TheVariants.{C004, Drive}
+use Rattle.command_words.specs.declared.jobs.SessionJob.TheVariants.{Host, Serve, Talk}
 use Rattle.crossbar.specs.Pairs.{switch_of}
 use Rattle.crossbar.specs.Switch.{Switch, after_all, answers, enquiries, idle}
 use Rattle.crossbar.specs.declared.board.BoardWiring.{BoardWiring}
@@ -93,7 +97,7 @@ use Rattle.crossbar.specs.declared.chip.Chip.TheVariants.{A, B}
 use Rattle.crossbar.specs.declared.traffic.Passing.{Passing}
 use Rattle.drive_answers.specs.Answers.{is_wide_over}
 use Rattle.drive_answers.specs.Endings.{completed_line, fault_words, left_line, stopped_line}
-use Rattle.drive_answers.specs.Ways.{IsUnopened, Names, Ways, used}
+use Rattle.drive_answers.specs.Ways.{IsUnopened, Names, Ways, how_many, used}
 use Rattle.switch_driver.specs.Laws.{JoinsAs}
 use Rattle.switch_driver.specs.Lines.{stage_line}
 use Rattle.switch_settings.specs.declared.fault.SettingFault.{SettingFault}
@@ -224,7 +228,7 @@ pub record AreHeld (holds : Text → List ℕ → Type 0) (names : Files Text) (
     : Type 0 where
   pub image : HoldsGiven holds names.image texts.image
   pub list : HoldsGiven holds names.list texts.list
-  pub other : HoldsGiven holds names.other texts.other
+  pub schedule : HoldsGiven holds names.schedule texts.schedule
   pub wiring : HoldsGiven holds names.wiring texts.wiring
   pub scripts : AreAllHeld holds names.scripts texts.scripts
 
@@ -481,7 +485,8 @@ lines_told settings first (suc n) =
 
 -- The file held a batch. The ports of these names were opened, once, and this passed over them.
 -- Behind it all settings of a schedule stood, from the first one on, each with its line. A rack
--- that is wired as usual has two switches where there are two ports, or where the batch needs two.
+-- that is wired as usual has two switches where there are two ports, or where the batch needs two;
+-- there is a port for each.
 pub record HasDriven (run : Run) (ports : Ports) (batch : Text) (scheduled : Source Text)
     (wiring : Option Text) (first : ℕ) : Type 0 where
   pub transfers : List Transfer
@@ -492,6 +497,7 @@ pub record HasDriven (run : Run) (ports : Ports) (batch : Text) (scheduled : Sou
   pub held : HoldsBatch run batch transfers
   pub schedule : IsScheduled run scheduled transfers settings
   pub wired : IsWired run wiring transfers board
+  pub ways : how_many ports.names ≡ length (switches_of board (is_wide_over ports.names transfers))
   pub opened : ports.after ≡ used ports.names (Some passed) 0 ports.before
   pub all : first + count ≡ length settings
   pub stood : StoodInTurn board (is_wide_over ports.names transfers) transfers settings first count
@@ -569,9 +575,9 @@ pub record HasRefusedDrive (run : Run) (ports : Ports) (job : Job) (scheduled : 
   pub texts : Files (List ℕ)
   pub refusal : Refusal
   pub held : AreHeld run.holds (files_of job) texts
-  pub wrong : IsFirstWrongOn (source_in scheduled (text_in texts.other)) (text_in texts.list)
+  pub wrong : IsFirstWrongOn (source_in scheduled (text_in texts.schedule)) (text_in texts.list)
       texts.wiring first refusal
-      ⊎ AreNoWays (source_in scheduled (text_in texts.other)) (text_in texts.list)
+      ⊎ AreNoWays (source_in scheduled (text_in texts.schedule)) (text_in texts.list)
       texts.wiring ports refusal
   pub prints : run.prints (refusal_line refusal)
   pub unopened : ports.after ≡ ports.before
@@ -848,9 +854,10 @@ pub record HasServed (run : Run) (rack : SharedRack) (scripts : List Text)
   pub prints : run.prints (flat_map told_text sessions)
   pub kept : keeps calls
 
--- a file that was opened for the record of scripts is empty, and wasn't put in its place
-abbrev pub IsEmpty : Option Closed → Type 0
-IsEmpty file = IfSome file (λ file. (file.bytes ≡ Some []) × (file.stands ≡ false))
+-- a file that was opened is the one of this name, is empty, and wasn't put in its place
+abbrev pub IsEmpty : Option Text → Option Closed → Type 0
+IsEmpty name file =
+    IfSome file (λ file. MatchOption name ⊥ (λ name. file ≡ closed name (Some []) false))
 
 -- The file that was opened for the record of live sessions holds what it held; or what the record
 -- tells of the calls with which they began, or of a new one a front of its head.
@@ -875,14 +882,14 @@ IsWrongLive run rack names refusal =
     × (refusal ≡ of_record fault))
 
 -- No session began: printed was the one line of a refusal, of what is so wrong, or there was no
--- answer. The file for a record was left so, and no image was put in its place.
-pub record HasRefusedSessions (run : Run) (kept : Kept) (is_wrong : Refusal → Type 0)
-    (is_left : Option Closed → Type 0) : Type 0 where
+-- answer. The file for a record was left so, and the one for an image is empty.
+pub record HasRefusedSessions (run : Run) (rack : SharedRack) (kept : Kept)
+    (is_wrong : Refusal → Type 0) (is_left : Option Closed → Type 0) : Type 0 where
   pub status : run.status ≡ REFUSED
   pub refuses : ((refusal : Refusal) × is_wrong refusal × run.prints (refusal_line refusal))
       ⊎ HasGivenUp run
   pub recorded : is_left kept.recorded
-  pub unput : IsUnput kept.image
+  pub image : IsEmpty rack.image_out kept.image
 
 -- ---- live clients
 
@@ -1047,32 +1054,32 @@ pub data IsFirstWrongDrawn (text schedule : List ℕ) (chosen : Option Text) (re
       → IsFirstWrongDrawn text schedule chosen refusal
 
 -- what is first wrong with the texts of a job
-abbrev pub IsFirstWrongIn : Job → Files (List ℕ) → Refusal → Type 0
+abbrev pub IsFirstWrongIn : TextJob → Files (List ℕ) → Refusal → Type 0
 IsFirstWrongIn (Plan file planning workers) texts refusal =
     (fault : BatchFault) × IsFirstFault widest (text_in texts.list) fault
     × (refusal ≡ of_batch fault)
 IsFirstWrongIn (Check batch schedule) texts refusal =
-    IsFirstWrong widest (text_in texts.list) (text_in texts.other) refusal
+    IsFirstWrong widest (text_in texts.list) (text_in texts.schedule) refusal
 IsFirstWrongIn (Draw batch schedule chosen) texts refusal =
-    IsFirstWrongDrawn (text_in texts.list) (text_in texts.other) chosen refusal
+    IsFirstWrongDrawn (text_in texts.list) (text_in texts.schedule) chosen refusal
 IsFirstWrongIn (Prices batch schedule) texts refusal =
-    IsInvalid widest (text_in texts.list) (text_in texts.other) refusal
+    IsInvalid widest (text_in texts.list) (text_in texts.schedule) refusal
 IsFirstWrongIn (SwitchJob batch scheduled wiring has_two workers) texts refusal =
-    IsFirstWrongOn (source_in scheduled (text_in texts.other)) (text_in texts.list)
+    IsFirstWrongOn (source_in scheduled (text_in texts.schedule)) (text_in texts.list)
     texts.wiring 0 refusal
 IsFirstWrongIn (Orders batch scheduled only workers) texts refusal =
-    IsWrongFrom (source_in scheduled (text_in texts.other)) widest (text_in texts.list) refusal
-    ⊎ IsFirstOverlapIn (source_in scheduled (text_in texts.other)) (text_in texts.list) refusal
+    IsWrongFrom (source_in scheduled (text_in texts.schedule)) widest (text_in texts.list) refusal
+    ⊎ IsFirstOverlapIn (source_in scheduled (text_in texts.schedule)) (text_in texts.list) refusal
 IsFirstWrongIn (Direct moves) texts refusal =
     (fault : BatchFault) × IsFirstMovesFault (text_in texts.list) fault
     × (refusal ≡ of_moves fault)
 IsFirstWrongIn (Apply shape batch image workers) texts refusal =
-    IsFirstRunWrong (source.Plan Plain) shape (text_in texts.list) (Some (text_in texts.other))
+    IsFirstRunWrong (source.Plan Plain) shape (text_in texts.list) (Some (text_in texts.schedule))
     refusal
 IsFirstWrongIn (RunJob shape batch scheduled image workers) texts refusal =
-    IsFirstRunWrong (source_in scheduled (text_in texts.other)) shape (text_in texts.list)
+    IsFirstRunWrong (source_in scheduled (text_in texts.schedule)) shape (text_in texts.list)
     texts.image refusal
-IsFirstWrongIn job texts refusal = ⊥
+IsFirstWrongIn (Replay shape recorded image first) texts refusal = ⊥
 
 -- such a batch can be run on a rack of the shape, with such an image
 pub record CanBeRun (from : Source (List ℕ)) (shape text : List ℕ)
@@ -1102,37 +1109,37 @@ pub record CanBeSwitched (from : Source (List ℕ)) (text : List ℕ) (wiring : 
   pub right : AreRight from widest text batch
 
 -- the texts of a job are right (for `switch` with a wiring this says nothing)
-abbrev pub AreRightTexts : Job → Files (List ℕ) → Type 0
+abbrev pub AreRightTexts : TextJob → Files (List ℕ) → Type 0
 AreRightTexts (Plan file planning workers) texts =
     (batch : List Transfer) × Denotes widest (text_in texts.list) batch
 AreRightTexts (Check batch schedule) texts =
     (transfers : List Transfer) × (count : ℕ) × Denotes widest (text_in texts.list) transfers
-    × IsShown transfers (text_in texts.other) count
+    × IsShown transfers (text_in texts.schedule) count
 AreRightTexts (Draw batch schedule chosen) texts =
-    CanBeDrawn (text_in texts.list) (text_in texts.other) chosen
+    CanBeDrawn (text_in texts.list) (text_in texts.schedule) chosen
 AreRightTexts (Prices batch schedule) texts =
     (transfers : List Transfer) × (settings : List (List ℕ))
-    × IsScheduleRead widest (text_in texts.list) (text_in texts.other) transfers settings
+    × IsScheduleRead widest (text_in texts.list) (text_in texts.schedule) transfers settings
 AreRightTexts (SwitchJob batch scheduled wiring has_two workers) texts =
-    CanBeSwitched (source_in scheduled (text_in texts.other)) (text_in texts.list) texts.wiring
+    CanBeSwitched (source_in scheduled (text_in texts.schedule)) (text_in texts.list) texts.wiring
 AreRightTexts (Orders batch scheduled only workers) texts =
     (transfers : List Transfer)
-    × AreRight (source_in scheduled (text_in texts.other)) widest (text_in texts.list) transfers
+    × AreRight (source_in scheduled (text_in texts.schedule)) widest (text_in texts.list) transfers
     × IsApart transfers
 AreRightTexts (Direct moves) texts =
     (list : List Move) × DenotesMoves (text_in texts.list) list
 AreRightTexts (Apply shape batch image workers) texts =
-    CanBeRun (source.Plan Plain) shape (text_in texts.list) (Some (text_in texts.other))
+    CanBeRun (source.Plan Plain) shape (text_in texts.list) (Some (text_in texts.schedule))
 AreRightTexts (RunJob shape batch scheduled image workers) texts =
-    CanBeRun (source_in scheduled (text_in texts.other)) shape (text_in texts.list) texts.image
-AreRightTexts job texts = ⊥
+    CanBeRun (source_in scheduled (text_in texts.schedule)) shape (text_in texts.list) texts.image
+AreRightTexts (Replay shape recorded image first) texts = ⊥
 
 -- Printed was one line, the refusal of what is first wrong with the texts that the job's files
 -- hold; so they aren't right.
-pub record HasRefused (run : Run) (job : Job) : Type 0 where
+pub record HasRefused (run : Run) (job : TextJob) : Type 0 where
   pub texts : Files (List ℕ)
   pub refusal : Refusal
-  pub held : AreHeld run.holds (files_of job) texts
+  pub held : AreHeld run.holds (text_files job) texts
   pub wrong : IsFirstWrongIn job texts refusal
   pub not_right : AreRightTexts job texts → ⊥
   pub prints : run.prints (refusal_line refusal)
@@ -1163,16 +1170,15 @@ HasOnlyFiles rack kept =
 -- what a job doesn't ask for stays as it was: only `drive` opens ports, only sessions leave files,
 -- and only `host` has live clients
 abbrev pub LeavesOthers : Job → (before after : Ways) → Kept → Clients → Type 0
-LeavesOthers (Drive batch port port_b scheduled wiring first goes_on workers) before after kept
-    clients =
+LeavesOthers (Texts job) before after kept clients = LeavesAll before after kept clients
+LeavesOthers (OverPorts C004) before after kept clients = LeavesAll before after kept clients
+LeavesOthers (OverPorts (Drive batch port port_b scheduled wiring first goes_on workers)) before
+    after kept clients =
     HasNoFiles kept × (clients.ends ≡ [])
-LeavesOthers (Serve rack scripts workers) before after kept clients =
-    (after ≡ before) × HasOnlyFiles rack kept × (clients.ends ≡ [])
-LeavesOthers (Host rack names workers) before after kept clients =
+LeavesOthers (Sessions rack (Host names workers)) before after kept clients =
     (after ≡ before) × HasOnlyFiles rack kept
-LeavesOthers (Talk rack) before after kept clients =
+LeavesOthers (Sessions rack job) before after kept clients =
     (after ≡ before) × HasOnlyFiles rack kept × (clients.ends ≡ [])
-LeavesOthers job before after kept clients = LeavesAll before after kept clients
 
 abbrev pub KeepsOthers : Run → (before after : Ways) → Kept → Clients → Type 0
 KeepsOthers run before after kept clients =
@@ -1187,30 +1193,35 @@ abbrev pub plain_rack : SharedRack
 plain_rack =
     record { shape = codes "1x1x1"; image = None; record_out = None; image_out = None }
 
--- words ask for each command: these are the shortest
+-- words ask for each command, and for two switches: these are the shortest
 pub record SomeAsk : Type 0 where
-  pub plan : Ask (codes "plan" ∷ codes "b" ∷ []) (Plan (codes "b") Plain 1)
-  pub check : Ask (codes "check" ∷ codes "b" ∷ codes "s" ∷ []) (Check (codes "b") (codes "s"))
-  pub draw : Ask (codes "draw" ∷ codes "b" ∷ codes "s" ∷ []) (Draw (codes "b") (codes "s") None)
+  pub plan : Ask (codes "plan" ∷ codes "b" ∷ []) (Texts (Plan (codes "b") Plain 1))
+  pub check : Ask (codes "check" ∷ codes "b" ∷ codes "s" ∷ [])
+      (Texts (Check (codes "b") (codes "s")))
+  pub draw : Ask (codes "draw" ∷ codes "b" ∷ codes "s" ∷ [])
+      (Texts (Draw (codes "b") (codes "s") None))
   pub prices : Ask (codes "draw" ∷ codes "b" ∷ codes "s" ∷ codes "--prices" ∷ [])
-      (Prices (codes "b") (codes "s"))
+      (Texts (Prices (codes "b") (codes "s")))
   pub switch : Ask (codes "switch" ∷ codes "b" ∷ [])
-      (SwitchJob (codes "b") (source.Plan Plain) None false 1)
-  pub orders : Ask (codes "orders" ∷ codes "b" ∷ []) (Orders (codes "b") (source.Plan Plain) None 1)
+      (Texts (SwitchJob (codes "b") (source.Plan Plain) None false 1))
+  pub two : Ask (codes "switch" ∷ codes "b" ∷ codes "--switches" ∷ codes "2" ∷ [])
+      (Texts (SwitchJob (codes "b") (source.Plan Plain) None true 1))
+  pub orders : Ask (codes "orders" ∷ codes "b" ∷ [])
+      (Texts (Orders (codes "b") (source.Plan Plain) None 1))
   pub drive : Ask (codes "drive" ∷ codes "b" ∷ codes "p" ∷ [])
-      (Drive (codes "b") (codes "p") None (source.Plan Plain) None 0 false 1)
-  pub c004 : Ask (codes "c004" ∷ []) C004
-  pub direct : Ask (codes "direct" ∷ codes "m" ∷ []) (Direct (codes "m"))
+      (OverPorts (Drive (codes "b") (codes "p") None (source.Plan Plain) None 0 false 1))
+  pub c004 : Ask (codes "c004" ∷ []) (OverPorts C004)
+  pub direct : Ask (codes "direct" ∷ codes "m" ∷ []) (Texts (Direct (codes "m")))
   pub apply : Ask (codes "apply" ∷ codes "1x1x1" ∷ codes "b" ∷ codes "i" ∷ [])
-      (Apply (codes "1x1x1") (codes "b") (codes "i") 1)
+      (Texts (Apply (codes "1x1x1") (codes "b") (codes "i") 1))
   pub run : Ask (codes "run" ∷ codes "1x1x1" ∷ codes "b" ∷ [])
-      (RunJob (codes "1x1x1") (codes "b") (source.Plan Plain) None 1)
+      (Texts (RunJob (codes "1x1x1") (codes "b") (source.Plan Plain) None 1))
   pub serve : Ask (codes "serve" ∷ codes "1x1x1" ∷ codes "s" ∷ [])
-      (Serve plain_rack (codes "s" ∷ []) 1)
+      (Sessions plain_rack (Serve (codes "s" ∷ []) 1))
   pub host : Ask (codes "host" ∷ codes "1x1x1" ∷ codes "c" ∷ [])
-      (Host plain_rack (codes "c" ∷ []) 1)
-  pub talk : Ask (codes "talk" ∷ codes "1x1x1" ∷ []) (Talk plain_rack)
-  pub replay : Ask (codes "replay" ∷ codes "r" ∷ []) (Replay None (codes "r") None None)
+      (Sessions plain_rack (Host (codes "c" ∷ []) 1))
+  pub talk : Ask (codes "talk" ∷ codes "1x1x1" ∷ []) (Sessions plain_rack Talk)
+  pub replay : Ask (codes "replay" ∷ codes "r" ∷ []) (Texts (Replay None (codes "r") None None))
 
 -- the grammar finds that the arguments ask for help, or for the version
 abbrev pub AskForHelp : List Text → Type 0
@@ -1257,50 +1268,52 @@ pub record World : Type 1 where
 
 -- what came of a job that ended with status 0
 abbrev pub IsDone : World → Job → Type 0
-IsDone w (Plan file planning workers) = HasPlanned w.run file planning
-IsDone w (Check batch schedule) = HasChecked w.run batch schedule
-IsDone w (Draw batch schedule chosen) = HasDrawn w.run batch schedule chosen
-IsDone w (Prices batch schedule) = HasPriced w.run batch schedule
-IsDone w (SwitchJob batch scheduled wiring has_two workers) =
+IsDone w (Texts (Plan file planning workers)) = HasPlanned w.run file planning
+IsDone w (Texts (Check batch schedule)) = HasChecked w.run batch schedule
+IsDone w (Texts (Draw batch schedule chosen)) = HasDrawn w.run batch schedule chosen
+IsDone w (Texts (Prices batch schedule)) = HasPriced w.run batch schedule
+IsDone w (Texts (SwitchJob batch scheduled wiring has_two workers)) =
     HasSwitched w.run batch scheduled wiring has_two
-IsDone w (Orders batch scheduled only workers) = HasOrdered w.run batch scheduled only
-IsDone w (Direct moves) = HasDirected w.run moves
-IsDone w (Apply shape batch image workers) = HasApplied w.run shape batch image
-IsDone w (RunJob shape batch scheduled image workers) =
+IsDone w (Texts (Orders batch scheduled only workers)) = HasOrdered w.run batch scheduled only
+IsDone w (Texts (Direct moves)) = HasDirected w.run moves
+IsDone w (Texts (Apply shape batch image workers)) = HasApplied w.run shape batch image
+IsDone w (Texts (RunJob shape batch scheduled image workers)) =
     HasRunBatch w.run shape batch scheduled image
-IsDone w (Drive batch port port_b scheduled wiring first goes_on workers) =
+IsDone w (OverPorts (Drive batch port port_b scheduled wiring first goes_on workers)) =
     HasDriven w.run (ports_of port port_b w.before w.after) batch scheduled wiring first
-IsDone w C004 = HasReplied w.run
-IsDone w (Serve rack scripts workers) = HasServed w.run rack scripts (w.scripts_leave rack [])
-IsDone w (Host rack names workers) =
+IsDone w (OverPorts C004) = HasReplied w.run
+IsDone w (Sessions rack (Serve scripts workers)) =
+    HasServed w.run rack scripts (w.scripts_leave rack [])
+IsDone w (Sessions rack (Host names workers)) =
     HasHosted w.run rack names w.clients (w.live_leave rack names)
-IsDone w (Talk rack) = HasTalked w.run rack (w.live_leave rack [])
-IsDone w (Replay shape recorded image first) = HasReplayed w.run shape recorded image first
+IsDone w (Sessions rack Talk) = HasTalked w.run rack (w.live_leave rack [])
+IsDone w (Texts (Replay shape recorded image first)) = HasReplayed w.run shape recorded image first
 
 -- the same with status 1: what was first wrong, or what had come of it where it ended early; a job
 -- that needs nothing but its texts is refused
 abbrev pub IsRefused : World → Job → Type 0
-IsRefused w (Drive batch port port_b scheduled wiring first goes_on workers) =
+IsRefused w (Texts (Replay shape recorded image first)) =
+    HasRefusedReplay w.run shape recorded image first
+IsRefused w (Texts job) = HasRefused w.run job
+IsRefused w (OverPorts (Drive batch port port_b scheduled wiring first goes_on workers)) =
     let ports = ports_of port port_b w.before w.after in
+    let job = OverPorts (Drive batch port port_b scheduled wiring first goes_on workers) in
     HasStopped w.run ports batch scheduled wiring first
-    ⊎ HasRefusedDrive w.run ports (Drive batch port port_b scheduled wiring first goes_on workers)
-    scheduled first
-IsRefused w C004 = HasRepliedInPart w.run
-IsRefused w (Serve rack scripts workers) =
+    ⊎ HasRefusedDrive w.run ports job scheduled first
+IsRefused w (OverPorts C004) = HasRepliedInPart w.run
+IsRefused w (Sessions rack (Serve scripts workers)) =
     HasServed w.run rack scripts (w.scripts_leave rack [])
-    ⊎ HasRefusedSessions w.run w.kept (IsWrongRackOf w.run rack) IsEmpty
-IsRefused w (Host rack names workers) =
+    ⊎ HasRefusedSessions w.run rack w.kept (IsWrongRackOf w.run rack)
+    (IsEmpty (recorded_in rack))
+IsRefused w (Sessions rack (Host names workers)) =
     HasHosted w.run rack names w.clients (w.live_leave rack names)
-    ⊎ (HasRefusedSessions w.run w.kept
+    ⊎ (HasRefusedSessions w.run rack w.kept
     (λ refusal. IsWrongLive w.run rack names refusal ⊎ (refusal ≡ Threads))
     (IsAsItWas w.run rack.record_out names) × (w.clients.ends ≡ []))
-IsRefused w (Talk rack) =
+IsRefused w (Sessions rack Talk) =
     HasTalked w.run rack (w.live_leave rack [])
-    ⊎ HasRefusedSessions w.run w.kept (IsWrongLive w.run rack [])
+    ⊎ HasRefusedSessions w.run rack w.kept (IsWrongLive w.run rack [])
     (IsAsItWas w.run rack.record_out [])
-IsRefused w (Replay shape recorded image first) =
-    HasRefusedReplay w.run shape recorded image first
-IsRefused w job = HasRefused w.run job
 
 -- each job that is asked for comes to that; or, with status 1, there was no answer, and no file was
 -- opened to be written, no port, and no client's

@@ -22,7 +22,14 @@ use Rattle.record_replay.specs.ReplayAnswers.{IsReplayPrinted}
 use Rattle.plan_answers.specs.declared.limits.TheConstants.{DONE, REFUSED}
 use Rattle.command_words.specs.Jobs.{Files, file_uses, files_of}
 use Rattle.command_words.specs.declared.jobs.Job.{Job}
-use Rattle.command_words.specs.declared.jobs.Job.TheVariants.{Plan, Check, Draw, Prices, Switch, Orders, Drive, C004, Direct, Apply, Run, Serve, Host, Talk, Replay}
+use Rattle.command_words.specs.declared.jobs.Job.TheVariants.{Texts, Ports as OverPorts, Sessions}
+use Rattle.command_words.specs.declared.jobs.TextJob.{TextJob}
+use Rattle.command_words.specs.declared.jobs.TextJob.TheVariants.{Plan, Check, Draw, Prices, Switch, Orders, Direct, Apply, Run, Replay}
+use Rattle.command_words.specs.declared.jobs.PortJob.{PortJob}
+use Rattle.command_words.specs.declared.jobs.PortJob.TheVariants.{Drive, C004}
+use Rattle.command_words.specs.declared.jobs.SessionJob.{SessionJob}
+use Rattle.command_words.specs.declared.jobs.SessionJob.TheVariants.{Serve, Host, Talk}
+use Rattle.command_words.specs.declared.jobs.SharedRack.{SharedRack}
 use Rattle.named_files.specs.Apart.{AreSeenApart, Leading}
 use Rattle.named_files.specs.Contents.{AreContents, Holding}
 use Rattle.drive_answers.specs.Ways.{Ways}
@@ -72,99 +79,80 @@ abbrev pub IsC004Cut : Option (List ℕ) → List ℕ → Type 0
 IsC004Cut input told = (rest : List ℕ) × (end : Printed) × IsC004By input (told ++ rest) end
 
 -- the answer to a job whose files are all that it asks for, and contain this
-abbrev pub IsTextAnswer : Job → Files (List ℕ) → Printed → Type 0
+abbrev pub IsTextAnswer : TextJob → Files (List ℕ) → Printed → Type 0
 IsTextAnswer (Plan file planning workers) files end =
     IsPlanned planning widest (text_in files.list) end
 IsTextAnswer (Check batch schedule) files end =
-    IsChecked widest (text_in files.list) (text_in files.other) end
+    IsChecked widest (text_in files.list) (text_in files.schedule) end
 IsTextAnswer (Draw batch schedule settings) files end =
-    IsDrawn widest (text_in files.list) (text_in files.other) settings end
+    IsDrawn widest (text_in files.list) (text_in files.schedule) settings end
 IsTextAnswer (Prices batch schedule) files end =
-    IsPriced widest (text_in files.list) (text_in files.other) end
+    IsPriced widest (text_in files.list) (text_in files.schedule) end
 IsTextAnswer (Switch batch source wiring has_two workers) files end =
-    IsOn (λ board. IsSwitched (source_in source (text_in files.other)) has_two board
+    IsOn (λ board. IsSwitched (source_in source (text_in files.schedule)) has_two board
     (text_in files.list)) files.wiring end
 IsTextAnswer (Orders batch source of_module workers) files end =
-    IsOrdered (source_in source (text_in files.other)) of_module (text_in files.list) end
+    IsOrdered (source_in source (text_in files.schedule)) of_module (text_in files.list) end
 IsTextAnswer (Direct moves) files end = IsDirected (text_in files.list) end
 IsTextAnswer (Apply shape batch image workers) files end =
-    IsApplied shape (text_in files.list) (text_in files.other) end
+    IsApplied shape (text_in files.list) (text_in files.schedule) end
 IsTextAnswer (Run shape batch source image workers) files end =
-    IsRunAnswer (source_in source (text_in files.other)) shape (text_in files.list) files.image end
+    IsRunAnswer (source_in source (text_in files.schedule)) shape (text_in files.list) files.image
+    end
 IsTextAnswer (Replay shape recorded image first) files end =
     IsReplayPrinted shape (text_in files.list) files.image first end
-IsTextAnswer job files end = ⊥
 
--- the answer to a job that has no sessions, where this is left of standard input, and the ports are
--- left so; it was told this before
-abbrev pub IsPlainAnswer : Job → Files (List ℕ) → Option (List ℕ) → (was opens : Ways) → List ℕ
+-- the answer to a job of a switch, where this is left of standard input, and the ports are left so;
+-- it was told this before
+abbrev pub IsPortAnswer : PortJob → Files (List ℕ) → Option (List ℕ) → (was opens : Ways) → List ℕ
     → Printed → Type 0
-IsPlainAnswer (Drive batch port port_b source wiring first goes_on workers) files input was opens
+IsPortAnswer (Drive batch port port_b source wiring first goes_on workers) files input was opens
     told end =
-    IsDriveBy (source_in source (text_in files.other)) (text_in files.list) files.wiring first
+    IsDriveBy (source_in source (text_in files.schedule)) (text_in files.list) files.wiring first
     goes_on (names_in port port_b) input was opens told end
-IsPlainAnswer C004 files input was opens told end = IsC004By input told end
-IsPlainAnswer job files input was opens told end = (told ≡ []) × IsTextAnswer job files end
+IsPortAnswer C004 files input was opens told end = IsC004By input told end × (opens ≡ was)
 
--- the answer to a job whose files contain this
-abbrev pub IsAnswerTo : Holding → Job → Files (List ℕ) → Given → Response → Type 0
-IsAnswerTo holds (Serve rack scripts workers) files given response =
+-- what was told before it where not all of that could be written
+abbrev pub IsPortCut : PortJob → Files (List ℕ) → Option (List ℕ) → (was opens : Ways) → List ℕ
+    → Type 0
+IsPortCut (Drive batch port port_b source wiring first goes_on workers) files input was opens told =
+    IsDriveCut (source_in source (text_in files.schedule)) (text_in files.list) files.wiring first
+    goes_on (names_in port port_b) input was opens told
+IsPortCut C004 files input was opens told = IsC004Cut input told × (opens ≡ was)
+
+-- the answer to a job that has sessions; only `host` has live clients
+abbrev pub IsSessionAnswer : Holding → SharedRack → SessionJob → Files (List ℕ) → Given → Response
+    → Type 0
+IsSessionAnswer holds rack (Serve scripts workers) files given response =
     (response.told ≡ [])
     × IsServeAnswer rack.shape files.image files.scripts response.end response.left
-IsAnswerTo holds (Host rack clients workers) files given response =
+    × (response.ends ≡ [])
+IsSessionAnswer holds rack (Host clients workers) files given response =
     (response.told ≡ [])
     × IsLiveAnswer holds rack clients files.image
     (hosting rack (given.clients clients) response.ends response.end) response.end response.left
-IsAnswerTo holds (Talk rack) files given response =
+IsSessionAnswer holds rack Talk files given response =
     (after : Option (List ℕ))
     × IsLiveAnswer holds rack [] files.image
     (talking rack given.input after response.told response.end) response.end response.left
-IsAnswerTo holds job files given response =
-    (response.left ≡ None)
-    × IsPlainAnswer job files given.input given.ports response.ports response.told response.end
+    × (response.ends ≡ [])
+
+-- the answer to a job whose files contain this; only a job of a switch asks for ports
+abbrev pub IsAnswerTo : Holding → Job → Files (List ℕ) → Given → Response → Type 0
+IsAnswerTo holds (Texts job) files given response =
+    (response.left ≡ None) × (response.ends ≡ []) × (response.ports ≡ given.ports)
+    × (response.told ≡ []) × IsTextAnswer job files response.end
+IsAnswerTo holds (OverPorts job) files given response =
+    (response.left ≡ None) × (response.ends ≡ [])
+    × IsPortAnswer job files given.input given.ports response.ports response.told response.end
+IsAnswerTo holds (Sessions rack job) files given response =
+    (response.ports ≡ given.ports) × IsSessionAnswer holds rack job files given response
 
 -- what was told before an answer where not all of it could be written
 abbrev pub IsToldCut : Job → Files (List ℕ) → Option (List ℕ) → (was opens : Ways) → List ℕ
     → Type 0
-IsToldCut (Drive batch port port_b source wiring first goes_on workers) files input was opens told =
-    IsDriveCut (source_in source (text_in files.other)) (text_in files.list) files.wiring first
-    goes_on (names_in port port_b) input was opens told
-IsToldCut C004 files input was opens told = IsC004Cut input told
+IsToldCut (OverPorts job) files input was opens told = IsPortCut job files input was opens told
 IsToldCut job files input was opens told = ⊥
-
--- only `drive` asks for ports
-abbrev pub KeepsPorts : Job → (was opens : Ways) → Type 0
-KeepsPorts (Drive batch port port_b source wiring first goes_on workers) was opens = ⊤
-KeepsPorts job was opens = opens ≡ was
-
--- only `drive` asks for ports, and only `host` has live clients
-abbrev pub LeavesRest : Job → Ways → Ways → List SessionEnd → Type 0
-LeavesRest (Drive batch port port_b source wiring first goes_on workers) was opens ends = ends ≡ []
-LeavesRest (Host rack clients workers) was opens ends = opens ≡ was
-LeavesRest job was opens ends = (opens ≡ was) × (ends ≡ [])
-
--- the files of a job are all that it asks for
-abbrev pub IsOfTexts : Job → Type 0
-IsOfTexts (Drive batch port port_b source wiring first goes_on workers) = ⊥
-IsOfTexts C004 = ⊥
-IsOfTexts (Serve rack scripts workers) = ⊥
-IsOfTexts (Host rack clients workers) = ⊥
-IsOfTexts (Talk rack) = ⊥
-IsOfTexts job = ⊤
-
--- a job has no sessions
-abbrev pub HasNoSessions : Job → Type 0
-HasNoSessions (Serve rack scripts workers) = ⊥
-HasNoSessions (Host rack clients workers) = ⊥
-HasNoSessions (Talk rack) = ⊥
-HasNoSessions job = ⊤
-
--- it has some, which may wait
-abbrev pub HasSessions : Job → Type 0
-HasSessions (Serve rack scripts workers) = ⊤
-HasSessions (Host rack clients workers) = ⊤
-HasSessions (Talk rack) = ⊤
-HasSessions job = ⊥
 
 -- the answer to a job, where its files have been read
 abbrev pub IsJobAnswer : Holding → Given → Job → Response → Type 0
@@ -172,19 +160,17 @@ IsJobAnswer holds given job response =
     (files : Files (List ℕ)) × (rest : Option (List ℕ))
     × AreContents holds given.input (files_of job) files rest
     × IsAnswerTo holds job files (given_by rest given.ports given.clients) response
-    × LeavesRest job given.ports response.ports response.ends
 
 -- the same of what was told where not all of it could be written
 abbrev pub IsJobCut : Holding → Given → Job → Ways → List SessionEnd → List ℕ → Type 0
 IsJobCut holds given job ports ends told =
     (files : Files (List ℕ)) × (rest : Option (List ℕ))
     × AreContents holds given.input (files_of job) files rest
-    × IsToldCut job files rest given.ports ports told
-    × LeavesRest job given.ports ports ends
+    × IsToldCut job files rest given.ports ports told × (ends ≡ [])
 
 -- the job is `talk`
 abbrev pub IsTalk : Job → Type 0
-IsTalk (Talk rack) = ⊤
+IsTalk (Sessions rack Talk) = ⊤
 IsTalk job = ⊥
 
 -- what a system has by name: what its files hold, and where names lead

@@ -55,19 +55,19 @@ fn answer_lines<R: AllocGlobal + Threads + Sync, P: Ports, I: Read, O: Write, E:
 ) -> LinesEnd
     ensures told { (told : List ℕ) × Appends (O.contents out.old) (O.contents out.new) told
         × IfOk result.end (λ end. let files = contents_in contents.now in
-        IsDriveBy (source_in source.now (text_in files.other)) (text_in files.list) files.wiring
+        IsDriveBy (source_in source.now (text_in files.schedule)) (text_in files.list) files.wiring
         first goes_on (names_of names.entry) (I.remaining input.old) (P.ways ports.old)
         (P.ways ports.new) told end.answer)
         × IfErr result.end (λ fault. (fault ≡ NoMemory
         → (told ≡ []) × (P.ways ports.new ≡ P.ways ports.old))
         × (fault ≡ Untold → let files = contents_in contents.now in
-        IsDriveCut (source_in source.now (text_in files.other)) (text_in files.list) files.wiring
+        IsDriveCut (source_in source.now (text_in files.schedule)) (text_in files.list) files.wiring
         first goes_on (names_of names.entry) (I.remaining input.old) (P.ways ports.old)
         (P.ways ports.new) told)) }
     ensures beside { MayHaveWarned warning (E.contents err.old) (E.contents err.new) }
 {
     let (list, wiring) = (text_of(&contents.list), slice_of(&contents.wiring));
-    let source = source_with(source, text_of(&contents.other));
+    let source = source_with(source, text_of(&contents.schedule));
     let alloc = rt.alloc();
     let mut stage = Warned::new(Lines::new(input, out, !goes_on), warning, err);
     let end = answer_drive(
@@ -99,12 +99,12 @@ pub(crate) fn drive<R: AllocGlobal + Threads + Sync, P: Ports, I: Read, O: Write
 ) -> Result<Found, NoAnswer>
     ensures answer { HasTold (O.contents out.old) (O.contents out.new)
         (λ told found. let files = contents_in contents.now in
-        IsDriveBy (source_in source.now (text_in files.other)) (text_in files.list) files.wiring
+        IsDriveBy (source_in source.now (text_in files.schedule)) (text_in files.list) files.wiring
         first goes_on (names_of names.entry) (I.remaining input.old) (P.ways ports.old)
         (P.ways ports.new) told found.answer)
         (λ told. (told ≡ []) × (P.ways ports.new ≡ P.ways ports.old))
         (λ told. let files = contents_in contents.now in
-        IsDriveCut (source_in source.now (text_in files.other)) (text_in files.list) files.wiring
+        IsDriveCut (source_in source.now (text_in files.schedule)) (text_in files.list) files.wiring
         first goes_on (names_of names.entry) (I.remaining input.old) (P.ways ports.old)
         (P.ways ports.new) told) result }
     ensures note { IfErr result (λ missed. IsNoAnswer missed) }

@@ -5,10 +5,11 @@ ghost use Rattle.std.specs.Io.KnownBytes.{Appends};
 ghost use Rattle.batch_book.specs.History.{Account};
 ghost use Rattle.plan_answers.specs.Lent.{bytes_of};
 ghost use Rattle.command_words.specs.Jobs.{IsWithinLimits, files_of};
+ghost use Rattle.command_words.specs.declared.jobs.Job.TheVariants.{Ports as OverPorts, Texts as OfTexts};
 ghost use Rattle.named_files.specs.Contents.{AreContents, contents_in};
 ghost use Rattle.named_files.specs.Clients.{clients_by, ends_of};
 ghost use Rattle.exchange.specs.Ends.{HasEnded, behind, streams_of};
-ghost use Rattle.exchange.specs.Responses.{IsAnswerTo, IsC004By, IsC004Cut, HasNoSessions, HasSessions, IsOfTexts, IsPlainAnswer, IsTextAnswer, IsToldCut, KeepsPorts, LeavesRest, given_by, named_by};
+ghost use Rattle.exchange.specs.Responses.{IsAnswerTo, IsC004By, IsC004Cut, IsPortAnswer, IsPortCut, IsTextAnswer, IsToldCut, given_by, named_by};
 ghost use Rattle.exchange.specs.Notes.{IsBeside, IsWarnedOf};
 ghost use Rattle.exchange.specs.Keeping.{AreKept, AreKeptBut};
 ghost use Rattle.named_files.specs.Outputs.{AreNamed, AreOpened, begins_with, is_live, output_of, record_of};
@@ -17,21 +18,19 @@ ghost use Rattle.named_files.specs.Notes.{IsNoAnswer, IsRefused};
 
 use crate::answered::{Answered, finished};
 use crate::beside::Beside;
-use crate::cut::tell_cut;
 use crate::driving::drive;
+use crate::lacks::{cut_lack, no_lacks, tell_lack, tell_lacks, torn_lack};
 use crate::peers::Peers;
-use crate::torn::tell_torn;
-use crate::unopened::{no_lacks, tell_lacks};
 use crate::unserved::{close_outputs, without_sessions};
 use crate::warnings::{overlap_warning_of, tell_beside, warning_of};
 use client_session::NoListener;
-use command_words::{Job, Request, Text};
+use command_words::{Job, PortJob, Request, SessionJob, Text, TextJob};
 use drive_answers::{PortNames, Ports};
 use exchange_limits::WorkerCount;
 use kept_sessions::{Found, Kept, host, serve, talk};
 use link_ends::{EndFault, SwitchEnd, answer_commands};
 use named_files::{
-    Apart, Contents, Lost, NoAnswer, Outputs, Receipts, Runtime, System, Unwritten, open_apart,
+    Apart, Contents, NoAnswer, Outputs, Receipts, Runtime, System, Unwritten, open_apart,
     read_contents, reason_line, slice_of, source_with, tell_note, text_of,
 };
 use plan_answers::{Answer, answer_check, answer_direct, answer_draw, answer_plan, answer_prices};
@@ -57,8 +56,6 @@ pub(crate) struct Ended<C> {
 /// ended. It is looked first where names lead. Then the files for the record of sessions and for the
 /// image that they leave are opened, before any other is read, and all that are read are read before
 /// anything is answered.
-///
-/// Only sessions may wait, for a lock or for a client: `answer_alone` isn't handed what that takes.
 pub(crate) fn answer_to<R: Runtime, S: System, P: Ports, I: Read, O: Write, E: Write>(
     rt: &R,
     system: &S,
@@ -68,75 +65,6 @@ pub(crate) fn answer_to<R: Runtime, S: System, P: Ports, I: Read, O: Write, E: W
     out: &mut O,
     err: &mut E,
 ) -> Ended<S::Receipt>
-    requires limits { IsWithinLimits request.now.job }
-    requires unserved { peers.old.endings.items ≡ [] }
-    ensures { HasEnded (named_by (S.holds system.now) (S.leads system.now)) S.received
-        (given_by (I.remaining input.old) (P.ways peers.old.ports)
-        (clients_by (S.says system.now) (S.had system.now))) request.now
-        (streams_of (O.contents out.old) (O.contents out.new) (E.contents err.old)
-        (E.contents err.new))
-        (behind result.receipts (P.ways peers.new.ports) (ends_of peers.new.endings.items))
-        result.end }
-{
-    match &request.job {
-        Job::Serve { .. } | Job::Host { .. } | Job::Talk { .. } => {
-            wait_for_sessions(rt, system, peers, request, input, out, err)
-        }
-        _ => answer_alone(rt, system, peers, request, input, out, err),
-    }
-}
-
-/// The answer to a job that has no sessions. It returns: what it is handed lets it wait for nobody,
-/// but that a read may block.
-fn answer_alone<R: AllocGlobal + Threads + Sync, S: System, P: Ports, I: Read, O: Write, E: Write>(
-    rt: &R,
-    system: &S,
-    peers: &mut Peers<P>,
-    request: &Request,
-    input: &mut I,
-    out: &mut O,
-    err: &mut E,
-) -> Ended<S::Receipt>
-    requires alone { HasNoSessions request.now.job }
-    requires unserved { peers.old.endings.items ≡ [] }
-    ensures { HasEnded (named_by (S.holds system.now) (S.leads system.now)) S.received
-        (given_by (I.remaining input.old) (P.ways peers.old.ports)
-        (clients_by (S.says system.now) (S.had system.now))) request.now
-        (streams_of (O.contents out.old) (O.contents out.new) (E.contents err.old)
-        (E.contents err.new))
-        (behind result.receipts (P.ways peers.new.ports) (ends_of peers.new.endings.items))
-        result.end }
-{
-    let (alloc, job) = (rt.alloc(), &request.job);
-    let (outputs, opened) = open_apart(system, alloc, job);
-    let contents = match read_opened(system, alloc, job, opened, input) {
-        Ok((_, contents)) => contents,
-        Err(missed) => {
-            return Ended {
-                end: Err(missed),
-                receipts: close_outputs(system, job, outputs),
-            };
-        }
-    };
-    let found = answer_other(rt, &mut peers.ports, request, &contents, input, out, err);
-    let end = finished(alloc, found, Lost::none(), job, &contents);
-    Ended {
-        end,
-        receipts: close_outputs(system, job, outputs),
-    }
-}
-
-/// The answer to a job that has sessions, for which it waits.
-fn wait_for_sessions<R: Runtime, S: System, P: Ports, I: Read, O: Write, E: Write>(
-    rt: &R,
-    system: &S,
-    peers: &mut Peers<P>,
-    request: &Request,
-    input: &mut I,
-    out: &mut O,
-    err: &mut E,
-) -> Ended<S::Receipt>
-    requires sessions { HasSessions request.now.job }
     requires limits { IsWithinLimits request.now.job }
     requires unserved { peers.old.endings.items ≡ [] }
     ensures { HasEnded (named_by (S.holds system.now) (S.leads system.now)) S.received
@@ -163,7 +91,7 @@ fn wait_for_sessions<R: Runtime, S: System, P: Ports, I: Read, O: Write, E: Writ
         receipts,
         lost,
         cut: _,
-    } = hold_sessions(
+    } = answer_read(
         rt, system, peers, request, &apart, &contents, outputs, input, out, err,
     );
     Ended {
@@ -180,7 +108,9 @@ fn read_opened<S: System, I: Read>(
     opened: Result<Apart, NoAnswer>,
     input: &mut I,
 ) -> Result<(Apart, Contents), NoAnswer>
-    requires { IfErr opened (λ missed. IsRefused missed) }
+    requires apart { IfOk opened (λ apart. apart ≡ job.now) }
+    requires note { IfErr opened (λ missed. IsRefused missed) }
+    ensures apart { IfOk result (λ read. read.0 ≡ job.now) }
     ensures contents { IfOk result (λ read. AreContents (S.holds system.now)
         (I.remaining input.old) (files_of job.now) (contents_in read.1)
         (I.remaining input.new)) }
@@ -194,9 +124,10 @@ fn read_opened<S: System, I: Read>(
     Ok((apart, contents))
 }
 
-/// What comes of the sessions of a job whose files contain this, and of the files that are open for
-/// it.
-fn hold_sessions<R: Runtime, S: System, P: Ports, I: Read, O: Write, E: Write>(
+/// What comes of a job whose files contain this, and of the files that are open for it. Only
+/// sessions wait, for a lock or for a client: `answer_alone` and `answer_ports` aren't handed what
+/// that takes, and so return, but that a read may block.
+fn answer_read<R: Runtime, S: System, P: Ports, I: Read, O: Write, E: Write>(
     rt: &R,
     system: &S,
     peers: &mut Peers<P>,
@@ -208,8 +139,8 @@ fn hold_sessions<R: Runtime, S: System, P: Ports, I: Read, O: Write, E: Write>(
     out: &mut O,
     err: &mut E,
 ) -> Kept<S::Receipt>
-    requires sessions { HasSessions request.now.job }
     requires limits { IsWithinLimits request.now.job }
+    requires apart { apart.now ≡ request.now.job }
     requires unserved { peers.old.endings.items ≡ [] }
     requires scripts { length (contents_in contents.now).scripts
         ≡ length (files_of request.now.job).scripts }
@@ -228,99 +159,124 @@ fn hold_sessions<R: Runtime, S: System, P: Ports, I: Read, O: Write, E: Write>(
         result.lost)
         (IsUnanswered (P.ways peers.old.ports) (P.ways peers.new.ports)
         (ends_of peers.new.endings.items))
-        (IsToldCut request.now.job (contents_in contents.now) (I.remaining input.old)
-        (P.ways peers.old.ports) (P.ways peers.new.ports)) result.end }
+        (λ told. IsToldCut request.now.job (contents_in contents.now) (I.remaining input.old)
+        (P.ways peers.old.ports) (P.ways peers.new.ports) told
+        × (ends_of peers.new.endings.items ≡ [])) result.end }
     ensures note { IfErr result.end (λ missed. IsNoAnswer missed) }
     ensures beside { IsBeside (IsWarnedOf request.now.job (contents_in contents.now)) request.now
         (E.contents err.old) (E.contents err.new) }
-    ensures rest { LeavesRest request.now.job (P.ways peers.old.ports) (P.ways peers.new.ports)
-        (ends_of peers.new.endings.items) }
     ensures unkept { OnErr result.end
         (AreKept (S.holds system.now) S.received request.now.job None result.receipts) }
 {
-    let (alloc, job) = (rt.alloc(), &request.job);
-    match job {
-        Job::Serve { rack, workers, .. } => serve(rt, system, rack, *workers, contents, outputs),
-        Job::Host {
-            rack,
-            clients,
-            workers,
-        } => {
-            let clients = clients.as_slice();
-            let lacks = match no_lacks(alloc, clients.len()) {
-                Ok(lacks) => lacks,
-                Err(error) => return without_sessions(
+    let (alloc, is_quiet) = (rt.alloc(), request.is_quiet);
+    match &request.job {
+        Job::Texts(job) => {
+            let end = answer_alone(rt, request, job, contents, err);
+            without_sessions(system, &request.job, end, outputs)
+        }
+        Job::Ports(job) => {
+            let end = answer_ports(
+                rt,
+                &mut peers.ports,
+                request,
+                job,
+                contents,
+                input,
+                out,
+                err,
+            );
+            without_sessions(system, &request.job, end, outputs)
+        }
+        Job::Sessions { rack, job } => match job {
+            SessionJob::Serve { workers, .. } => {
+                serve(rt, system, rack, *workers, contents, outputs)
+            }
+            SessionJob::Host { clients, workers } => {
+                let clients = clients.as_slice();
+                let lacks = match no_lacks(alloc, clients.len()) {
+                    Ok(lacks) => lacks,
+                    Err(error) => return without_sessions(
+                        system,
+                        &request.job,
+                        Err(NoAnswer::from(error)),
+                        outputs,
+                    ),
+                };
+                let lacks = lacks.as_slice();
+                let kept = host(
+                    rt,
                     system,
-                    job,
-                    Err(NoAnswer::from(error)),
+                    rack,
+                    clients,
+                    apart,
+                    *workers,
+                    contents,
+                    lacks,
                     outputs,
-                ),
-            };
-            let lacks = lacks.as_slice();
-            let kept = host(
+                    &mut peers.endings,
+                );
+                tell_lacks(alloc, lacks, is_quiet, err);
+                tell_lack(
+                    alloc,
+                    cut_lack(alloc, rack, kept.cut).as_ref(),
+                    is_quiet,
+                    err,
+                );
+                kept
+            }
+            SessionJob::Talk if is_quiet => talk(
                 rt,
                 system,
                 rack,
-                clients,
-                apart,
-                *workers,
                 contents,
-                lacks,
                 outputs,
-                &mut peers.endings,
-            );
-            tell_lacks(alloc, lacks, request.is_quiet, err);
-            tell_cut(alloc, rack, kept.cut, request.is_quiet, err);
-            kept
-        }
-        Job::Talk { rack } if request.is_quiet => talk(
-            rt,
-            system,
-            rack,
-            contents,
-            outputs,
-            input,
-            out,
-            &mut NoListener,
-        ),
-        Job::Talk { rack } => {
-            let mut beside = Beside::new(alloc, rack.shape.as_str(), err);
-            let kept = talk(rt, system, rack, contents, outputs, input, out, &mut beside);
-            // It does nothing when the program runs: the proof reads from it what `err` holds.
-            beside.into_stream();
-            tell_cut(alloc, rack, kept.cut, request.is_quiet, err);
-            kept
-        }
-        _ => unreachable!(),
+                input,
+                out,
+                &mut NoListener,
+            ),
+            SessionJob::Talk => {
+                let mut beside = Beside::new(alloc, rack.shape.as_str(), err);
+                let kept = talk(rt, system, rack, contents, outputs, input, out, &mut beside);
+                // It does nothing when the program runs: the proof reads from it what `err` holds.
+                beside.into_stream();
+                tell_lack(
+                    alloc,
+                    cut_lack(alloc, rack, kept.cut).as_ref(),
+                    is_quiet,
+                    err,
+                );
+                kept
+            }
+        },
     }
 }
 
-/// The answer to a job that has no sessions, and whose files contain this. It waits for nobody but
-/// for a line of `input`.
-fn answer_other<R: AllocGlobal + Threads + Sync, P: Ports, I: Read, O: Write, E: Write>(
+/// The answer to a job of a switch, whose files contain this. It waits for nobody but for a line of
+/// `input`.
+fn answer_ports<R: AllocGlobal + Threads + Sync, P: Ports, I: Read, O: Write, E: Write>(
     rt: &R,
     ports: &mut P,
     request: &Request,
+    job: &PortJob,
     contents: &Contents,
     input: &mut I,
     out: &mut O,
     err: &mut E,
 ) -> Result<Found, NoAnswer>
-    requires { HasNoSessions request.now.job }
+    requires { request.now.job ≡ OverPorts job.now }
     ensures response { HasTold (O.contents out.old) (O.contents out.new)
-        (λ told found. IsPlainAnswer request.now.job (contents_in contents.now)
-        (I.remaining input.old) (P.ways ports.old) (P.ways ports.new) told found.answer)
+        (λ told found. IsPortAnswer job.now (contents_in contents.now) (I.remaining input.old)
+        (P.ways ports.old) (P.ways ports.new) told found.answer)
         (λ told. (told ≡ []) × (P.ways ports.new ≡ P.ways ports.old))
-        (IsToldCut request.now.job (contents_in contents.now) (I.remaining input.old)
-        (P.ways ports.old) (P.ways ports.new)) result }
+        (IsPortCut job.now (contents_in contents.now) (I.remaining input.old) (P.ways ports.old)
+        (P.ways ports.new)) result }
     ensures note { IfErr result (λ missed. IsNoAnswer missed) }
     ensures beside { IsBeside (IsWarnedOf request.now.job (contents_in contents.now)) request.now
         (E.contents err.old) (E.contents err.new) }
-    ensures ports { KeepsPorts request.now.job (P.ways ports.old) (P.ways ports.new) }
 {
     let alloc = rt.alloc();
-    match &request.job {
-        Job::Drive {
+    match job {
+        PortJob::Drive {
             port,
             port_b,
             source,
@@ -339,92 +295,111 @@ fn answer_other<R: AllocGlobal + Threads + Sync, P: Ports, I: Read, O: Write, E:
                 warning, err,
             )
         }
-        Job::C004 if request.is_quiet => c004(alloc, input, out, &mut io::sink()),
-        Job::C004 => c004(alloc, input, out, err),
-        Job::Replay { recorded, .. } => {
-            let found = answer_texts(rt, &request.job, contents)?;
-            tell_torn(alloc, recorded, found.torn, request.is_quiet, err);
+        PortJob::C004 if request.is_quiet => c004(alloc, input, out, &mut io::sink()),
+        PortJob::C004 => c004(alloc, input, out, err),
+    }
+}
+
+/// The answer to a job whose files are all that it asks for, with what is told beside it. It waits
+/// for nobody.
+fn answer_alone<R: AllocGlobal + Threads + Sync, E: Write>(
+    rt: &R,
+    request: &Request,
+    job: &TextJob,
+    contents: &Contents,
+    err: &mut E,
+) -> Result<Found, NoAnswer>
+    requires { request.now.job ≡ OfTexts job.now }
+    ensures text { IfOk result (λ found.
+        IsTextAnswer job.now (contents_in contents.now) found.answer) }
+    ensures note { IfErr result (λ missed. IsRefused missed) }
+    ensures beside { IsBeside (IsWarnedOf request.now.job (contents_in contents.now)) request.now
+        (E.contents err.old) (E.contents err.new) }
+{
+    let alloc = rt.alloc();
+    let found = answer_texts(rt, job, contents)?;
+    match job {
+        TextJob::Replay { recorded, .. } => {
+            let lack = torn_lack(alloc, recorded, found.torn);
+            tell_lack(alloc, lack.as_ref(), request.is_quiet, err);
             Ok(found)
         }
-        job => {
-            let found = answer_texts(rt, job, contents)?;
-            let warning = warning_of(alloc, request, contents, &found.answer);
+        _ => {
+            let warning = warning_of(alloc, request, job, contents, &found.answer);
             tell_beside(warning, &found.answer, err);
             Ok(found)
         }
     }
 }
 
-/// The answer to a job whose files are all that it asks for. It waits for nobody.
+/// The same without what is told beside it.
 fn answer_texts<R: AllocGlobal + Threads + Sync>(
     rt: &R,
-    job: &Job,
+    job: &TextJob,
     contents: &Contents,
 ) -> Result<Found, AllocError>
-    requires { IsOfTexts job.now }
     ensures { IfOk result (λ found.
         IsTextAnswer job.now (contents_in contents.now) found.answer) }
 {
     let alloc = rt.alloc();
-    let (list, other) = (text_of(&contents.list), text_of(&contents.other));
+    let (list, schedule) = (text_of(&contents.list), text_of(&contents.schedule));
     let image = slice_of(&contents.image);
     match job {
-        Job::Plan {
+        TextJob::Plan {
             planning,
             workers,
             ..
         } => Ok(Found::alone(answer_plan(rt, alloc, list, *planning, *workers)?)),
-        Job::Check { .. } => Ok(Found::alone(answer_check(alloc, list, other)?)),
-        Job::Draw { settings, .. } => {
+        TextJob::Check { .. } => Ok(Found::alone(answer_check(alloc, list, schedule)?)),
+        TextJob::Draw { settings, .. } => {
             let range = bytes_in(settings);
-            Ok(Found::alone(answer_draw(alloc, list, other, range)?))
+            Ok(Found::alone(answer_draw(alloc, list, schedule, range)?))
         }
-        Job::Prices { .. } => Ok(Found::alone(answer_prices(alloc, list, other)?)),
-        Job::Switch {
+        TextJob::Prices { .. } => Ok(Found::alone(answer_prices(alloc, list, schedule)?)),
+        TextJob::Switch {
             source,
             has_two,
             workers,
             ..
         } => {
-            let source = source_with(source, other);
+            let source = source_with(source, schedule);
             let wiring = slice_of(&contents.wiring);
             let answer = answer_switch(rt, alloc, *has_two, wiring, list, source, *workers)?;
             Ok(Found::alone(answer))
         }
-        Job::Orders {
+        TextJob::Orders {
             source,
             module,
             workers,
             ..
         } => {
-            let source = source_with(source, other);
+            let source = source_with(source, schedule);
             let answer = answer_orders(rt, alloc, list, source, *module, *workers)?;
             Ok(Found::alone(answer))
         }
-        Job::Direct { .. } => Ok(Found::alone(answer_direct(alloc, list)?)),
-        Job::Apply { shape, .. } => {
+        TextJob::Direct { .. } => Ok(Found::alone(answer_direct(alloc, list)?)),
+        TextJob::Apply { shape, .. } => {
             let shape = shape.as_str().as_bytes();
-            let answer = answer_apply(alloc, shape, list, other)?;
+            let answer = answer_apply(alloc, shape, list, schedule)?;
             Ok(Found::alone(answer))
         }
-        Job::Run {
+        TextJob::Run {
             shape,
             source,
             workers,
             ..
         } => {
             let shape = shape.as_str().as_bytes();
-            let source = source_with(source, other);
+            let source = source_with(source, schedule);
             let answer = answer_run(rt, alloc, shape, list, source, image, *workers)?;
             Ok(Found::alone(answer))
         }
-        Job::Replay { shape, first, .. } => {
+        TextJob::Replay { shape, first, .. } => {
             let shape = bytes_in(shape);
             let workers = WorkerCount::ONE;
             let replayed = answer_replay(rt, alloc, shape, list, image, *first, workers)?;
             Ok(Found::replayed(replayed))
         }
-        _ => unreachable!(),
     }
 }
 

@@ -23,16 +23,14 @@
 
 mod answered;
 mod beside;
-mod cut;
 mod driving;
 mod jobs;
+mod lacks;
 mod limits;
 mod peers;
 mod promises;
 mod responding;
 mod texts;
-mod torn;
-mod unopened;
 mod unserved;
 mod warned;
 mod warnings;

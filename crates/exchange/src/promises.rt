@@ -4,9 +4,9 @@
 //! status it ends. The clause of that is what the program promises, over the definitions of
 //! `specs/Promises.antt`: who reads these has read what it is proved to do.
 //!
-//! By its bounds `answer` may wait, and so may `respond`, `print_response` and `answer_to` below
-//! it. These are short, without a loop, and hand on a job without sessions to `answer_alone`, which
-//! by its bounds can't wait.
+//! By its bounds `answer` may wait, and so may `respond`, `print_response`, `answer_to` and
+//! `answer_read` below it. These have no loop, and hand on jobs without sessions to `answer_alone`
+//! and `answer_ports`, which by their bounds can't wait.
 
 ghost use Rattle.std.specs.Prelude.{◌≡◌, [], IfOk, OnErr};
 ghost use Rattle.std.specs.Process.{exit_status};

@@ -1,7 +1,7 @@
 //! What the second line of a refusal is told of.
 
 use batch::position_of;
-use command_words::{Job, Text};
+use command_words::{Job, Text, TextJob};
 use kept_sessions::Found;
 use named_files::{Contents, slice_of};
 use record_replay::RecordError;
@@ -62,49 +62,41 @@ fn of_record<'a>(
 }
 
 /// The texts of a job's files and its words, with what its answer knows of a schedule, and of a
-/// record that is refused. Where `run` has a schedule, that stands there, but where its image is
-/// refused.
+/// record that is refused. Where a schedule is told of, that stands there, and else the image.
 pub(crate) fn texts_of<'a>(job: &'a Job, contents: &'a Contents, found: &'a Found) -> Texts<'a> {
-    let files = job.files();
-    let (answer, error) = (&found.answer, &found.error);
+    let (files, error) = (job.files(), &found.error);
+    let schedule = named(files.schedule, &contents.schedule);
     let texts = Texts {
         list: named(files.list, &contents.list),
-        other: named(files.other, &contents.other),
+        other: named(files.image, &contents.image),
         wiring: named(files.wiring, &contents.wiring),
-        validity: answer.validity(),
+        validity: found.answer.validity(),
         ..Texts::NONE
     };
-    let image = named(files.image, &contents.image);
     match job {
-        Job::Direct { .. } => Texts {
+        Job::Texts(TextJob::Direct { .. }) => Texts {
             listing: Listing::Moves,
             ..texts
         },
-        Job::Draw { settings, .. } => Texts {
+        Job::Texts(TextJob::Draw { settings, .. }) => Texts {
+            other: schedule,
             range: word_in(settings),
             ..texts
         },
-        Job::Apply { shape, .. } => Texts {
+        Job::Texts(TextJob::Apply { shape, .. }) => Texts {
             shape: shape.as_str(),
+            other: schedule,
             ..texts
         },
-        Job::Run { shape, .. } => Texts {
+        Job::Texts(TextJob::Run { shape, .. }) => Texts {
             shape: shape.as_str(),
-            other: match answer.refusal() {
-                Some(Refusal::Image { .. }) => image,
-                _ => texts.other,
+            other: match found.answer.refusal() {
+                Some(Refusal::Image { .. }) => texts.other,
+                _ => schedule,
             },
             ..texts
         },
-        Job::Serve { rack, .. } | Job::Host { rack, .. } | Job::Talk { rack } => {
-            let texts = Texts {
-                shape: rack.shape.as_str(),
-                other: image,
-                ..texts
-            };
-            of_record(texts, named(rack.record_name(), &found.held), error)
-        }
-        Job::Replay { shape, .. } => {
+        Job::Texts(TextJob::Replay { shape, .. }) => {
             let recorded = texts.list;
             let texts = Texts {
                 list: Named::NONE,
@@ -112,7 +104,6 @@ pub(crate) fn texts_of<'a>(job: &'a Job, contents: &'a Contents, found: &'a Foun
                     Some(shape) => shape.as_str(),
                     None => shape_of(recorded.text),
                 },
-                other: image,
                 opening: match contents.image {
                     Some(_) => Opening::Image,
                     None => Opening::Zeros,
@@ -121,6 +112,16 @@ pub(crate) fn texts_of<'a>(job: &'a Job, contents: &'a Contents, found: &'a Foun
             };
             of_record(texts, recorded, error)
         }
-        _ => texts,
+        Job::Texts(_) | Job::Ports(_) => Texts {
+            other: schedule,
+            ..texts
+        },
+        Job::Sessions { rack, .. } => {
+            let texts = Texts {
+                shape: rack.shape.as_str(),
+                ..texts
+            };
+            of_record(texts, named(rack.record_name(), &found.held), error)
+        }
     }
 }

@@ -8,9 +8,10 @@ ghost use Rattle.named_files.specs.Notes.{IsWholeLine};
 ghost use Rattle.exchange.specs.Notes.{HasOverlap, HasWidth, IsTooWide, IsWarnedOf, IsWarning};
 ghost use Rattle.exchange.specs.Responses.{IsTextAnswer, text_in};
 ghost use Rattle.exchange.specs.Warnings.{MayHaveWarned};
+ghost use Rattle.command_words.specs.declared.jobs.Job.TheVariants.{Texts as OfTexts};
 
 use batch::{Batch, Shape, number_before};
-use command_words::{Job, Request};
+use command_words::{Job, Request, TextJob};
 use named_files::{Contents, tell_line, text_of};
 use plan_answers::Answer;
 use refusal_notes::{Named, Texts, file_line, second_line};
@@ -98,17 +99,19 @@ pub(crate) fn overlap_warning_of(
 pub(crate) fn warning_of(
     alloc: Global,
     request: &Request,
+    job: &TextJob,
     contents: &Contents,
     answer: &Answer,
 ) -> Option<String>
-    requires { IsTextAnswer request.now.job (contents_in contents.now) answer.now }
+    requires job { request.now.job ≡ OfTexts job.now }
+    requires answer { IsTextAnswer job.now (contents_in contents.now) answer.now }
     ensures { IfSome result (IsWarning
         (IsWarnedOf request.now.job (contents_in contents.now)) request.now) }
 {
-    match &request.job {
-        Job::Plan { .. } => overlap_warning_of(alloc, request, contents),
-        Job::Switch { .. } => overlap_warning_of(alloc, request, contents),
-        Job::Draw { schedule, .. } if !request.is_quiet => {
+    match job {
+        TextJob::Plan { .. } => overlap_warning_of(alloc, request, contents),
+        TextJob::Switch { .. } => overlap_warning_of(alloc, request, contents),
+        TextJob::Draw { schedule, .. } if !request.is_quiet => {
             wide_line(alloc, schedule.as_str(), answer.text())
         }
         _ => None,

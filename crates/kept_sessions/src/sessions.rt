@@ -6,6 +6,8 @@ ghost use Rattle.std.specs.Io.KnownBytes.{Appends};
 ghost use Rattle.batch_book.specs.History.{Account};
 ghost use Rattle.client_session.specs.Listening.{TellsOfRefusals};
 ghost use Rattle.command_words.specs.Jobs.{CanBeServed, recorded_in};
+ghost use Rattle.command_words.specs.declared.jobs.Job.TheVariants.{Sessions};
+ghost use Rattle.command_words.specs.declared.jobs.SessionJob.TheVariants.{Host};
 ghost use Rattle.session_answers.specs.Serving.{IsServeAnswer};
 ghost use Rattle.named_files.specs.Clients.{clients_by, ends_of};
 ghost use Rattle.named_files.specs.Contents.{contents_in};
@@ -38,6 +40,7 @@ use std::io::{Read, Write};
 use std::marker::Brand;
 use std::sync::{OnceLock, Wait};
 use std::thread::Threads;
+use std::time::Clock;
 
 /// Writes the record of the book that scripts leave, where a file is open for it.
 fn keep_record<S: System>(
@@ -141,7 +144,7 @@ pub fn serve<R: Runtime, S: System>(
 }
 
 /// The sessions of a host's clients over a book.
-fn host_over<K: History + Send, R: Threads + Wait + Sync, S: ClientFiles>(
+fn host_over<K: History + Send, R: Clock + Threads + Wait + Sync, S: ClientFiles>(
     rt: &R,
     alloc: Global,
     book: Book<K>,
@@ -166,7 +169,7 @@ fn host_over<K: History + Send, R: Threads + Wait + Sync, S: ClientFiles>(
 }
 
 /// The same over a book whose record goes on at this stream.
-fn host_recorded<N: StreamName + Send, R: Threads + Wait + Sync, S: System>(
+fn host_recorded<N: StreamName + Send, R: Clock + Threads + Wait + Sync, S: System>(
     rt: &R,
     alloc: Global,
     book: Book<Silent>,
@@ -199,7 +202,7 @@ fn gathers(shared: &SharedRack) -> bool {
 }
 
 /// The sessions of a host's clients, from their beginning on.
-fn host_from<R: Threads + Wait + Sync, S: System>(
+fn host_from<R: Clock + Threads + Wait + Sync, S: System>(
     rt: &R,
     alloc: Global,
     start: Start<S::Stream>,
@@ -248,6 +251,7 @@ pub fn host<R: Runtime, S: System>(
     endings: &mut Vec<Ending<PassedBytes>>,
 ) -> Kept<S::Receipt>
     requires clients { CanBeServed clients.now }
+    requires apart { apart.now ≡ Sessions shared.now (Host clients.now workers) }
     requires unserved { endings.old.items ≡ [] }
     requires opened { AreOpened S.Stream.contents (S.holds system.now) (recorded_in shared.now)
         shared.now.image_out outputs }
@@ -284,7 +288,7 @@ pub fn host<R: Runtime, S: System>(
 }
 
 /// The session of a client over a book, of whose refusals the listener is told.
-fn talk_over<K: History, R: Threads + Wait + Sync, I: Read, O: Write, H: Listener>(
+fn talk_over<K: History, R: Clock + Threads + Wait + Sync, I: Read, O: Write, H: Listener>(
     rt: &R,
     alloc: Global,
     book: Book<K>,
@@ -308,7 +312,7 @@ fn talk_over<K: History, R: Threads + Wait + Sync, I: Read, O: Write, H: Listene
 /// The same over a book whose record goes on at this stream.
 fn talk_recorded<
     N: StreamName + Send,
-    R: Threads + Wait + Sync,
+    R: Clock + Threads + Wait + Sync,
     F: Write + Send,
     I: Read,
     O: Write,
@@ -341,7 +345,7 @@ fn talk_recorded<
 }
 
 /// The session of a client, from its beginning on.
-fn talk_from<R: Threads + Wait + Sync, F: Write + Send, I: Read, O: Write, H: Listener>(
+fn talk_from<R: Clock + Threads + Wait + Sync, F: Write + Send, I: Read, O: Write, H: Listener>(
     rt: &R,
     alloc: Global,
     start: Start<F>,

@@ -1,7 +1,6 @@
 -- What has gone to a stream that has a name.
 use Rattle.std.proofs.Common.{◌≡◌, ◌∙◌, ◌++◌, ◌==◌, ℕ, Bool, true, false, List, [], ◌∷◌, Option, Some, None, if◌then◌else◌, append_assoc, ap, ap₂, arith, eqb-true, length, refl, sym}
 use Rattle.std.specs.Io.KnownBytes.{Appends}
-use Rattle.std.proofs.lemmas.List.{append_cancel_left}
 use Rattle.clap.specs.Words.{Text}
 use Rattle.named_files.specs.Streams.{bytes_behind, gone_by, gone_to, named_text}
 

@@ -1,5 +1,5 @@
 -- What goes to files.
-use Rattle.std.proofs.Common.{◌≡◌, ◌∙◌, ◌++◌, ◌∷◌, ℕ, Bool, not, List, [], Option, Some, None, Result, Ok, Err, OnOk, OnErr, IfOk, IsErrAnd, false, true, is_ok, is_some, append-nil, append_assoc, ap, ap₂, length, subst, sym, refl}
+use Rattle.std.proofs.Common.{◌≡◌, ◌∙◌, ◌++◌, ℕ, Bool, not, List, [], Option, Some, None, Result, Ok, Err, OnOk, OnErr, IfOk, IsErrAnd, false, true, is_ok, is_some, append-nil, append_assoc, ap, ap₂, subst, sym, refl}
 use Rattle.std.specs.Prelude.{⊤}
 use Rattle.std.specs.Io.KnownBytes.{Appends}
 use Rattle.byte_streams.specs.Writing.{IsCutShort}

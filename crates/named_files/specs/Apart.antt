@@ -2,9 +2,10 @@
 use Rattle.std.specs.Prelude.{◌≡◌, ◌≢◌, ◌⊎◌, ◌↔◌, ℕ, Bool, false, List, Option, All, AllPairs, Contains, IfSome, IsTrue, MatchOption, codes, string_bytes}
 use Rattle.clap.specs.Words.{Text}
 use Rattle.command_words.specs.declared.uses.Access.{Access}
-use Rattle.command_words.specs.declared.uses.Access.TheVariants.{Port, Read, Write}
+use Rattle.command_words.specs.declared.jobs.Job.{Job}
+use Rattle.command_words.specs.declared.uses.Access.TheVariants.{Port, Read, Told, Write}
 use Rattle.command_words.specs.declared.uses.FileUse.{FileUse}
-use Rattle.command_words.specs.Jobs.{Exclude, file}
+use Rattle.command_words.specs.Jobs.{Exclude, file, file_uses}
 use Rattle.named_files.specs.declared.place.FileKind.{FileKind}
 use Rattle.named_files.specs.declared.place.FileKind.TheVariants.{Device, Null, Plain}
 use Rattle.named_files.specs.declared.place.Place.{Place}
@@ -71,10 +72,14 @@ pub record AreSeenApart (leads : Leading) (uses : List FileUse) : Type 0 where
   pub out : IsNoneOf leads (codes "/dev/stdout") uses
   pub err : IsNoneOf leads (codes "/dev/stderr") uses
 
--- among these files is one of this name that is written
-abbrev pub IsWrittenOf : List FileUse → List ℕ → Type 0
-IsWrittenOf uses name = Contains uses (file Write name)
+-- the job writes its record, or the image that it leaves, to a file of this name
+abbrev pub IsWrittenOf : Job → List ℕ → Type 0
+IsWrittenOf job name = Contains (file_uses job) (file Write name)
 
 -- the same of a name, where there is one
-abbrev pub MayBeWritten : List FileUse → Option Text → Type 0
-MayBeWritten uses name = IfSome name (IsWrittenOf uses)
+abbrev pub MayBeWritten : Job → Option Text → Type 0
+MayBeWritten job name = IfSome name (IsWrittenOf job)
+
+-- the job tells a client by a file of this name
+abbrev pub TellsBy : Job → List ℕ → Type 0
+TellsBy job name = Contains (file_uses job) (file Told name)

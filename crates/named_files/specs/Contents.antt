@@ -31,7 +31,7 @@ AreContents holds before names files after =
     (first second third fourth : Option (List ℕ))
     × AreRead holds before (option_to_list names.image) (option_to_list files.image) first
     × AreRead holds first (option_to_list names.list) (option_to_list files.list) second
-    × AreRead holds second (option_to_list names.other) (option_to_list files.other) third
+    × AreRead holds second (option_to_list names.schedule) (option_to_list files.schedule) third
     × AreRead holds third (option_to_list names.wiring) (option_to_list files.wiring) fourth
     × AreRead holds fourth names.scripts files.scripts after
 
@@ -41,7 +41,7 @@ contents_in contents =
     record {
       image = option_map (λ file. file.items) contents.image;
       list = option_map (λ file. file.items) contents.list;
-      other = option_map (λ file. file.items) contents.other;
+      schedule = option_map (λ file. file.items) contents.schedule;
       wiring = option_map (λ file. file.items) contents.wiring;
       scripts = map (λ file. file.items) contents.scripts.items;
     }

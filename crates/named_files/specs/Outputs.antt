@@ -1,7 +1,7 @@
 -- The files to which go the record of sessions and the image that they leave.
 use Rattle.std.specs.Prelude.{◌≡◌, ℕ, List, [], Option, Some, None, ⊤, codes, Bool, true, false, IfSome, MatchOption, is_some, not, option_map, string_bytes, unwrap_or}
 use Rattle.command_words.specs.declared.jobs.Job.{Job}
-use Rattle.command_words.specs.Jobs.{recorded_in}
+use Rattle.command_words.specs.Jobs.{recorded_in, serves_live}
 use Rattle.named_files.specs.Notes.{IsToldInPart}
 use Rattle.named_files.specs.Contents.{Holding}
 use Rattle.named_files.specs.Streams.{Closed, IsFrontOf, IsLeftOf, closed, gone_to}
@@ -9,7 +9,7 @@ use Rattle.named_files.specs.declared.outputs.Receipts.{Receipts}
 use Rattle.named_files.specs.declared.unwritten.Unwritten.{Unwritten}
 use Rattle.named_files.specs.declared.unwritten.Unwritten.TheVariants.{Answer, Kept, Nowhere, Setting}
 use Rattle.clap.specs.Words.{Text}
-use Rattle.command_words.specs.declared.jobs.Job.TheVariants.{Serve, Host, Talk}
+use Rattle.command_words.specs.declared.jobs.Job.TheVariants.{Sessions}
 use Rattle.named_files.specs.declared.lost.Lost.{Lost}
 use Rattle.named_files.specs.declared.lost.Reason.{Reason}
 use Rattle.named_files.specs.declared.outputs.OutFile.{OutFile}
@@ -39,22 +39,17 @@ name_of out = option_map (λ out. out.name.now) out
 
 -- the file to which the record of a job's sessions goes, where it goes to one
 abbrev pub record_of : Job → Option Text
-record_of (Serve rack scripts workers) = recorded_in rack
-record_of (Host rack clients workers) = recorded_in rack
-record_of (Talk rack) = recorded_in rack
+record_of (Sessions rack job) = recorded_in rack
 record_of job = None
 
 -- the file to which the image goes that a job leaves, where it goes to one
 abbrev pub output_of : Job → Option Text
-output_of (Serve rack scripts workers) = rack.image_out
-output_of (Host rack clients workers) = rack.image_out
-output_of (Talk rack) = rack.image_out
+output_of (Sessions rack job) = rack.image_out
 output_of job = None
 
 -- the record of a job's sessions goes on behind what its file holds
 abbrev pub is_live : Job → Bool
-is_live (Host rack clients workers) = true
-is_live (Talk rack) = true
+is_live (Sessions rack job) = serves_live job
 is_live job = false
 
 -- a new file holds nothing

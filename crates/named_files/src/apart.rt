@@ -2,9 +2,9 @@
 
 ghost use Rattle.std.specs.Prelude.{◌≡◌, ◌↔◌, All, IfErr, IfOk, IfSome, IsTrue, OnOk, codes, false, string_bytes};
 ghost use Rattle.command_words.specs.Jobs.{file_uses as the_uses};
-ghost use Rattle.command_words.specs.declared.uses.Access.TheVariants.{Port, Write};
+ghost use Rattle.command_words.specs.declared.uses.Access.TheVariants.{Port};
 ghost use Rattle.named_files.specs.declared.place.FileKind.TheVariants.{Null, Plain};
-ghost use Rattle.named_files.specs.Apart.{HaveNoClash, AreSeenApart, Clash, IsBarred, IsBarredSeen, IsClashSeen, IsNoneOf, IsOther, IsSeen, IsWrittenOf};
+ghost use Rattle.named_files.specs.Apart.{HaveNoClash, AreSeenApart, Clash, IsBarred, IsBarredSeen, IsClashSeen, IsNoneOf, IsOther, IsSeen};
 ghost use Rattle.named_files.specs.Notes.{IsWholeLine, IsRefused};
 
 use crate::notes::NoAnswer;
@@ -13,41 +13,36 @@ use crate::unanswered::Unanswered;
 use command_words::{Access, FileUse, Job, RoleClash, Text, file_uses};
 use refusal_notes::{Named, file_line};
 use std::alloc::{AllocError, Global};
-use std::io;
-use std::io::ErrorKind;
+use std::marker::Model;
+use std::snapshot::Snapshot;
 
 /// Shows that the files of a job are apart, as far as that can be told: it is made of that look
-/// alone.
+/// alone. Contracts see the job.
 #[derive(Drop)]
 pub struct Apart {
     files: Vec<FileUse>,
+    // A value that contracts alone see.
+    job: Snapshot<Job>,
 }
 
-/// Whether this is a file of this name that is written.
-fn is_written(file: &FileUse, name: &str) -> bool
-    ensures { IsTrue result → (file.now.access ≡ Write) × (file.now.name ≡ name.now) }
-{
-    matches!(file.access, Access::Write) && file.name.as_str() == name
+impl Model for Apart {
+    ghost use Rattle.std.specs.Prelude.{◌≡◌};
+    ghost use Rattle.command_words.specs.Jobs.{file_uses};
+    ghost use Rattle.command_words.specs.declared.jobs.Job.{Job};
+
+    ghost Value = { Job };
+
+    ghost view = { λ apart. apart.job.value };
+
+    ghost invariant = { λ apart. apart.files.items ≡ file_uses apart.job.value };
 }
 
 impl Apart {
     /// All files that the job names.
     pub(crate) fn files(&self) -> &[FileUse]
-        ensures { result.now ≡ self.now.files.items }
+        ensures { result.now ≡ the_uses self.now }
     {
         self.files.as_slice()
-    }
-
-    /// Looks whether the job writes a file of this name.
-    pub(crate) fn look_written(&self, name: &str) -> io::Result<()>
-        ensures { OnOk result (IsWrittenOf self.now.files.items name.now) }
-    {
-        for file in self.files.as_slice() {
-            if is_written(file, name) {
-                return Ok(());
-            }
-        }
-        Err(io::Error::from(ErrorKind::PermissionDenied))
     }
 }
 
@@ -243,12 +238,13 @@ fn look_at_streams<S: Places>(system: &S, alloc: Global, files: &[FileUse]) -> R
 /// other, and whether standard output and standard error are none of all these, but where they may
 /// be, as far as the system tells where their names lead. Nothing is opened.
 pub(crate) fn look_apart<S: Places>(system: &S, alloc: Global, job: &Job) -> Result<Apart, NoAnswer>
-    ensures files { IfOk result (λ apart. apart.files.items ≡ the_uses job.now) }
+    ensures job { IfOk result (λ apart. apart ≡ job.now) }
     ensures apart { OnOk result (AreSeenApart (S.leads system.now) (the_uses job.now)) }
     ensures note { IfErr result (λ missed. IsRefused missed) }
 {
     let files = file_uses(alloc, job)?;
     look_at_streams(system, alloc, files.as_slice())?;
     look_through(system, alloc, files.as_slice())?;
-    Ok(Apart { files })
+    let job = Snapshot::of(job);
+    Ok(Apart { files, job })
 }

@@ -1,7 +1,8 @@
 //! The files of the clients of a host.
 
 ghost use Rattle.std.specs.Prelude.{◌≡◌, ℕ, List, Option, IfOk};
-ghost use Rattle.named_files.specs.Apart.{IsWrittenOf};
+ghost use Rattle.command_words.specs.Jobs.{clients_of};
+ghost use Rattle.named_files.specs.Apart.{TellsBy};
 
 use crate::apart::Apart;
 use crate::lack::Lack;
@@ -30,9 +31,9 @@ pub trait ClientFiles: Sync {
         ensures { IfOk result (λ heard. Self.Heard.remaining heard ≡ says self.now name.now) };
 
     /// Opens the file by which a client is told: it is made where it isn't there, and emptied. It is
-    /// one that the job writes.
+    /// one by which the job tells a client.
     fn open_told(&self, there: &AllThere, apart: &Apart, name: &str) -> io::Result<SentFile>
-        requires { IsWrittenOf apart.now.files.items name.now }
+        requires { TellsBy apart.now name.now }
         ensures { IfOk result (λ told. told.sent ≡ had self.now name.now) };
 }
 
@@ -43,10 +44,11 @@ pub struct FileStreams<'a, S> {
     pub system: &'a S,
     pub alloc: Global,
     pub clients: &'a [Text],
-    /// The files of the job, among which are those of the clients.
+    /// It was looked that the files of the job are apart whose clients these are.
     pub apart: &'a Apart,
     /// Of each client the file that couldn't be opened, where one couldn't, and why.
     pub unopened: &'a [OnceLock<Lack>],
+    ghost hosted: { clients.now ≡ clients_of apart.now },
 }
 
 impl<'a, S> FileStreams<'a, S> {
@@ -90,7 +92,10 @@ impl<'a, S: ClientFiles> ClientStreams for FileStreams<'a, S> {
 
     // What the client says is opened first.
     fn open(&self, there: AllThere, client: usize) -> io::Result<(S::Heard, SentFile)> {
-        let name = self.name(client);
+        let Some(name) = self.clients.get(client) else {
+            return Err(io::Error::from(ErrorKind::NotFound));
+        };
+        let name = name.as_str();
         let said = format!(in self.alloc; "{name}.in")?;
         let told = format!(in self.alloc; "{name}.out")?;
         let reader = match self.system.open_heard(&there, said.as_str()) {
@@ -100,9 +105,7 @@ impl<'a, S: ClientFiles> ClientStreams for FileStreams<'a, S> {
                 return Err(error);
             }
         };
-        let out = told.as_str();
-        self.apart.look_written(out)?;
-        match self.system.open_told(&there, self.apart, out) {
+        match self.system.open_told(&there, self.apart, told.as_str()) {
             Ok(writer) => Ok((reader, writer)),
             Err(error) => {
                 self.keep(client, told, &error);

@@ -20,7 +20,7 @@ use std::io::Read;
 pub struct Contents {
     pub image: Option<Vec<u8>>,
     pub list: Option<Vec<u8>>,
-    pub other: Option<Vec<u8>>,
+    pub schedule: Option<Vec<u8>>,
     pub wiring: Option<Vec<u8>>,
     pub scripts: Vec<Vec<u8>>,
 }
@@ -40,7 +40,7 @@ pub fn read_contents<S: System, I: Read>(
     Ok(Contents {
         image: read_option(system, alloc, files.image, input)?,
         list: read_option(system, alloc, files.list, input)?,
-        other: read_option(system, alloc, files.other, input)?,
+        schedule: read_option(system, alloc, files.schedule, input)?,
         wiring: read_option(system, alloc, files.wiring, input)?,
         scripts: read_files(system, alloc, files.scripts, input)?,
     })

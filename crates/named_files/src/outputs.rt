@@ -74,7 +74,7 @@ fn open_new<'a, S: System>(
     apart: &Apart,
     name: &'a Text,
 ) -> Result<OutFile<'a, S::Stream>, NoAnswer>
-    requires { IsWrittenOf apart.now.files.items name.now }
+    requires { IsWrittenOf apart.now name.now }
     ensures opened { IfOk result (λ out.
         IsOpened S.Stream.contents is_new (Some name.entry.now) (Some out)) }
     ensures note { IfErr result (λ missed. IsRefused missed) }
@@ -97,7 +97,7 @@ fn open_held<'a, S: System>(
     name: &'a Text,
     syncs: bool,
 ) -> Result<OutFile<'a, S::Stream>, NoAnswer>
-    requires { IsWrittenOf apart.now.files.items name.now }
+    requires { IsWrittenOf apart.now name.now }
     ensures opened { IfOk result (λ out.
         IsOpened S.Stream.contents (S.holds system.now) (Some name.entry.now) (Some out)) }
     ensures note { IfErr result (λ missed. IsRefused missed) }
@@ -116,7 +116,7 @@ fn open_record<'a, S: System>(
     rack: &'a SharedRack,
     is_live: bool,
 ) -> Result<Option<OutFile<'a, S::Stream>>, NoAnswer>
-    requires { MayBeWritten apart.now.files.items (recorded_in rack.now) }
+    requires { MayBeWritten apart.now (recorded_in rack.now) }
     ensures named { IfOk result (λ out. name_of out ≡ recorded_in rack.entry.now) }
     ensures opened { IfOk result (IsOpened S.Stream.contents
         (begins_with (S.holds system.now) is_live) (recorded_in rack.entry.now)) }
@@ -139,7 +139,7 @@ fn open_image<'a, S: System>(
     apart: &Apart,
     name: &'a Option<Text>,
 ) -> Result<Option<OutFile<'a, S::Stream>>, NoAnswer>
-    requires { MayBeWritten apart.now.files.items name.now }
+    requires { MayBeWritten apart.now name.now }
     ensures named { IfOk result (λ out. name_of out ≡ name.entry.now) }
     ensures opened { IfOk result (IsOpened S.Stream.contents is_new name.entry.now) }
     ensures note { IfErr result (λ missed. IsRefused missed) }
@@ -159,8 +159,8 @@ fn open_both<'a, S: System>(
     rack: &'a SharedRack,
     is_live: bool,
 ) -> (Outputs<'a, S::Stream>, Result<(), NoAnswer>)
-    requires recorded { MayBeWritten apart.now.files.items (recorded_in rack.now) }
-    requires image { MayBeWritten apart.now.files.items rack.now.image_out }
+    requires recorded { MayBeWritten apart.now (recorded_in rack.now) }
+    requires image { MayBeWritten apart.now rack.now.image_out }
     ensures opened { AreOpened S.Stream.contents (begins_with (S.holds system.now) is_live)
         (recorded_in rack.entry.now) rack.entry.now.image_out result.0 }
     ensures named { OnOk result.1
@@ -191,7 +191,7 @@ fn open_outputs<'a, S: System>(
     apart: &Apart,
     job: &'a Job,
 ) -> (Outputs<'a, S::Stream>, Result<(), NoAnswer>)
-    requires { apart.now.files.items ≡ the_uses job.now }
+    requires { apart.now ≡ job.now }
     ensures opened { AreOpened S.Stream.contents
         (begins_with (S.holds system.now) (live job.entry.now)) (record_of job.entry.now)
         (output_of job.entry.now) result.0 }
@@ -200,10 +200,8 @@ fn open_outputs<'a, S: System>(
     ensures note { IfErr result.1 (λ missed. IsRefused missed) }
 {
     match job {
-        Job::Serve { rack, .. } => open_both(system, alloc, apart, rack, false),
-        Job::Host { rack, .. } => open_both(system, alloc, apart, rack, true),
-        Job::Talk { rack } => open_both(system, alloc, apart, rack, true),
-        _ => (Outputs::none(), Ok(())),
+        Job::Sessions { rack, job } => open_both(system, alloc, apart, rack, job.serves_live()),
+        Job::Texts(_) | Job::Ports(_) => (Outputs::none(), Ok(())),
     }
 }
 
@@ -219,6 +217,7 @@ pub fn open_apart<'a, S: System>(
         (output_of job.entry.now) result.0 }
     ensures named { OnOk result.1
         (AreNamed (record_of job.entry.now) (output_of job.entry.now) result.0) }
+    ensures job { IfOk result.1 (λ apart. apart ≡ job.entry.now) }
     ensures apart { OnOk result.1 (AreSeenApart (S.leads system.now) (the_uses job.entry.now)) }
     ensures note { IfErr result.1 (λ missed. IsRefused missed) }
 {

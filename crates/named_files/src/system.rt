@@ -11,11 +11,12 @@ use std::io;
 use std::io::Write;
 use std::sync::Wait;
 use std::thread::Threads;
+use std::time::Clock;
 
 /// What the program runs on.
-pub trait Runtime: AllocGlobal + Threads + Wait + Sync {}
+pub trait Runtime: AllocGlobal + Clock + Threads + Wait + Sync {}
 
-impl<R: AllocGlobal + Threads + Wait + Sync> Runtime for R {}
+impl<R: AllocGlobal + Clock + Threads + Wait + Sync> Runtime for R {}
 
 /// What the program asks of the system by name. It is shared, so no call changes what contracts see
 /// of it. A stream of a record or an image isn't `Drop`, and neither is its receipt: who is handed
@@ -46,7 +47,7 @@ pub trait System: Places + ClientFiles + Sync {
         name: &str,
         syncs: bool,
     ) -> io::Result<(Self::Stream, Vec<u8>)>
-        requires { IsWrittenOf apart.now.files.items name.now }
+        requires { IsWrittenOf apart.now name.now }
         ensures { IfOk result (λ opened. holds self.now name.now opened.1.items
             × (gone_to name.now (Self.Stream.contents opened.0) ≡ Some opened.1.items)) };
 
@@ -54,7 +55,7 @@ pub trait System: Places + ClientFiles + Sync {
     /// it was until then. A device or a pipe of this name is opened itself. The new file is none
     /// of the job's files, of which it was looked before that they are apart.
     fn open_new(&self, apart: &Apart, name: &str) -> io::Result<Self::Stream>
-        requires { IsWrittenOf apart.now.files.items name.now }
+        requires { IsWrittenOf apart.now name.now }
         ensures { IfOk result (λ stream.
             gone_to name.now (Self.Stream.contents stream) ≡ Some []) };
 

@@ -11,7 +11,7 @@ use Rattle.exchange.proofs.driving.answer_lines.Goals as goal
 pub returns-clause-told : goal.returns-clause-told
 returns-clause-told g c =
     let files = contents_in c.args.contents.now in
-    let source = source_in c.args.source.now (text_in files.other) in
+    let source = source_in c.args.source.now (text_in files.schedule) in
     let names = names_of c.args.names in
     let was = g.P.Ports.ways c.args.ports.now in
     let opens = g.P.Ports.ways c.answer_drive-end.new.ports in

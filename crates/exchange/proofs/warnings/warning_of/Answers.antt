@@ -3,11 +3,11 @@ use Rattle.exchange.proofs.Forewarned.{warning_by, wide_by}
 use Rattle.exchange.proofs.warnings.warning_of.Goals as goal
 
 pub returns-in-Plan : goal.returns-in-Plan
-returns-in-Plan c = rw c.in-Plan.is c.overlap_warning_of.ensures
+returns-in-Plan c = rw (c.requires.job, c.in-Plan.is) c.overlap_warning_of.ensures
 
 pub returns-in-Switch : goal.returns-in-Switch
-returns-in-Switch c = rw c.in-Switch.is c.overlap_warning_of-in-Switch.ensures
+returns-in-Switch c = rw (c.requires.job, c.in-Switch.is) c.overlap_warning_of-in-Switch.ensures
 
 pub returns-in-Draw : goal.returns-in-Draw
 returns-in-Draw c =
-    rw c.in-Draw.is (warning_by _ c.args.request.now c.wide_line.result (search rules) c.wide_line.ensures.whole (wide_by _ c.args.answer.now c.wide_line.result (rw c.in-Draw.is at c.requires) (rw c.text.ensures at c.wide_line.ensures.wide)))
+    rw (c.requires.job, c.in-Draw.is) (warning_by _ c.args.request.now c.wide_line.result (search rules) c.wide_line.ensures.whole (wide_by _ c.args.answer.now c.wide_line.result (rw c.in-Draw.is at c.requires.answer) (rw c.text.ensures at c.wide_line.ensures.wide)))

@@ -3,7 +3,7 @@ use Rattle.std.specs.Prelude.{IfSome}
 use Rattle.batch_book.specs.declared.entry.Entry.{Entry}
 use Rattle.batch_book.specs.History.{Account}
 use Rattle.book_record.specs.Streams.{IsWritten as IsStreamed}
-use Rattle.book_record.proofs.Crossing.{streamed_send}
+use Rattle.book_record.proofs.Crossing.{streamed_send, waiting_send}
 use Rattle.named_files.specs.Clients.{clients_by}
 use Rattle.kept_sessions.specs.Live.{IsHostOver, IsReady}
 use Rattle.kept_sessions.proofs.Lived.{entries_told, host_settled, same_account}
@@ -17,6 +17,11 @@ host_over-end-requires-clause-ready g c = λ lifetimes bounds.
 pub host_over-end-requires-send-K : goal.host_over-end-requires-send-K
 host_over-end-requires-send-K g c κs within =
     let s = streamed_send _ _ g.S.Stream.Write g.N.StreamName c.type_bounds.send-S-Stream c.type_bounds.send-N in
+    search sendable depth 20
+
+pub host_over-end-requires-send-K-Waiting : goal.host_over-end-requires-send-K-Waiting
+host_over-end-requires-send-K-Waiting g c κs within =
+    let s = waiting_send in
     search sendable depth 20
 
 pub returns-clause-over : goal.returns-clause-over

@@ -7,6 +7,7 @@ use Rattle.kept_sessions.specs.Records.{IsCutFromRecord}
 use Rattle.kept_sessions.specs.Answers.{loses, talking}
 use Rattle.kept_sessions.proofs.Lived.{talk_unasked, over_named}
 use Rattle.command_words.specs.Jobs.{recorded_in}
+use Rattle.client_session.proofs.Listening.{tells_nothing}
 use Rattle.kept_sessions.proofs.Served.{lived, talk_ending, unserved_lived}
 use Rattle.kept_sessions.proofs.sessions.talk.Goals as goal
 
@@ -14,6 +15,9 @@ pub returns-in-Err-clause-session : goal.returns-in-Err-clause-session
 returns-in-Err-clause-session g c =
     let old = g.I.Read.remaining c.args.input.now in
     ([], Appends-nil _, unserved_lived (g.S.System.holds c.args.system.now) g.S.System.received c.args.shared.now [] (contents_in c.args.contents.now).image (talking c.args.shared.now old old []) ([] ≡ []) c.in-Err.kept c.in-Err.ensures.unserved (λ p. (refl, refl)) refl)
+
+pub returns-in-Err-clause-beside : goal.returns-in-Err-clause-beside
+returns-in-Err-clause-beside g c = tells_nothing _
 
 pub returns-clause-session : goal.returns-clause-session
 returns-clause-session g c =

@@ -6,10 +6,10 @@ use Rattle.named_files.specs.Contents.{contents_in}
 use Rattle.exchange.specs.Responses.{IsJobCut, given_by}
 use Rattle.exchange.proofs.Comes.{always, err_finished, finish, none_of, refused_so, so_where_ok}
 use Rattle.exchange.proofs.Told.{beside_of, none_served}
-use Rattle.exchange.proofs.jobs.wait_for_sessions.Goals as goal
+use Rattle.exchange.proofs.jobs.answer_to.Goals as goal
 
-pub hold_sessions-end-requires-clause-named : goal.hold_sessions-end-requires-clause-named
-hold_sessions-end-requires-clause-named g c = λ lifetimes bounds.
+pub answer_read-end-requires-clause-named : goal.answer_read-end-requires-clause-named
+answer_read-end-requires-clause-named g c = λ lifetimes bounds.
     so_where_ok c.open_apart-outputs.result.1 _ c.in-Ok.ensures.opened c.open_apart-outputs.ensures.named
 
 pub returns-in-Err : goal.returns-in-Err
@@ -28,12 +28,12 @@ returns-in-Err g c =
 pub returns : goal.returns
 returns g c =
     let given = given_by (g.I.Read.remaining c.args.input.now) (g.P.Ports.ways c.args.peers.now.ports) (clients_by (g.S.ClientFiles.says c.args.system.now) (g.S.ClientFiles.had c.args.system.now)) in
-    let held = c.hold_sessions-end in
+    let held = c.answer_read-end in
     let files = contents_in c.in-Ok.read.1 in
     let rest = g.I.Read.remaining c.read_opened.new.input in
     record {
       response = finish held.result.end c.finished.result _ _ (g.S.System.holds c.args.system.now) g.S.System.received c.args.request.now.job files rest given (g.P.Ports.ways held.new.peers.ports) (ends_of held.new.peers.endings.items) held.result.receipts held.result.lost
-          c.finished.ensures.answer c.in-Ok.ensures.contents held.ensures.rest held.ensures.response;
+          c.finished.ensures.answer c.in-Ok.ensures.contents held.ensures.response;
       note = c.finished.ensures.note;
       beside = beside_of _ _ c.args.request.now _ _ (λ overlap. (files, rest, c.in-Ok.ensures.contents, overlap)) held.ensures.beside;
       apart = always c.finished.result _ (so_where_ok c.open_apart-outputs.result.1 _ c.in-Ok.ensures.opened c.open_apart-outputs.ensures.apart);

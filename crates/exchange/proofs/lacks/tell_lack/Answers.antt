@@ -1,6 +1,6 @@
 use Rattle.std.proofs.Common.{◌∷◌, [], inr, refl}
 use Rattle.std.specs.Prelude.{string_bytes}
-use Rattle.exchange.proofs.torn.tell_torn.Goals as goal
+use Rattle.exchange.proofs.lacks.tell_lack.Goals as goal
 
 pub returns-in-Some-lack_line : goal.returns-in-Some-lack_line
 returns-in-Some-lack_line g c =
