@@ -25,6 +25,7 @@ use std::marker::Brand;
 use std::rt::Files;
 use std::sync::{Mutex, Wait};
 use std::thread::Threads;
+use std::time::Clock;
 use std::{fs, io, thread};
 
 /// How many workers plan and run for each session: two.
@@ -81,7 +82,7 @@ fn read_between<L: ExchangeName, R: Eprint>(rt: &R, exchange: &Exchange<L>, seat
 }
 
 /// Serves the script of a seat to its end, and keeps what it was told, as far as there is memory.
-fn serve_script<L: ExchangeName, R: AllocGlobal + Eprint + Threads + Wait + Sync>(
+fn serve_script<L: ExchangeName, R: AllocGlobal + Clock + Eprint + Threads + Wait + Sync>(
     rt: &R,
     exchange: &Exchange<L>,
     seat: Seat<L>,
@@ -172,12 +173,10 @@ fn told_text(alloc: Global, all: &[Told], closing: &str) -> Option<Vec<u8>> {
 
 /// Serves the scripts side by side on a new exchange, each in a thread of its own where it can be
 /// had, and closes it.
-fn serve_all<L: ExchangeName + Send + Sync, R: AllocGlobal + Eprint + Threads + Wait + Sync>(
-    rt: &R,
-    blank: ExchangeBlank,
-    rack: Rack,
-    scripts: &[Vec<u8>],
-) -> Option<Vec<u8>>
+fn serve_all<
+    L: ExchangeName + Send + Sync,
+    R: AllocGlobal + Clock + Eprint + Threads + Wait + Sync,
+>(rt: &R, blank: ExchangeBlank, rack: Rack, scripts: &[Vec<u8>]) -> Option<Vec<u8>>
     requires { IsNamed L.name L.parts L.table L.opening L.earlier blank (new_account rack) }
 {
     let made = Exchange::<L>::new(rt.alloc(), blank, rack, plant_of(workers()), scripts.len());
@@ -211,7 +210,7 @@ fn read_all<R: AllocGlobal + Files>(rt: &R, files: &[String]) -> io::Result<Vec<
 
 /// What is told of scripts that are served side by side on an exchange with a rack of zeros of this
 /// shape, if they can be served.
-fn served_text<R: AllocGlobal + Eprint + Threads + Wait + Sync>(
+fn served_text<R: AllocGlobal + Clock + Eprint + Threads + Wait + Sync>(
     rt: &R,
     shape: &str,
     scripts: &[Vec<u8>],
@@ -229,7 +228,7 @@ fn print_text<R: Print>(rt: &R, text: Option<&[u8]>) -> io::Result<()> {
 
 /// Serves the scripts of 1 to 16 files side by side on an exchange with a rack of zeros, and prints
 /// what each session was told and whether the exchange is closed.
-pub fn serve_side_by_side<R: AllocGlobal + Eprint + Files + Print + Threads + Wait + Sync>(
+pub fn serve_side_by_side<R: AllocGlobal + Clock + Eprint + Files + Print + Threads + Wait + Sync>(
     rt: &R,
     shape: &str,
     files: &[String],

@@ -25,6 +25,7 @@ use crate::clients::serve_side_by_side;
 use std::rt::Files;
 use std::sync::Wait;
 use std::thread::Threads;
+use std::time::Clock;
 use std::{env, io};
 
 fn main(rt: HostRuntime) -> io::Result<()> {
@@ -33,7 +34,7 @@ fn main(rt: HostRuntime) -> io::Result<()> {
 }
 
 /// Does what the words of the command line want.
-fn answer<R: AllocGlobal + Eprint + Files + Print + Threads + Wait + Sync>(
+fn answer<R: AllocGlobal + Clock + Eprint + Files + Print + Threads + Wait + Sync>(
     rt: &R,
     words: &[String],
 ) -> io::Result<()> {

@@ -20,6 +20,7 @@ use std::io::ErrorKind;
 use std::marker::Brand;
 use std::sync::Wait;
 use std::thread::Threads;
+use std::time::Clock;
 
 /// Clients each of whom says what is here, and whose replies are kept.
 #[derive(Drop)]
@@ -63,7 +64,7 @@ impl<'a> ClientStreams for KnownStreams<'a> {
 }
 
 /// What is left of a host of such clients, over this book.
-fn host_known<K: History + Send, R: Threads + Wait + Sync>(
+fn host_known<K: History + Send, R: Clock + Threads + Wait + Sync>(
     rt: &R,
     alloc: Global,
     book: Book<K>,
@@ -111,7 +112,7 @@ fn is_answer(answer: &Answer, text: &str, status: u8) -> bool {
 
 /// Whether each of two clients is told its own replies, the answer has both, and the rack has what
 /// both wrote.
-fn are_hosted<R: Threads + Wait + Sync>(rt: &R, alloc: Global) -> bool {
+fn are_hosted<R: Clock + Threads + Wait + Sync>(rt: &R, alloc: Global) -> bool {
     let said: [&[u8]; 2] = [
         b"poke 0 80000800 000000aa\npeek 0 80000800\n",
         b"poke 0 80000804 000000bb\nbye\n",
@@ -168,7 +169,7 @@ const HEARD: &str = "word 00000000\nword 00000000\nbye\n";
 
 /// How the sessions of clients who say this end over a record one writing of which fails behind so
 /// many, the answer, and whether the record is whole then.
-fn host_recorded<R: Threads + Wait + Sync>(
+fn host_recorded<R: Clock + Threads + Wait + Sync>(
     rt: &R,
     alloc: Global,
     said: &[&[u8]],
@@ -190,7 +191,7 @@ fn host_recorded<R: Threads + Wait + Sync>(
 
 /// Whether each of three clients is told nothing, and each session ends since its calls couldn't be
 /// recorded, where the first writing of all fails.
-fn ends_all<R: Threads + Wait + Sync>(rt: &R, alloc: Global) -> bool {
+fn ends_all<R: Clock + Threads + Wait + Sync>(rt: &R, alloc: Global) -> bool {
     let text = "session 0 client\nended record\nsession 1 client\nended record\n\
         session 2 client\nended record\n";
     let Some((endings, answer, is_whole)) = host_recorded(rt, alloc, &SAID, 0) else {
@@ -222,7 +223,7 @@ fn are_told_whole(endings: &[Ending<Vec<u8>>], is_whole: bool) -> bool {
 
 /// Whether each of three clients is told all or nothing, and one is told all, where the second
 /// writing of all fails. One writing may have had the entries of all.
-fn tells_some<R: Threads + Wait + Sync>(rt: &R, alloc: Global) -> bool {
+fn tells_some<R: Clock + Threads + Wait + Sync>(rt: &R, alloc: Global) -> bool {
     match host_recorded(rt, alloc, &SAID, 1) {
         Some((endings, _, is_whole)) => are_told_whole(endings.as_slice(), is_whole),
         None => false,
@@ -238,7 +239,7 @@ fn what_a_writing_had_is_told_whole(rt: HostRuntime) {
 const LINES: [&[u8]; 16] = [b"peek 0 80000800\n"; 16];
 
 /// Whether each of many clients is told its word, where none writes behind the last.
-fn wakes_all<R: Threads + Wait + Sync>(rt: &R, alloc: Global) -> bool {
+fn wakes_all<R: Clock + Threads + Wait + Sync>(rt: &R, alloc: Global) -> bool {
     match host_recorded(rt, alloc, &LINES, usize::MAX) {
         Some((endings, _, is_whole)) => {
             let are_told = endings

@@ -5,6 +5,7 @@ use session_answers::{Served, answer_serve};
 use std::alloc::{AllocError, Global};
 use std::sync::Wait;
 use std::thread::Threads;
+use std::time::Clock;
 
 /// The image of a rack of three modules with two words each.
 const OPENING: [u8; 24] = [
@@ -18,7 +19,10 @@ const LEFT: [u8; 24] = [
 ];
 
 /// What three sessions on that rack leave, each of which writes one of these other words.
-fn write_three<R: Threads + Wait + Sync>(rt: &R, alloc: Global) -> Result<Served, AllocError> {
+fn write_three<R: Clock + Threads + Wait + Sync>(
+    rt: &R,
+    alloc: Global,
+) -> Result<Served, AllocError> {
     let first = Vec::from_slice(alloc, b"poke 0 80000804 aabbccdd\nbye\n")?;
     let second = Vec::from_slice(alloc, b"poke 1 80000800 12345678\nbye\n")?;
     let third = Vec::from_slice(alloc, b"poke 2 80000804 80000007\npeek 2 80000800\n")?;
@@ -35,7 +39,10 @@ fn write_three<R: Threads + Wait + Sync>(rt: &R, alloc: Global) -> Result<Served
 }
 
 /// Whether the rack that is left has the words of all three, and its first words elsewhere.
-fn has_all_words<R: Threads + Wait + Sync>(rt: &R, alloc: Global) -> Result<bool, AllocError> {
+fn has_all_words<R: Clock + Threads + Wait + Sync>(
+    rt: &R,
+    alloc: Global,
+) -> Result<bool, AllocError> {
     let Served { answer: _, book } = write_three(rt, alloc)?;
     match book {
         Some(book) => Ok(book.rack().image()?.as_slice() == LEFT.as_slice()),

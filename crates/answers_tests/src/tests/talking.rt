@@ -10,10 +10,11 @@ use std::io::Read;
 use std::marker::Brand;
 use std::sync::Wait;
 use std::thread::Threads;
+use std::time::Clock;
 
 /// Whether a session that says all this, over a record one writing of which fails behind so many,
 /// is told just that, and ends since its record broke.
-fn breaks_off<R: Threads + Wait + Sync, I: Read>(
+fn breaks_off<R: Clock + Threads + Wait + Sync, I: Read>(
     rt: &R,
     alloc: Global,
     said: &mut I,

@@ -1,6 +1,7 @@
 //! What the words of the command line say of workers and of schedules, which no row can show.
 
-use command_words::{Job, read_arguments};
+use command_words::{Job, PortJob, SessionJob, Text, TextJob, read_arguments};
+use exchange_limits::WorkerCount;
 use plan_answers::{Planning, Source};
 use std::alloc::{AllocError, Global};
 
@@ -21,60 +22,54 @@ fn push_words(alloc: Global, words: &mut Vec<String>, line: &str) -> Result<(), 
     Ok(())
 }
 
+/// What a source of a schedule says of it, where so many workers may plan.
+fn said_of(source: &Source<Text>, workers: WorkerCount) -> Said<'_> {
+    match source {
+        Source::Plan(Planning::Plain) => Said::Workers(workers.get()),
+        Source::Plan(Planning::Steady) => Said::Steady,
+        Source::Text(file) => Said::File(file.as_str()),
+    }
+}
+
 /// What a job says of how its schedule is made.
 fn said_by(job: &Job) -> Said<'_> {
     match job {
-        Job::Plan {
-            planning: Planning::Steady,
+        Job::Texts(
+            TextJob::Plan {
+                planning: Planning::Steady,
+                ..
+            },
+        ) => Said::Steady,
+        Job::Texts(
+            TextJob::Switch {
+                source,
+                workers,
+                ..
+            }
+            | TextJob::Orders {
+                source,
+                workers,
+                ..
+            }
+            | TextJob::Run {
+                source,
+                workers,
+                ..
+            },
+        )
+        | Job::Ports(
+            PortJob::Drive {
+                source,
+                workers,
+                ..
+            },
+        ) => said_of(source, *workers),
+        Job::Texts(TextJob::Plan { workers, .. } | TextJob::Apply { workers, .. })
+        | Job::Sessions {
+            job: SessionJob::Serve { workers, .. } | SessionJob::Host { workers, .. },
             ..
-        }
-        | Job::Switch {
-            source: Source::Plan(Planning::Steady),
-            ..
-        }
-        | Job::Orders {
-            source: Source::Plan(Planning::Steady),
-            ..
-        }
-        | Job::Drive {
-            source: Source::Plan(Planning::Steady),
-            ..
-        }
-        | Job::Run {
-            source: Source::Plan(Planning::Steady),
-            ..
-        } => Said::Steady,
-        Job::Switch {
-            source: Source::Text(file),
-            ..
-        }
-        | Job::Orders {
-            source: Source::Text(file),
-            ..
-        }
-        | Job::Drive {
-            source: Source::Text(file),
-            ..
-        }
-        | Job::Run {
-            source: Source::Text(file),
-            ..
-        } => Said::File(file.as_str()),
-        Job::Plan { workers, .. }
-        | Job::Switch { workers, .. }
-        | Job::Orders { workers, .. }
-        | Job::Drive { workers, .. }
-        | Job::Apply { workers, .. }
-        | Job::Run { workers, .. }
-        | Job::Serve { workers, .. }
-        | Job::Host { workers, .. } => Said::Workers(workers.get()),
-        Job::Check { .. }
-        | Job::Draw { .. }
-        | Job::Prices { .. }
-        | Job::C004
-        | Job::Direct { .. }
-        | Job::Talk { .. }
-        | Job::Replay { .. } => Said::Nothing,
+        } => Said::Workers(workers.get()),
+        _ => Said::Nothing,
     }
 }
 

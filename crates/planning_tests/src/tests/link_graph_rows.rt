@@ -98,20 +98,10 @@ fn faults_are_printed(rt: HostRuntime) {
     let clash = CheckFault::Clash(0, FIRST);
     assert!(rt; prints(alloc, &clash, "clash in setting 0 at link 0 module 0"));
     assert!(rt; prints(alloc, &CheckFault::WrongLink(2), "wrong link 2"));
-    assert!(rt;
-        prints(
-            alloc,
-            &CheckFault::CertificateRepeats(0),
-            "certificate repeats 0"
-        )
-    );
-    assert!(rt;
-        prints(
-            alloc,
-            &CheckFault::NotTight(3, 2),
-            "not tight: 3 settings, 2 named"
-        )
-    );
+    let repeats = CheckFault::CertificateRepeats(0);
+    assert!(rt; prints(alloc, &repeats, "certificate repeats 0"));
+    let loose = CheckFault::NotTight(3, 2);
+    assert!(rt; prints(alloc, &loose, "not tight: 3 settings, 2 named"));
     assert!(rt; prints(alloc, &CheckFault::NoMemory, "no memory"));
     assert!(rt; prints(alloc, &ScheduleFault::Line(3), "line 3"));
     assert!(rt; prints(alloc, &ScheduleFault::NoMemory, "no memory"));

@@ -18,6 +18,7 @@ use setting_runner::{Plant, RunRefusal};
 use std::alloc::Global;
 use std::sync::Wait;
 use std::thread::Threads;
+use std::time::Clock;
 
 /// The address of the first word of block 0.
 pub const FIRST: u32 = 0x8000_0800;
@@ -105,7 +106,7 @@ pub fn answer<
     W: WireMaker + Sync,
     G: Gate + Sync,
     H: History,
-    R: AllocGlobal + Threads + Wait + Sync,
+    R: AllocGlobal + Clock + Threads + Wait + Sync,
 >(rt: &R, shared: &Shared<L, P, W, G, H>, seat: &mut Seat<L>, ask: Ask) -> Said
     requires { seat.old.exchange ≡ Some shared.now.word }
     ensures { seat.new.exchange ≡ seat.old.exchange }
@@ -196,18 +197,26 @@ impl Calls {
 
 impl<L: ExchangeName, W: WireMaker + Sync, G: Gate + Sync> Pair<L, W, G> {
     /// What the first seat asks, and is answered.
-    pub fn ask<R: AllocGlobal + Threads + Wait + Sync>(&mut self, rt: &R, ask: Ask) -> Said {
+    pub fn ask<R: AllocGlobal + Clock + Threads + Wait + Sync>(
+        &mut self,
+        rt: &R,
+        ask: Ask,
+    ) -> Said {
         answer(rt, &self.shared, &mut self.first, ask)
     }
 
     /// What the second seat asks, and is answered.
-    pub fn ask_second<R: AllocGlobal + Threads + Wait + Sync>(&mut self, rt: &R, ask: Ask) -> Said {
+    pub fn ask_second<R: AllocGlobal + Clock + Threads + Wait + Sync>(
+        &mut self,
+        rt: &R,
+        ask: Ask,
+    ) -> Said {
         answer(rt, &self.shared, &mut self.second, ask)
     }
 
     /// The first of these rows in which the first seat is answered otherwise. Those behind it
     /// aren't asked.
-    pub fn first_wrong<R: AllocGlobal + Threads + Wait + Sync>(
+    pub fn first_wrong<R: AllocGlobal + Clock + Threads + Wait + Sync>(
         &mut self,
         rt: &R,
         rows: &[Row],
@@ -222,7 +231,7 @@ impl<L: ExchangeName, W: WireMaker + Sync, G: Gate + Sync> Pair<L, W, G> {
 
     /// How many of these calls are answered rightly, of which each has its number, from one to
     /// before another.
-    pub fn rightly<R: AllocGlobal + Threads + Wait + Sync>(
+    pub fn rightly<R: AllocGlobal + Clock + Threads + Wait + Sync>(
         &mut self,
         rt: &R,
         calls: Calls,

@@ -447,41 +447,40 @@ fn ports_answer_wrongly(rt: HostRuntime) {
     assert!(rt; wrong == rows.len(), "row {wrong}");
 }
 
-/// Row wide_rack. Where both switches disagree, A is told. The outputs of B are numbered behind
-/// those of A. In setting 1 of three-transfers A feeds output 2 by input 0 and no other, and B
-/// output 0 by input 2.
+/// What a port does in row wide_rack, and the output that is told. Where both switches disagree, A
+/// is told. The outputs of B are numbered behind those of A.
+const WIDE: [(Manner, u8); 5] = [
+    (Manner::Silent(2), 0),
+    (Manner::Silent(3), 32),
+    (Manner::SilentFrom(0), 0),
+    (Manner::Answers(3, 16, 0x00), 48),
+    (Manner::Answers(3, 31, 0x80), 63),
+];
+
+/// The same in setting 1 of three-transfers: A feeds output 2 by input 0 and no other, and B output
+/// 0 by input 2.
+const SECOND_WIDE: [(Manner, u8); 8] = [
+    (Manner::Answers(6, 2, 0x81), 2),
+    (Manner::Answers(6, 2, 0x00), 2),
+    (Manner::Answers(6, 1, 0x80), 1),
+    (Manner::Answers(7, 0, 0x81), 32),
+    (Manner::Answers(7, 0, 0x00), 32),
+    (Manner::Answers(7, 1, 0x82), 33),
+    (Manner::SilentFrom(6), 2),
+    (Manner::SilentFrom(7), 32),
+];
+
 #[test]
 fn wide_ports_answer_wrongly(rt: HostRuntime) {
     let unmoved: &[Block<'_>] = &[(0, 0, &[0]), (0, 1, &[0x0100])];
-    let rows = [
-        stop_at(ACROSS, unmoved, &ACROSS_SENT, Manner::Silent(2), 0),
-        stop_at(ACROSS, unmoved, &ACROSS_SENT, Manner::Silent(3), 32),
-        stop_at(ACROSS, unmoved, &ACROSS_SENT, Manner::SilentFrom(0), 0),
-        stop_at(
-            ACROSS,
-            unmoved,
-            &ACROSS_SENT,
-            Manner::Answers(3, 16, 0x00),
-            48,
-        ),
-        stop_at(
-            ACROSS,
-            unmoved,
-            &ACROSS_SENT,
-            Manner::Answers(3, 31, 0x80),
-            63,
-        ),
-        second_stop("17x2x1", Manner::Answers(6, 2, 0x81), 8, 2),
-        second_stop("17x2x1", Manner::Answers(6, 2, 0x00), 8, 2),
-        second_stop("17x2x1", Manner::Answers(6, 1, 0x80), 8, 1),
-        second_stop("17x2x1", Manner::Answers(7, 0, 0x81), 8, 32),
-        second_stop("17x2x1", Manner::Answers(7, 0, 0x00), 8, 32),
-        second_stop("17x2x1", Manner::Answers(7, 1, 0x82), 8, 33),
-        second_stop("17x2x1", Manner::SilentFrom(6), 8, 2),
-        second_stop("17x2x1", Manner::SilentFrom(7), 8, 32),
-    ];
-    let wrong = first_wrong(&rt, &rows);
-    assert!(rt; wrong == rows.len(), "row {wrong}");
+    for (manner, output) in WIDE {
+        let row = stop_at(ACROSS, unmoved, &ACROSS_SENT, manner, output);
+        assert!(rt; is_right(&rt, &row), "{output}");
+    }
+    for (manner, output) in SECOND_WIDE {
+        let row = second_stop("17x2x1", manner, 8, output);
+        assert!(rt; is_right(&rt, &row), "{output}");
+    }
 }
 
 /// Row failed-calls. A setting makes two calls, and four where there are two switches: all are set,

@@ -181,61 +181,89 @@ impl<'a> WireMaker for WatchedLines<'a> {
     }
 }
 
-/// A run of a batch of one setting by so many workers, what it leaves in block 1 of module 1 of a
-/// rack of 32 modules whose blocks have one word, and who arrives, each as often as it is listed.
-/// Where it is held, there is a worker for each transfer, and all wires wait for one another.
+/// A batch of one setting, how many transfers it has, and the word that it leaves in block 1 of
+/// module 1 of a rack of 32 modules whose blocks have one word.
 #[derive(Clone, Copy)]
-struct Row {
+struct Work {
     text: &'static str,
     transfers: usize,
-    workers: usize,
-    is_held: bool,
     word: u32,
-    arrivals: &'static [usize],
 }
+
+/// A run of a batch by so many workers, and who arrives, each as often as it stands there.
+type Row = (Work, usize, &'static [usize]);
 
 /// Whether a row's run goes to its end, and is seen as it says.
 fn is_seen<R: AllocGlobal + Threads + Sync>(
     rt: &R,
-    row: &Row,
+    work: Work,
     workers: WorkerCount,
     watch: &Watch,
+    arrivals: &[usize],
 ) -> bool {
-    let words = [row.word];
+    let words = [work.word];
     let case = Case {
         shape: "32x2x1",
-        text: row.text,
-        end: End::Completed(1, row.transfers),
+        text: work.text,
+        end: End::Completed(1, work.transfers),
         blocks: &[(1, 1, &words)],
     };
     let mut plant = with_gate(WatchedLines { watch }, WatchedGate { watch }, workers);
     let has_ended = ends_so(rt, &mut plant, &case, &AtomicUsize::new(0));
-    let has_seen = watch.has_seen(row.arrivals);
-    let is_timely = watch.is_timely(row.transfers);
+    let has_seen = watch.has_seen(arrivals);
+    let is_timely = watch.is_timely(work.transfers);
     has_ended && has_seen && is_timely
 }
 
-/// Whether that is so of a new watch.
-fn is_right<R: AllocGlobal + Threads + Sync>(rt: &R, row: &Row) -> bool {
-    let Some(workers) = WorkerCount::new(row.workers) else {
+/// Whether that is so of a new watch. Where a row is held, there is a worker for each transfer, and
+/// all wires wait for one another.
+fn is_right<R: AllocGlobal + Threads + Sync>(rt: &R, row: &Row, is_held: bool) -> bool {
+    let (work, workers, arrivals) = *row;
+    let Some(workers) = WorkerCount::new(workers) else {
         return false;
     };
-    let held = if row.is_held {
-        Some(row.transfers)
-    } else {
-        None
-    };
+    let held = if is_held { Some(work.transfers) } else { None };
     match Watch::new(rt.alloc(), held) {
-        Ok(watch) => is_seen(rt, row, workers, &watch),
+        Ok(watch) => is_seen(rt, work, workers, &watch, arrivals),
         Err(_) => false,
     }
 }
 
-/// Four transfers of one setting.
-const FOUR_PUSHES: &str = "batch 4\npush 0 0 1 1\npush 1 0 2 1\npush 2 0 3 1\npush 3 0 0 1\n";
+const ONE: Work = Work {
+    text: "batch 1\npush 0 0 1 1\n",
+    transfers: 1,
+    word: 0,
+};
 
-/// Two transfers of one setting.
-const TWO_TO_THREE: &str = "batch 2\npush 0 0 1 1\npush 1 0 2 1\n";
+const TWO: Work = Work {
+    text: "batch 2\npush 0 0 1 1\npush 1 0 2 1\n",
+    transfers: 2,
+    word: 0,
+};
+
+const THREE: Work = Work {
+    text: "batch 3\npush 0 0 1 1\npush 1 0 2 1\npush 2 0 3 1\n",
+    transfers: 3,
+    word: 0,
+};
+
+const FOUR: Work = Work {
+    text: "batch 4\npush 0 0 1 1\npush 1 0 2 1\npush 2 0 3 1\npush 3 0 0 1\n",
+    transfers: 4,
+    word: 0,
+};
+
+const ALL: Work = Work {
+    text: TURNED_ROUND,
+    transfers: 32,
+    word: 0x001e_0000,
+};
+
+const PUSHES: Work = Work {
+    text: TWO_PUSHES,
+    transfers: 2,
+    word: 0x0001_0100,
+};
 
 /// Each of 32 workers at the widest setting, at each of the five forks at which its part begins
 /// with it. On each level the parts begin with the workers of a line.
@@ -248,100 +276,46 @@ const EACH_OF_32: [usize; 62] = [
     17, 18, 19, 20, 21, 22, 23, 24, 25, 26, 27, 28, 29, 30, 31, 32, //
 ];
 
-/// A run of four transfers that isn't held.
-const FOUR: Row = Row {
-    text: FOUR_PUSHES,
-    transfers: 4,
-    workers: 1,
-    is_held: false,
-    word: 0,
-    arrivals: &[],
-};
-
-/// The same of two transfers.
-const TWO: Row = Row {
-    text: TWO_TO_THREE,
-    transfers: 2,
-    ..FOUR
-};
-
-/// The same of 32.
-const ALL: Row = Row {
-    text: TURNED_ROUND,
-    transfers: 32,
-    word: 0x001e_0000,
-    ..FOUR
-};
-
-/// A row with so many workers and these arrivals.
-fn by(row: Row, workers: usize, arrivals: &'static [usize]) -> Row {
-    Row {
-        workers,
-        arrivals,
-        ..row
-    }
-}
-
-/// A row that is held.
-fn held(row: Row) -> Row {
-    Row {
-        is_held: true,
-        ..row
-    }
-}
-
 /// Row arrivals.
+const ARRIVALS: [Row; 11] = [
+    // One worker doesn't fork. A half that is one worker doesn't. Of three and of five workers the
+    // first half has one more than the other.
+    (FOUR, 1, &[]),
+    (FOUR, 2, &[1, 2]),
+    (FOUR, 3, &[1, 1, 2, 3]),
+    (FOUR, 5, &[1, 1, 3, 4, 4, 5]),
+    // Workers beyond the transfers are halved like all others: of sixteen the second half begins
+    // with worker 9, of 64 with 33.
+    (FOUR, 16, &[1, 1, 5, 9, 9, 13]),
+    (TWO, 16, &[1, 9]),
+    (TWO, 64, &[1, 33]),
+    // One transfer is moved without a fork; of three, the first half has one.
+    (ONE, 4, &[]),
+    (THREE, 4, &[1, 3, 3, 4]),
+    // Two workers and eight, who have more than one transfer each.
+    (ALL, 2, &[1, 2]),
+    (ALL, 8, &[1, 1, 1, 2, 3, 3, 4, 5, 5, 5, 6, 7, 7, 8]),
+];
+
 #[test]
 fn workers_arrive(rt: HostRuntime) {
-    let one = Row {
-        text: "batch 1\npush 0 0 1 1\n",
-        transfers: 1,
-        ..FOUR
-    };
-    let three = Row {
-        text: "batch 3\npush 0 0 1 1\npush 1 0 2 1\npush 2 0 3 1\n",
-        transfers: 3,
-        ..FOUR
-    };
-    let rows = [
-        // One worker doesn't fork. A half that is one worker doesn't. Of three and of five workers
-        // the first half has one more than the other.
-        FOUR,
-        by(FOUR, 2, &[1, 2]),
-        by(FOUR, 3, &[1, 1, 2, 3]),
-        by(FOUR, 5, &[1, 1, 3, 4, 4, 5]),
-        // Workers beyond the transfers are halved like all others: of sixteen the second half
-        // begins with worker 9, of 64 with 33.
-        by(FOUR, 16, &[1, 1, 5, 9, 9, 13]),
-        by(TWO, 16, &[1, 9]),
-        by(TWO, 64, &[1, 33]),
-        // One transfer is moved without a fork; of three, the first half has one.
-        by(one, 4, &[]),
-        by(three, 4, &[1, 3, 3, 4]),
-        // Two workers and eight, who have more than one transfer each.
-        by(ALL, 2, &[1, 2]),
-        by(ALL, 8, &[1, 1, 1, 2, 3, 3, 4, 5, 5, 5, 6, 7, 7, 8]),
-    ];
-    for (number, row) in rows.iter().enumerate() {
-        assert!(rt; is_right(&rt, row), "row {number}");
+    for (number, row) in ARRIVALS.iter().enumerate() {
+        assert!(rt; is_right(&rt, row, false), "row {number}");
     }
 }
 
-/// As many workers as transfers, whose wires wait for one another, and are made when their workers
-/// have arrived. Four workers fork twice: 1 and 2 from 3 and 4, and then each from the other.
+/// As many workers as transfers. Four fork twice: 1 and 2 from 3 and 4, and then each from the
+/// other.
+const HELD: [Row; 3] = [
+    (PUSHES, 2, &[1, 2]),
+    (FOUR, 4, &[1, 1, 2, 3, 3, 4]),
+    (ALL, 32, &EACH_OF_32),
+];
+
+/// The wires wait for one another, and are made when their workers have arrived.
 #[test]
 fn all_wires_are_held(rt: HostRuntime) {
-    let pushes = Row {
-        text: TWO_PUSHES,
-        word: 0x0001_0100,
-        ..TWO
-    };
-    let rows = [
-        by(pushes, 2, &[1, 2]),
-        by(FOUR, 4, &[1, 1, 2, 3, 3, 4]),
-        by(ALL, 32, &EACH_OF_32),
-    ];
-    for (number, row) in rows.iter().enumerate() {
-        assert!(rt; is_right(&rt, &held(*row)), "row {number}");
+    for (number, row) in HELD.iter().enumerate() {
+        assert!(rt; is_right(&rt, row, true), "row {number}");
     }
 }

@@ -98,13 +98,8 @@ fn faults_are_printed(rt: HostRuntime) {
     let alloc = rt.alloc();
     let unknown = CommandFault::UnknownCommand(7);
     assert!(rt; prints(alloc, unknown, "no command begins with the byte 7"));
-    assert!(rt;
-        prints(
-            alloc,
-            CommandFault::BadPort(32),
-            "no port has the number 32"
-        )
-    );
+    let port = CommandFault::BadPort(32);
+    assert!(rt; prints(alloc, port, "no port has the number 32"));
     let text = "the answer names an input that the switch doesn't have";
     assert!(rt; prints(alloc, AnswerFormat::BadAnswer, text));
 }

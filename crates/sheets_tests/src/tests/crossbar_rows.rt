@@ -1,5 +1,5 @@
 //! The worked rows of the switch and of two, and a printed fault. What ports carry out, and fuses,
-//! are tested in `rack_tests`.
+//! are tested in `runs_tests`.
 
 use super::prints::prints;
 use c004_commands::{CommandFault, CommandReader, PortNo};

@@ -111,11 +111,6 @@ fn printed_faults(rt: HostRuntime) {
     let read = EndFault::Read(Error::from(ErrorKind::IsADirectory));
     assert!(rt; is_printed(rt.alloc(), &read, "the input can't be read: is a directory"));
     let write = EndFault::Write(Error::from(ErrorKind::BrokenPipe));
-    assert!(rt;
-        is_printed(
-            rt.alloc(),
-            &write,
-            "an answer can't be written: broken pipe"
-        )
-    );
+    let text = "an answer can't be written: broken pipe";
+    assert!(rt; is_printed(rt.alloc(), &write, text));
 }

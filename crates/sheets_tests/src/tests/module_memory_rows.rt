@@ -39,14 +39,8 @@ fn held_places_are_refused(rt: HostRuntime) {
     assert!(rt; is_refused(alloc, &[], &far, LendFault::NoHeld(0)));
     assert!(rt; is_refused(alloc, &[place(1, 0)], &far, LendFault::NoHeld(0)));
     assert!(rt; is_refused(alloc, &[place(2, 0)], &far, LendFault::NoPlace(0)));
-    assert!(rt;
-        is_refused(
-            alloc,
-            &twice,
-            &[place(1, 0), place(0, 1)],
-            LendFault::NoHeld(1)
-        )
-    );
+    let held = [place(1, 0), place(0, 1)];
+    assert!(rt; is_refused(alloc, &twice, &held, LendFault::NoHeld(1)));
 }
 
 #[test]

@@ -1,5 +1,5 @@
 //! The worked rows of messages, named sizes and printed faults. What goes over wires is tested in
-//! `rack_tests`.
+//! `runs_tests`.
 
 use super::prints::prints;
 use super::racks::{marked_rack, place};
@@ -137,13 +137,8 @@ fn answer_faults_are_printed(alloc: Global) -> bool {
 fn faults_are_printed(rt: HostRuntime) {
     let alloc = rt.alloc();
     assert!(rt; answer_faults_are_printed(alloc));
-    assert!(rt;
-        prints(
-            alloc,
-            StoreFault::Outside,
-            "the address is outside the store"
-        )
-    );
+    let text = "the address is outside the store";
+    assert!(rt; prints(alloc, StoreFault::Outside, text));
     assert!(rt; prints(alloc, WireFault, "the wire failed"));
 }
 

@@ -15,6 +15,7 @@ use std::marker::Brand;
 use std::sync::Wait;
 use std::thread;
 use std::thread::Threads;
+use std::time::Clock;
 
 /// How many sessions there are.
 const SESSIONS: usize = 4;
@@ -26,7 +27,7 @@ const PEEKS: usize = 100;
 type Plain<L> = Shared<L, MemoryPort, PlainWires, OpenGate>;
 
 /// One session at its work, which then gives its seat back.
-fn session<L: ExchangeName, R: AllocGlobal + Threads + Wait + Sync>(
+fn session<L: ExchangeName, R: AllocGlobal + Clock + Threads + Wait + Sync>(
     rt: &R,
     shared: &Plain<L>,
     seat: Seat<L>,
@@ -42,7 +43,7 @@ fn session<L: ExchangeName, R: AllocGlobal + Threads + Wait + Sync>(
 }
 
 /// The sessions at once, and how many entries they leave. Nothing where the exchange didn't close.
-fn day<L: ExchangeName + Send + Sync, R: AllocGlobal + Threads + Wait + Sync>(
+fn day<L: ExchangeName + Send + Sync, R: AllocGlobal + Clock + Threads + Wait + Sync>(
     rt: &R,
     blank: ExchangeBlank,
     rack: Rack,
@@ -68,7 +69,7 @@ fn day<L: ExchangeName + Send + Sync, R: AllocGlobal + Threads + Wait + Sync>(
 }
 
 /// How many entries they leave on a marked rack.
-fn entries<R: AllocGlobal + Threads + Wait + Sync>(rt: &R) -> Option<usize> {
+fn entries<R: AllocGlobal + Clock + Threads + Wait + Sync>(rt: &R) -> Option<usize> {
     match marked(rt.alloc(), "2x1x1") {
         Some(rack) => match ExchangeBlank::new(rt.alloc()) {
             Ok(blank) => day::<Brand, R>(rt, blank, rack),

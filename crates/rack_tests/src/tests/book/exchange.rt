@@ -20,6 +20,7 @@ use std::alloc::Global;
 use std::marker::Brand;
 use std::sync::Wait;
 use std::thread::Threads;
+use std::time::Clock;
 
 /// An exchange of the tests, with two seats.
 type Two<L> = Pair<L, PlainWires, OpenGate>;
@@ -102,7 +103,7 @@ fn is_full(closed: Closed<MemoryPort, PlainWires, OpenGate>) -> bool {
 }
 
 /// Whether so many peeks are answered, and then a poke isn't, since the history is full.
-fn fills<L: ExchangeName, R: AllocGlobal + Threads + Wait + Sync>(
+fn fills<L: ExchangeName, R: AllocGlobal + Clock + Threads + Wait + Sync>(
     rt: &R,
     pair: Two<L>,
     peeks: usize,
@@ -124,7 +125,7 @@ fn fills<L: ExchangeName, R: AllocGlobal + Threads + Wait + Sync>(
 
 /// Whether the batch of [`PUSH`] is accepted under each number from 2 to 256, and then the book is
 /// full.
-fn fills_book<L: ExchangeName, R: AllocGlobal + Threads + Wait + Sync>(
+fn fills_book<L: ExchangeName, R: AllocGlobal + Clock + Threads + Wait + Sync>(
     rt: &R,
     pair: &mut Two<L>,
 ) -> bool {
@@ -135,7 +136,7 @@ fn fills_book<L: ExchangeName, R: AllocGlobal + Threads + Wait + Sync>(
 
 /// Whether that is so behind the first rows, which leaves 259 entries, so that 65,277 more peeks
 /// fill the history.
-fn meets_limits<L: ExchangeName, R: AllocGlobal + Threads + Wait + Sync>(
+fn meets_limits<L: ExchangeName, R: AllocGlobal + Clock + Threads + Wait + Sync>(
     rt: &R,
     pair: Two<L>,
 ) -> bool
@@ -179,7 +180,10 @@ fn close_without_second<L: ExchangeName>(alloc: Global, pair: Two<L>) -> Option<
 
 /// Whether an exchange isn't closed without its second seat, which is answered then, and is closed
 /// with both.
-fn goes_on<L: ExchangeName, R: AllocGlobal + Threads + Wait + Sync>(rt: &R, pair: Two<L>) -> bool
+fn goes_on<L: ExchangeName, R: AllocGlobal + Clock + Threads + Wait + Sync>(
+    rt: &R,
+    pair: Two<L>,
+) -> bool
     requires { L.parts ≡ ALL_PARTS }
 {
     let Some(mut pair) = close_without_second(rt.alloc(), pair) else {
@@ -225,7 +229,7 @@ fn open_behind_refusals<L: ExchangeName>(
 }
 
 /// Whether a case is so of a new exchange.
-fn holds<L: ExchangeName, R: AllocGlobal + Threads + Wait + Sync>(
+fn holds<L: ExchangeName, R: AllocGlobal + Clock + Threads + Wait + Sync>(
     rt: &R,
     blank: ExchangeBlank,
     rack: Rack,
@@ -245,7 +249,7 @@ fn holds<L: ExchangeName, R: AllocGlobal + Threads + Wait + Sync>(
 }
 
 /// Whether a case is so of an exchange on a marked rack of two modules of one word.
-fn holds_of<R: AllocGlobal + Threads + Wait + Sync>(rt: &R, case: Case<'_>) -> bool {
+fn holds_of<R: AllocGlobal + Clock + Threads + Wait + Sync>(rt: &R, case: Case<'_>) -> bool {
     match marked(rt.alloc(), "2x1x1") {
         Some(rack) => match ExchangeBlank::new(rt.alloc()) {
             Ok(blank) => holds::<Brand, R>(rt, blank, rack, case),

@@ -15,6 +15,7 @@ use std::marker::Brand;
 use std::sync::Wait;
 use std::sync::atomic::{AtomicBool, Ordering};
 use std::thread::{Threads, join, yield_now};
+use std::time::Clock;
 
 /// A run of a batch, of which this transfer waits until the other thread has read this, and what is
 /// read behind the run.
@@ -131,7 +132,7 @@ fn run_one<
     P: ConfigPort,
     W: WireMaker + Sync,
     G: Gate + Sync,
-    R: AllocGlobal + Threads + Wait + Sync,
+    R: AllocGlobal + Clock + Threads + Wait + Sync,
 >(rt: &R, shared: &Shared<L, P, W, G>, seat: Seat<L>, text: &'static str) -> (bool, Reading)
     requires { seat.exchange ≡ Some shared.now.word }
 {
@@ -147,7 +148,7 @@ fn run_one<
 fn run_and_look<
     L: ExchangeName + Send + Sync,
     W: WireMaker + Send + Sync + Drop,
-    R: AllocGlobal + Threads + Wait + Sync,
+    R: AllocGlobal + Clock + Threads + Wait + Sync,
 >(rt: &R, pair: Pair<L, W, OpenGate>, hold: &Hold, run: Watched) -> (bool, Reading) {
     let Pair {
         shared,
@@ -169,7 +170,7 @@ fn run_and_look<
 
 /// Whether a run on this rack, of which a transfer waits for a reading, comes to its end, and is
 /// read then.
-fn is_read<L: ExchangeName + Send + Sync, R: AllocGlobal + Threads + Wait + Sync>(
+fn is_read<L: ExchangeName + Send + Sync, R: AllocGlobal + Clock + Threads + Wait + Sync>(
     rt: &R,
     blank: ExchangeBlank,
     rack: Rack,
@@ -192,7 +193,7 @@ fn is_read<L: ExchangeName + Send + Sync, R: AllocGlobal + Threads + Wait + Sync
 }
 
 /// The same on a marked rack of three modules.
-fn is_read_of<R: AllocGlobal + Threads + Wait + Sync>(rt: &R, run: Watched) -> bool {
+fn is_read_of<R: AllocGlobal + Clock + Threads + Wait + Sync>(rt: &R, run: Watched) -> bool {
     match marked(rt.alloc(), "3x1x1") {
         Some(rack) => match ExchangeBlank::new(rt.alloc()) {
             Ok(blank) => is_read::<Brand, R>(rt, blank, rack, run),

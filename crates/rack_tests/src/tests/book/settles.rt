@@ -19,6 +19,7 @@ use std::marker::Brand;
 use std::sync::Wait;
 use std::sync::atomic::{AtomicUsize, Ordering};
 use std::thread::{Threads, join, yield_now};
+use std::time::Clock;
 
 /// A writer that counts how often it is given something, and takes it, but for one time. Another
 /// time it waits first.
@@ -227,7 +228,7 @@ fn goes_well<
     L: ExchangeName,
     W: WireMaker + Sync,
     H: History,
-    R: AllocGlobal + Threads + Wait + Sync,
+    R: AllocGlobal + Clock + Threads + Wait + Sync,
 >(rt: &R, shared: &Exchange<L, W, H>, seat: &mut Seat<L>, step: Step) -> bool
     requires { seat.old.exchange ≡ Some shared.now.word }
     ensures { seat.new.exchange ≡ seat.old.exchange }
@@ -240,7 +241,7 @@ fn goes_well<
 
 impl<L: ExchangeName, W: WireMaker + Sync, H: History> Two<L, W, H> {
     /// Whether all steps of a row go as it says.
-    fn go_so<R: AllocGlobal + Threads + Wait + Sync>(
+    fn go_so<R: AllocGlobal + Clock + Threads + Wait + Sync>(
         &mut self,
         rt: &R,
         row: &Row,
@@ -265,7 +266,7 @@ fn is_so<
     L: ExchangeName,
     W: WireMaker + Sync + Drop,
     H: History + Drop,
-    R: AllocGlobal + Threads + Wait + Sync,
+    R: AllocGlobal + Clock + Threads + Wait + Sync,
 >(rt: &R, two: Two<L, W, H>, row: &Row, writes: &AtomicUsize) -> bool
 where
     H::Recorder: Drop,
@@ -280,11 +281,12 @@ where
 }
 
 /// Whether the seat's batch is run, and the seat is settled then.
-fn is_run<L: ExchangeName, W: WireMaker + Sync, H: History, R: AllocGlobal + Threads + Wait + Sync>(
-    rt: &R,
-    shared: &Exchange<L, W, H>,
-    seat: Seat<L>,
-) -> bool
+fn is_run<
+    L: ExchangeName,
+    W: WireMaker + Sync,
+    H: History,
+    R: AllocGlobal + Clock + Threads + Wait + Sync,
+>(rt: &R, shared: &Exchange<L, W, H>, seat: Seat<L>) -> bool
     requires { seat.exchange ≡ Some shared.now.word }
 {
     let mut seat = seat;
@@ -298,7 +300,7 @@ fn prepare<
     L: ExchangeName,
     W: WireMaker + Sync,
     H: History,
-    R: AllocGlobal + Threads + Wait + Sync,
+    R: AllocGlobal + Clock + Threads + Wait + Sync,
 >(rt: &R, shared: &Exchange<L, W, H>, seat: &mut Seat<L>, held: Held)
     requires { seat.old.exchange ≡ Some shared.now.word }
     ensures { seat.new.exchange ≡ seat.old.exchange }
@@ -321,7 +323,7 @@ fn is_done<
     L: ExchangeName,
     W: WireMaker + Sync,
     H: History,
-    R: AllocGlobal + Threads + Wait + Sync,
+    R: AllocGlobal + Clock + Threads + Wait + Sync,
 >(rt: &R, shared: &Exchange<L, W, H>, seat: Seat<L>, held: Held) -> bool
     requires { seat.exchange ≡ Some shared.now.word }
 {
@@ -351,7 +353,7 @@ fn is_held<L: ExchangeName, W: WireMaker + Sync, H: History>(
 }
 
 /// Whether a call comes back while the other seat writes.
-fn is_answered<L: ExchangeName, W: WireMaker + Sync, H: History, R: Threads + Wait + Sync>(
+fn is_answered<L: ExchangeName, W: WireMaker + Sync, H: History, R: Clock + Threads + Wait + Sync>(
     rt: &R,
     shared: &Exchange<L, W, H>,
     seat: &mut Seat<L>,
@@ -367,7 +369,12 @@ fn is_answered<L: ExchangeName, W: WireMaker + Sync, H: History, R: Threads + Wa
 }
 
 /// Whether a seat is settled once the other one is held. Then that one goes on.
-fn is_settled_then<L: ExchangeName, W: WireMaker + Sync, H: History, R: Threads + Wait + Sync>(
+fn is_settled_then<
+    L: ExchangeName,
+    W: WireMaker + Sync,
+    H: History,
+    R: Clock + Threads + Wait + Sync,
+>(
     rt: &R,
     shared: &Exchange<L, W, H>,
     seat: Seat<L>,
@@ -398,7 +405,7 @@ fn is_settled_beside<
     L: ExchangeName + Send + Sync,
     W: WireMaker + Send + Sync + Drop,
     H: History + Send + Drop,
-    R: AllocGlobal + Threads + Wait + Sync,
+    R: AllocGlobal + Clock + Threads + Wait + Sync,
 >(rt: &R, two: Two<L, W, H>, held: Held, hold: &Hold, writes: &AtomicUsize) -> bool
 where
     H::Recorder: Drop,
@@ -427,7 +434,7 @@ where
 }
 
 /// Whether a case is so of a new exchange over this book.
-fn holds<L: ExchangeName + Send + Sync, R: AllocGlobal + Threads + Wait + Sync>(
+fn holds<L: ExchangeName + Send + Sync, R: AllocGlobal + Clock + Threads + Wait + Sync>(
     rt: &R,
     blank: ExchangeBlank,
     book: Book<Streamed<Counted<'_>, Brand>>,
@@ -456,7 +463,7 @@ fn holds<L: ExchangeName + Send + Sync, R: AllocGlobal + Threads + Wait + Sync>(
 
 /// Whether a case is so on a marked rack of two modules of one word, whose first word is 0, where
 /// the writer fails behind so many times.
-fn holds_of<R: AllocGlobal + Threads + Wait + Sync>(
+fn holds_of<R: AllocGlobal + Clock + Threads + Wait + Sync>(
     rt: &R,
     case: Case,
     fails_behind: Option<usize>,

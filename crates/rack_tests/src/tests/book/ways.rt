@@ -15,6 +15,7 @@ use setting_runner::Plant;
 use std::marker::Brand;
 use std::sync::Wait;
 use std::thread::Threads;
+use std::time::Clock;
 
 /// Row two-pushes.
 const ROWS: [Row; 3] = [
@@ -31,7 +32,7 @@ fn has_two(plant: Plant<MemoryPort, PlainWires, Meeting>) -> bool {
 }
 
 /// Whether an exchange runs the row by two workers, and gives the plant back with as many.
-fn runs_by_two<L: ExchangeName, R: AllocGlobal + Threads + Wait + Sync>(
+fn runs_by_two<L: ExchangeName, R: AllocGlobal + Clock + Threads + Wait + Sync>(
     rt: &R,
     blank: ExchangeBlank,
     rack: Rack,
@@ -58,7 +59,7 @@ fn runs_by_two<L: ExchangeName, R: AllocGlobal + Threads + Wait + Sync>(
 }
 
 /// The same on the row's rack.
-fn runs_by_two_of<R: AllocGlobal + Threads + Wait + Sync>(rt: &R) -> bool {
+fn runs_by_two_of<R: AllocGlobal + Clock + Threads + Wait + Sync>(rt: &R) -> bool {
     match marked(rt.alloc(), "3x2x2") {
         Some(rack) => match ExchangeBlank::new(rt.alloc()) {
             Ok(blank) => runs_by_two::<Brand, R>(rt, blank, rack),

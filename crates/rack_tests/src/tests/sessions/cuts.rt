@@ -20,6 +20,7 @@ use std::alloc::{AllocError, Global};
 use std::marker::Brand;
 use std::sync::Wait;
 use std::thread::Threads;
+use std::time::Clock;
 
 /// What the session reads: it runs the row, and then looks at what is left.
 const SCRIPT: &str = "\
@@ -107,7 +108,7 @@ type Faulty<L> = Shared<L, FaultyPort, FuseWires, OpenGate>;
 
 /// Serves the session from a seat, which comes back. Whether it ends by itself, and is told what it
 /// should be.
-fn session<L: ExchangeName, R: AllocGlobal + Threads + Wait + Sync>(
+fn session<L: ExchangeName, R: AllocGlobal + Clock + Threads + Wait + Sync>(
     rt: &R,
     exchange: &Faulty<L>,
     seat: Seat<L>,
@@ -145,7 +146,7 @@ fn is_left(closed: Closed<FaultyPort, FuseWires, OpenGate>, fault: Fault) -> boo
 
 /// Whether the session is told what it should be from the one seat of an exchange, which is left as
 /// it should be.
-fn is_right<L: ExchangeName, R: AllocGlobal + Threads + Wait + Sync>(
+fn is_right<L: ExchangeName, R: AllocGlobal + Clock + Threads + Wait + Sync>(
     rt: &R,
     exchange: Faulty<L>,
     seat: Seat<L>,
@@ -169,7 +170,7 @@ fn is_right<L: ExchangeName, R: AllocGlobal + Threads + Wait + Sync>(
 }
 
 /// The same of a new exchange with this rack.
-fn is_served<L: ExchangeName, R: AllocGlobal + Threads + Wait + Sync>(
+fn is_served<L: ExchangeName, R: AllocGlobal + Clock + Threads + Wait + Sync>(
     rt: &R,
     blank: ExchangeBlank,
     rack: Rack,
@@ -188,7 +189,7 @@ fn is_served<L: ExchangeName, R: AllocGlobal + Threads + Wait + Sync>(
 }
 
 /// Whether the session is told what it should be, where this fails or lies.
-fn runs_to<R: AllocGlobal + Threads + Wait + Sync>(
+fn runs_to<R: AllocGlobal + Clock + Threads + Wait + Sync>(
     rt: &R,
     fault: Fault,
     workers: WorkerCount,
@@ -206,7 +207,7 @@ fn runs_to<R: AllocGlobal + Threads + Wait + Sync>(
 const ANSWERS: [u8; 8] = [0x00, 0x7f, 0x80, 0x81, 0x91, 0x92, 0xa1, 0xff];
 
 /// Whether it is, by one worker and by two. Of answers some are tried, by one.
-fn is_right_for<R: AllocGlobal + Threads + Wait + Sync>(rt: &R, fault: Fault) -> bool {
+fn is_right_for<R: AllocGlobal + Clock + Threads + Wait + Sync>(rt: &R, fault: Fault) -> bool {
     match fault {
         Fault::Answer(_, _, reply) if !ANSWERS.contains(&reply) => true,
         Fault::Answer(_, _, _) => runs_to(rt, fault, WorkerCount::ONE),
@@ -219,7 +220,7 @@ fn is_right_for<R: AllocGlobal + Threads + Wait + Sync>(rt: &R, fault: Fault) ->
 }
 
 /// The number of the first fault for which it isn't, or how many there are.
-fn first_wrong<R: AllocGlobal + Threads + Wait + Sync>(rt: &R) -> usize {
+fn first_wrong<R: AllocGlobal + Clock + Threads + Wait + Sync>(rt: &R) -> usize {
     let count = count_of_faults(false);
     for number in 0..count {
         if !is_right_for(rt, fault_of(number)) {

@@ -21,6 +21,7 @@ use std::sync::Wait;
 use std::sync::atomic::{AtomicBool, AtomicUsize, Ordering};
 use std::test::Fail;
 use std::thread::Threads;
+use std::time::Clock;
 
 /// What comes to pass in a session.
 #[derive(Clone, Copy, PartialEq, Eq)]
@@ -187,7 +188,7 @@ type Exchange<L, H> = Shared<L, MemoryPort, PlainWires, OpenGate, H>;
 
 /// Whether the client of a row hears what it is to hear, at a new exchange over this book, and its
 /// session ends so.
-fn hears<'a, L: ExchangeName, H: History + Drop, R: AllocGlobal + Threads + Wait + Sync>(
+fn hears<'a, L: ExchangeName, H: History + Drop, R: AllocGlobal + Clock + Threads + Wait + Sync>(
     rt: &R,
     blank: ExchangeBlank,
     book: Book<H>,
@@ -234,7 +235,7 @@ where
 }
 
 /// Whether a row is so on a rack of two modules of one word.
-fn is_so<R: AllocGlobal + Threads + Wait + Sync>(rt: &R, row: &Row<'_>) -> bool {
+fn is_so<R: AllocGlobal + Clock + Threads + Wait + Sync>(rt: &R, row: &Row<'_>) -> bool {
     let Some(rack) = zeros(rt.alloc(), "2x1x1") else {
         return false;
     };

@@ -5,11 +5,12 @@ use super::streams::{ALL, AT_ONCE, Script};
 use client_session::ServeFault;
 use std::sync::Wait;
 use std::thread::Threads;
+use std::time::Clock;
 
 /// Whether a client who says this and hears that has each reply flushed before a line is read
 /// behind it, by a writer that takes so many bytes a call. The list says how many replies were
 /// flushed at each `read`, of which each gives a line.
-fn is_flushed_first<R: AllocGlobal + Threads + Wait + Sync>(
+fn is_flushed_first<R: AllocGlobal + Clock + Threads + Wait + Sync>(
     rt: &R,
     script: Script,
     flushed: &'static [usize],
@@ -84,7 +85,7 @@ fn the_reply_to_bye_is_flushed(rt: HostRuntime) {
 
 /// Whether a client is served so on the smallest rack, and another behind it from the seat that
 /// came back.
-fn are_served_from_one_seat<R: AllocGlobal + Threads + Wait + Sync>(
+fn are_served_from_one_seat<R: AllocGlobal + Clock + Threads + Wait + Sync>(
     rt: &R,
     one: Script,
     other: Script,
@@ -118,7 +119,7 @@ fn a_reader_without_end_is_asked_a_million_times(rt: HostRuntime) {
 
 /// Whether a session that hands in an empty batch and ends so is followed by another from the seat
 /// that came back, which has that batch.
-fn goes_on_behind<R: AllocGlobal + Threads + Wait + Sync>(rt: &R, script: Script) -> bool {
+fn goes_on_behind<R: AllocGlobal + Clock + Threads + Wait + Sync>(rt: &R, script: Script) -> bool {
     let show = Script::of("show 1\n", "batch 1 transfers 0 waiting\n", 1);
     are_served_from_one_seat(rt, script, show)
 }

@@ -20,6 +20,7 @@ use std::sync::Wait;
 use std::sync::atomic::{AtomicBool, AtomicUsize, Ordering};
 use std::test::Fail;
 use std::thread::{Threads, yield_now};
+use std::time::Clock;
 
 /// How often the batch is planned. The first time settles it, and each later one is refused behind
 /// its planning.
@@ -166,7 +167,7 @@ fn unheard<I>(reader: I) -> Saying<I> {
 }
 
 /// Whether a client was answered while the other planned.
-fn is_outside<L: ExchangeName + Send + Sync, R: AllocGlobal + Threads + Wait + Sync>(
+fn is_outside<L: ExchangeName + Send + Sync, R: AllocGlobal + Clock + Threads + Wait + Sync>(
     rt: &R,
     blank: ExchangeBlank,
     rack: Rack,
@@ -187,7 +188,7 @@ fn is_outside<L: ExchangeName + Send + Sync, R: AllocGlobal + Threads + Wait + S
 }
 
 /// Whether a client on a rack of two modules is answered while another plans this batch.
-fn is_outside_of<R: AllocGlobal + Threads + Wait + Sync>(rt: &R, text: &[u8]) -> bool {
+fn is_outside_of<R: AllocGlobal + Clock + Threads + Wait + Sync>(rt: &R, text: &[u8]) -> bool {
     let Some(rack) = zeros(rt.alloc(), "2x1x1") else {
         return false;
     };

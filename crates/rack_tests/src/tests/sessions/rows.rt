@@ -7,9 +7,10 @@ use super::streams::Script;
 use peek_poke::FuseWires;
 use std::sync::Wait;
 use std::thread::Threads;
+use std::time::Clock;
 
 /// Whether two clients are served so, one after the other from two seats.
-fn are_served<R: AllocGlobal + Threads + Wait + Sync>(
+fn are_served<R: AllocGlobal + Clock + Threads + Wait + Sync>(
     rt: &R,
     shape: &'static str,
     wires: FuseWires,

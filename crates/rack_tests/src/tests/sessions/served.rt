@@ -23,6 +23,7 @@ use std::marker::Brand;
 use std::sync::Wait;
 use std::sync::atomic::AtomicUsize;
 use std::thread::{Threads, join};
+use std::time::Clock;
 
 /// Wires of which none has a fuse: no transfer has this number.
 pub const NO_FUSE: FuseWires = FuseWires {
@@ -50,7 +51,7 @@ pub fn back<L: ExchangeName>(
 
 /// Plays a script from a seat, which comes back. Whether all was heard, read and ended as the
 /// script says.
-fn play<L: ExchangeName, R: AllocGlobal + Threads + Wait + Sync>(
+fn play<L: ExchangeName, R: AllocGlobal + Clock + Threads + Wait + Sync>(
     rt: &R,
     shared: &Exchange<L>,
     seat: Seat<L>,
@@ -91,7 +92,7 @@ fn is_heard(listener: &Listener<'_>, script: &Script, fault: Option<ServeFault>)
 }
 
 /// Plays both scripts of a day, one after the other. Whether all is as they say.
-fn play_both<L: ExchangeName, R: AllocGlobal + Threads + Wait + Sync>(
+fn play_both<L: ExchangeName, R: AllocGlobal + Clock + Threads + Wait + Sync>(
     rt: &R,
     office: Office<L>,
     day: &Day,
@@ -123,7 +124,7 @@ fn play_both<L: ExchangeName, R: AllocGlobal + Threads + Wait + Sync>(
 /// Serves two clients at once, each in a thread, which are to hear this. Whether both do.
 pub fn serve_at_once<
     L: ExchangeName + Send + Sync,
-    R: AllocGlobal + Threads + Wait + Sync,
+    R: AllocGlobal + Clock + Threads + Wait + Sync,
     I: Read + Send + Drop,
     J: Read + Send + Drop,
 >(rt: &R, office: Office<L>, one: Saying<I>, other: Saying<J>) -> (Office<L>, bool)
@@ -168,7 +169,7 @@ pub struct Saying<I> {
 
 /// Serves such a client from a seat, which comes back, over a reader that counts how often it is
 /// asked. Whether it hears that.
-fn hear<L: ExchangeName, R: AllocGlobal + Threads + Wait + Sync, I: Read + Drop>(
+fn hear<L: ExchangeName, R: AllocGlobal + Clock + Threads + Wait + Sync, I: Read + Drop>(
     rt: &R,
     shared: &Exchange<L>,
     seat: Seat<L>,
@@ -216,7 +217,7 @@ fn entries_of(closed: Closed<MemoryPort, FuseWires, OpenGate>) -> usize {
 
 /// Plays both scripts at an exchange that is closed then. Whether all is as they say, and the
 /// history has just their entries.
-fn is_played<L: ExchangeName, R: AllocGlobal + Threads + Wait + Sync>(
+fn is_played<L: ExchangeName, R: AllocGlobal + Clock + Threads + Wait + Sync>(
     rt: &R,
     office: Office<L>,
     day: &Day,
@@ -238,7 +239,7 @@ fn is_played<L: ExchangeName, R: AllocGlobal + Threads + Wait + Sync>(
 }
 
 /// The same at an exchange on this rack.
-fn spend<L: ExchangeName, R: AllocGlobal + Threads + Wait + Sync>(
+fn spend<L: ExchangeName, R: AllocGlobal + Clock + Threads + Wait + Sync>(
     rt: &R,
     blank: ExchangeBlank,
     rack: Rack,
@@ -253,7 +254,7 @@ fn spend<L: ExchangeName, R: AllocGlobal + Threads + Wait + Sync>(
 }
 
 /// Whether all is as the scripts of two clients say, on a rack of zeros.
-pub fn is_so<R: AllocGlobal + Threads + Wait + Sync>(rt: &R, plan: &Day) -> bool {
+pub fn is_so<R: AllocGlobal + Clock + Threads + Wait + Sync>(rt: &R, plan: &Day) -> bool {
     match zeros(rt.alloc(), plan.shape) {
         Some(rack) => match ExchangeBlank::new(rt.alloc()) {
             Ok(blank) => spend::<Brand, R>(rt, blank, rack, plan),
@@ -264,7 +265,7 @@ pub fn is_so<R: AllocGlobal + Threads + Wait + Sync>(rt: &R, plan: &Day) -> bool
 }
 
 /// Whether a client alone is served on the smallest rack as its script says.
-pub fn is_served<R: AllocGlobal + Threads + Wait + Sync>(rt: &R, script: &Script) -> bool {
+pub fn is_served<R: AllocGlobal + Clock + Threads + Wait + Sync>(rt: &R, script: &Script) -> bool {
     let plan = Day {
         shape: "1x1x1",
         wires: NO_FUSE,

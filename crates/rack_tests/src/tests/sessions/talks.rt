@@ -17,6 +17,7 @@ use std::marker::Brand;
 use std::sync::Wait;
 use std::sync::atomic::{AtomicBool, AtomicUsize, Ordering};
 use std::thread::{Threads, yield_now};
+use std::time::Clock;
 
 /// The lines of two clients in one order, each with the client that says it, and how many of them
 /// were answered.
@@ -82,7 +83,7 @@ impl Read for Talker<'_> {
 }
 
 /// Whether both clients of a talk hear this that are served at once on this rack.
-fn hear_on<L: ExchangeName + Send + Sync, R: AllocGlobal + Threads + Wait + Sync>(
+fn hear_on<L: ExchangeName + Send + Sync, R: AllocGlobal + Clock + Threads + Wait + Sync>(
     rt: &R,
     blank: ExchangeBlank,
     rack: Rack,
@@ -110,7 +111,7 @@ fn saying<'a>(talk: &'a Talk, client: usize, hears: &'static str) -> Saying<Talk
 }
 
 /// Whether both clients hear these lines, and neither gives up.
-fn hear<R: AllocGlobal + Threads + Wait + Sync>(
+fn hear<R: AllocGlobal + Clock + Threads + Wait + Sync>(
     rt: &R,
     shape: &str,
     lines: &'static [(usize, &'static str)],
