@@ -33,8 +33,7 @@ TOP = os.path.dirname(os.path.dirname(os.path.abspath(__file__)))
 # Who sees what is wrong in a file: the first of these patterns that its name has.
 JUDGES = {
     "exchange": "tools/start/run.sh",
-    "tools/install/build.sh": "tools/start/run.sh && tools/python/run.py 1",
-    "tools/install/*": "tools/python/run.py 1",
+    "tools/install/*": "tools/start/run.sh && tools/python/run.py 1",
     "tools/release.sh": "tools/release.sh --check",
     "examples/board/*.c": "tools/rack/run.py 0 in C",
     "examples/board/*.py": "tools/rack/run.py 0 the plan && tools/rack/run.py 0",
@@ -42,7 +41,7 @@ JUDGES = {
     "examples/*_to_*.py": "tools/rack/run.py 0 tables",
     "examples/check_prices.py": "tools/hostile/judges.py && tools/rows/run.py prices",
     "examples/check_record.py": "tools/rows/run.py sums",
-    "examples/all-reduce.py": "tools/hosts/hosts.py && tools/rack/run.py 0 misuse",
+    "examples/all-reduce.py": "python3 tools/hosts/hosts.py && tools/rack/run.py 0 misuse",
     "examples/emulator/*.c": "tools/c/run.sh 1",
     "examples/emulator/*.py": "tools/python/run.py 1 && tools/rack/run.py 0 misuse",
     "examples/patterns/make.sh": "examples/patterns/make.sh --check && tools/rack/run.py 0 misuse",
@@ -132,6 +131,15 @@ def copy_to(folder):
     for name in built.splitlines():
         os.makedirs(os.path.dirname(f"{folder}/{name.rstrip('/')}"), exist_ok=True)
         os.symlink(f"{TOP}/{name.rstrip('/')}", f"{folder}/{name.rstrip('/')}")
+    subprocess.run(["git", "init", "-q"], cwd=folder, check=True)
+    commit(folder)
+
+
+def commit(folder):
+    """Puts all that is in a folder into a commit: a release is made of one."""
+    who = ["-c", "user.name=mutate", "-c", "user.email=mutate@localhost"]
+    for words in ["add", "-A"], ["commit", "-q", "--allow-empty", "-m", "all"]:
+        subprocess.run(["git", *who, *words], cwd=folder, check=True)
 
 
 def passes(command, folder, limit):
@@ -198,6 +206,7 @@ class Trials:
         with open(f"{TOP}/{name}", encoding="utf-8") as file:
             right = file.read()
         put(f"{self.room.name}/{name}", text)
+        commit(self.room.name)
         lives = self.run(name, limit)
         put(f"{self.room.name}/{name}", right)
         print(f"{name}:{line}: {how}: {'passes' if lives else 'seen'}: {right.splitlines()[line - 1].strip()}", flush=True)

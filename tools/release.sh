@@ -88,6 +88,10 @@ case ${1-} in
     git clone -q "$top" "$work/clone" && touch "$work/clone/changed"
     ! PATH=$work:$PATH "$work/clone/tools/release.sh" "$work/first" 2>"$work/said" && grep -q "made of a commit" "$work/said" ||
         fail 1 "WRONG: what is in no commit is released"
+    # Of what can't be built neither.
+    rm "$work/clone/changed"
+    printf '#!/bin/sh\n[ "$1" = check ] && echo logic=proved functions=1\n' >"$work/rt"
+    ! PATH=$work:$PATH "$work/clone/tools/release.sh" "$work/first" >/dev/null 2>&1 || fail 1 "WRONG: what isn't built is released"
     echo "release: $(basename "$archive") is the same twice, and works where it wasn't made"
     ;;
 '' | -*) fail 2 "the words are: FOLDER, or --check" ;;

@@ -58,6 +58,7 @@ cc "${checks[@]}" -o "$work/emulator" "$top/examples/emulator/emulator.c" "$libr
 ends 5 'refused no memory' 'echo refused no memory; exit 5'
 ends 1 'left setting 0' "exec '$program' \"\$@\" </dev/null"
 ! "$work/emulator" "$(type -P true)" >"$work/printed" && [ "$(tail -n 1 "$work/printed")" = WRONG ] || failed+=" compared"
+! "$work/emulator" /none >"$work/printed" && [ "$(cat "$work/printed")" = "there is no such program" ] || failed+=" missing"
 stops TERM 143
 stops INT 130
 cc "${checks[@]}" -Wl,--wrap=malloc,--wrap=realloc -o "$work/try" "$here/try.c" "$library" "$kit"

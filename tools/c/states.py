@@ -248,7 +248,7 @@ def main():
     size = -(-count // workers)
     with multiprocessing.Pool(workers) as pool:
         well = pool.starmap(try_some, [(path, first, min(size, count - first)) for first in range(0, count, size)])
-    print(f"{count} streams and states of each kind: {'as the program, and as plain Python' if all(well) else 'WRONG'}")
+    print(f"{count} streams and states of each of {len(KINDS)} kinds: {'as the program, and as plain Python' if all(well) else 'WRONG'}")
     sys.exit(0 if all(well) else 1)
 
 

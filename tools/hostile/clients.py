@@ -178,7 +178,7 @@ def host(shape, names, scripts, draw, *options):
 
 
 def try_round(number):
-    """One round: how often each kind of reply came, how many readings there were, and what is wrong, if something is."""
+    """One round: how often each kind of reply came, how many readings there were, whether clients were live, and what is wrong, if something is."""
     draw = random.Random(f"clients {number}")
     shape = (draw.randint(2, plain.MODULES), draw.randint(2, 4), draw.randint(1, 8))
     scripts = [spoil.crowd_script(draw, shape) for _ in range(CLIENTS)]
@@ -190,20 +190,21 @@ def try_round(number):
         try:
             entries, readings = judge_round(shape, scripts, told, answer.status, room)
         except Exception as why:
-            return Counter(), 0, f"round {number}: {why!r}: {answer.err!r}, status {answer.status}"
-    return Counter(reply.split()[0] for _, _, reply in entries), readings, None
+            return Counter(), 0, is_live, f"round {number}: {why!r}: {answer.err!r}, status {answer.status}"
+    return Counter(reply.split()[0] for _, _, reply in entries), readings, is_live, None
 
 
 def main():
     rounds = int(sys.argv[1]) if len(sys.argv) > 1 else 1000
-    replies, readings, wrong = Counter(), 0, []
+    replies, readings, live_ones, wrong = Counter(), 0, 0, []
     with multiprocessing.Pool(len(os.sched_getaffinity(0))) as pool:
-        for found, seen, why in pool.imap_unordered(try_round, range(rounds)):
+        for found, seen, is_live, why in pool.imap_unordered(try_round, range(rounds)):
             replies.update(found)
             readings += seen
+            live_ones += is_live
             if why:
                 wrong.append(why)
-    print(f"clients: {rounds} rounds of {CLIENTS}, {rounds // 5} of them live, {replies.total()} entries, {readings} readings")
+    print(f"clients: {rounds} rounds of {CLIENTS}, {live_ones} of them live, {replies.total()} entries, {readings} readings")
     for name, times in sorted(replies.items()):
         print(f"clients:   {times:6} {name}")
     for why in wrong[:5]:

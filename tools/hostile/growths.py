@@ -445,7 +445,7 @@ def main():
         told.append(tell(sweep_host("keeper", "--record", "host-record", "--image-out", "host-left")))
         os.chdir("/")
     wrong = sum(it[1] for it in told)
-    print(f"growths: {len(names) + 1} calls, {len(COMMANDS) + 3} command lines, {sum(it[0] for it in told)} runs, {wrong} wrong")
+    print(f"growths: {len(names) + 1} calls, {len(COMMANDS) + len(FORKS) + 3} command lines, {sum(it[0] for it in told)} runs, {wrong} wrong")
     return 1 if wrong or not names else 0
 
 

@@ -45,7 +45,7 @@ UNEVEN = ["batch 8"] + [f"push {m} {b} {n} {b}" for m, ends in ((0, (1, 1, 2, 2)
 IDLE = ["batch 3", "push 0 0 1 0", "push 0 1 1 1", "push 2 0 3 0"]
 
 # What planning says where instructions can't be counted.
-LACKS, PLANNED = "planning: valgrind is missing, so no instructions were counted\n" + "steps, at most\n" * 10, "planning: 29 batches planned\n"
+LACKS, PLANNED = "planning: valgrind is missing, so no instructions were counted\n" + "steps, at most\n" * 10, "planning: 29 batches planned, 32 figures judged\n"
 
 # What comes of a line of a row, on both streams.
 LINE, ABC = b"refused a\n", b"exchange: b c\n"

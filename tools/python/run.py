@@ -2,7 +2,7 @@
 """Tries what an install puts into a folder, and the calls for programs in Python: tools/python/run.py [COUNT]
 
     install     puts what its list says, stops where a file is in the way, and what it put is taken away again, and no more, also where it
-                was interrupted; all that is put has one version; a library that isn't proved isn't said to be
+                was interrupted; all that is put has one version
     pages       helps call the program by its name, what `man` shows has each line of them, and shells complete commands and options; what is
                 installed names no page and no file that isn't
     C           a program that pkg-config gives the words for, and one that is linked with the shared library
@@ -47,6 +47,7 @@ COMPLETED = {
     "pl": "plan",
     "plan --w": "--workers",
     "plan --st": "--steady",
+    "plan --h": "--help",
     "switch --sc": "--schedule",
     "switch three-transfers.txt --schedule three": "",
     "help dra": "draw",
@@ -113,8 +114,9 @@ def try_install(room):
     with open(f"{rack}/share/exchange/installed", "a") as listed:
         listed.write("lib/old\n")
     for first, is_said in (f"{rack}/bin", False), (os.path.dirname(EXCHANGE), True):
-        told = install("install once more", 0, "rack/", cwd=room, env={**os.environ, "PATH": f"{first}:{os.environ['PATH']}"})
-        expect("where another exchange is on the PATH, the new one is said", (f"export PATH={rack}/bin:" in told) == is_said, told)
+        found = {"PATH": f"{first}:{os.environ['PATH']}", "PKG_CONFIG_PATH": f"{rack}/lib/pkgconfig"}
+        told = install("install once more", 0, "rack/", cwd=room, env={**os.environ, **found})
+        expect("only ways that aren't found are said", re.findall(r"export (\w+)=", told) == ["PATH"] * is_said + ["PYTHONPATH"], told)
     expect("another install leaves the same, and nothing of an earlier one", tree(rack) == before)
     try_versions(rack)
     with open(f"{rack}/share/exchange/installed", "a") as listed:
@@ -128,6 +130,8 @@ def try_install(room):
     os.makedirs(f"{mine}/share/man")
     for name in ("bin/exchange", "bin/other"):
         shutil.copy(f"{EXAMPLES}/ring.txt", f"{mine}/{name}")
+    Path(mine, "bin/python3").write_text(OWN_PYTHON)
+    os.chmod(f"{mine}/bin/python3", 0o755)
     before = tree(mine)
     told = install("a file in the way", 1, mine)
     expect("it is named, and nothing is put", f"{mine}/bin/exchange is there" in told and tree(mine) == before, told)
@@ -139,14 +143,17 @@ def try_install(room):
     expect("that is told", "is no folder that can be written to" in told and tree(mine) == before, told)
     os.chmod(mine, 0o755)
     install("install beside other files", 0, mine)
+    expect("the module is where the folder's own python3 looks", os.path.exists(f"{mine}/lib/python0/site-packages/exchange.py"), tree(mine).keys())
     theirs = next(Path(mine).rglob("exchange.py")).parent / "__pycache__" / "theirs.pyc"
     theirs.parent.mkdir()
     theirs.write_text("theirs")
     shutil.rmtree(f"{mine}/lib/pkgconfig")
+    os.chmod(f"{mine}/bin", 0o555)
+    install("uninstall where a file can't be taken away", 1, mine, script="uninstall", before=bound_by_modes)
+    os.chmod(f"{mine}/bin", 0o755)
     install("uninstall beside other files, what is there in part", 0, mine, script="uninstall")
     left = {**before, **dict.fromkeys(map(str, list(theirs.parents)[: -len(Path(mine).parts)])), str(theirs): b"theirs"}
     expect("what was there before is left, and what others put there since", tree(mine) == left, tree(mine).keys() ^ left.keys())
-    install("uninstall what isn't there", 1, mine, script="uninstall")
     install("no folder for the folder", 1, f"{room}/none/rack")
     told = install("no compiler", 1, f"{room}/none", env={**os.environ, "PATH": few_commands(room)})
     expect("that it isn't there is told", told == "exchange: the command cc isn't on the PATH\n", told)
@@ -177,26 +184,10 @@ def try_versions(rack):
     expect("the shared library has its first number, and a link leads to it", major == links == [f"libexchange.so.{version.partition('.')[0]}"], (major, links))
 
 
-# An `rt` that proves nothing.
-NO_PROOF = """#!/bin/sh
-[ "$1" != lib ] || { echo "a goal is open" && exit 1; }
+# A python3 that looks in a folder of its own.
+OWN_PYTHON = """#!/bin/sh
+PYTHONPATH=$(dirname "$0")/../lib/python0/site-packages exec python3 "$@"
 """
-
-
-def try_unproved(room):
-    """A library that isn't proved isn't said to be, in a clone whose program is built."""
-    clone, few = f"{room}/clone", f"{room}/unproved"
-    for folder in (few, f"{clone}/crates/exchange_c", f"{clone}/crates/exchange/out"):
-        os.makedirs(folder)
-    shutil.copytree(f"{TOP}/tools/install", f"{clone}/tools/install")
-    for name in ("crates.txt", "exchange"):
-        shutil.copy(f"{TOP}/{name}", clone)
-    shutil.copy(EXCHANGE, f"{clone}/crates/exchange/out/exchange")
-    Path(few, "rt").write_text(NO_PROOF)
-    os.chmod(f"{few}/rt", 0o755)
-    status, told = run(f"{clone}/tools/install/build.sh", env={**os.environ, "PATH": f"{few}:{os.environ['PATH']}"})
-    expect("a library that isn't proved", (status, "a goal is open" in told, "exchange_c is proved" in told) == (3, True, False), f"{status}\n{told}")
-
 
 # What no install may be put into, since pkg-config can't say its name in a word.
 UNNAMED = " \t\n$'\"\\#"
@@ -266,10 +257,11 @@ def try_home(room):
     os.mkdir(home)
     env = {**os.environ, "HOME": home, "PYTHONDONTWRITEBYTECODE": ""}
     env.setdefault("PYENV_ROOT", os.path.expanduser("~/.pyenv"))
-    install("install at home", 0, env=env)
+    told = install("install at home", 0, env=env)
     program = "import exchange; print(exchange.apply('2x1x1', exchange.batch_text([exchange.Transfer('pull', 0, 0, 1, 0)]), b'aaaabbbb'))"
     if run("python3", "-c", "import site, sys; sys.exit(not site.ENABLE_USER_SITE)", env=env)[0] == 0:
         expect_run("a program at home", "b'bbbbbbbb'\n", "python3", "-c", program, env=env, cwd=room)
+        expect("no way for it is said", "PYTHONPATH" not in told, told)
     install("uninstall at home", 0, script="uninstall", env=env)
     expect("nothing is left at home", os.listdir(home) == [], os.listdir(home))
 
@@ -298,6 +290,8 @@ def try_named(rack):
     """What is installed names no page and no file of a clone that isn't installed too, and no link of a page leads nowhere."""
     docs = f"{rack}/share/doc/exchange"
     links = [(page, link) for page in Path(docs).rglob("*.md") for link in re.findall(r"\]\(([^)\s#:]+)[)#]", page.read_text())]
+    missing = [it for it in [*Path(TOP).glob("*.md"), *Path(TOP).glob("docs/*.md")] if not Path(docs, it.relative_to(TOP)).exists()]
+    expect("all pages are there", not missing, missing)
     dead = [f"{page}: {link}" for page, link in links if not (page.parent / link).exists()]
     expect(f"the {len(links)} links of pages", len(links) > 100 and not dead, dead)
     for path in [f"{rack}/include/exchange.h", str(next(Path(rack).rglob("exchange.py")))]:
@@ -763,7 +757,6 @@ def main():
         try_interrupted(room)
         try_modes(room)
         try_in_the_way(room)
-        try_unproved(room)
         module = str(next(Path(rack).rglob("exchange.py")))
         try_home(room)
         try_pages(rack)
