@@ -103,6 +103,7 @@ declare -A most_bytes=(
 # NAME FOUND GREATEST: tells what costs too much
 judge() {
     : "${2:?not counted}"
+    judged=$((judged + 1))
     if [ "$check" ] && awk -v found="$2" -v most="$3" 'BEGIN { exit !(found > most) }'; then
         echo "planning: $1 has $2, and may have $3 at most"
         failed=yes
@@ -241,7 +242,11 @@ from_to 4096 t%32 t/32%2 0 >"$work/thirty_two_by_two"
 from_to 2731 0 1 0 >"$work/part"
 python3 "$here/steady_batches.py" "$work"
 declare -A counts steady_counts
-measured=0
+# Something wrong is judged first.
+judged=0 failed=
+judge "something wrong" 1.01 1 >/dev/null
+[ ! "$check" ] || [ "$failed" ] || { echo "planning: WRONG: a figure that is too great passes" && exit 1; }
+measured=0 judged=0 failed=
 for name in scrambled one_link odd star two_by_two three_by_three four_by_two sixteen_by_three thirty_two_by_two \
     part wide scrambled-1024 one_link-1024; do
     measure $name
@@ -250,7 +255,6 @@ for name in all_to_all in_rounds halo random_16 random_32 random_256 sixty_pairs
     random_512 ten_modules random_800 seven_steps seven_others; do
     measure_steady "$name" "$(counted "$program" plan --quiet "$work/$name" --workers 1)"
 done
-echo "planning: $measured batches planned"
 if [ "$counts_all" ]; then
     growth scrambled
     growth one_link
@@ -274,4 +278,5 @@ if [ "$has_rustc" ]; then
     judge "of those that have the fewest, in 100 that aren't told so, this" "$(awk "BEGIN { print 100 - ${share:?not told} }")" 2
 fi
 python3 "$here/steps.py" ${check:+--check} || failed=yes
-[ -z "${failed-}" ]
+echo "planning: $measured batches planned, $judged figures judged"
+[ -z "$failed" ]

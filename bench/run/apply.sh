@@ -46,13 +46,23 @@ millions() {
     awk -v count="${count:?}" 'BEGIN { printf "%.2f", count / 1e6 }'
 }
 
+# NAME PROGRAM WORD..: the count of a program with these words, which may be as great as `greatest` says
+judge() {
+    count[$1]=$(millions "${@:2}")
+    if [ "$check" ] && awk -v count="${count[$1]}" -v most="${greatest[$1]}" 'BEGIN { exit !(count > most) }'; then
+        echo "apply: $1 takes ${count[$1]} million instructions, and may take ${greatest[$1]} million at most"
+        failed=yes
+    fi
+}
+
 # COMMAND WORD..: what the command says into a file of its name, and its count
 measure() {
     "$program" "$@" >"$work/$1"
-    count[$1]=$(millions "$program" "$@")
+    judge "$1" "$program" "$@"
 }
 
 declare -A count
+check=${1-} failed=
 measure apply 32x64x256 "$work/batch" "$work/image"
 measure run 32x64x256 "$work/batch"
 measure serve 32x64x256 "$work/script"
@@ -60,21 +70,14 @@ measure serve 32x64x256 "$work/script"
 cc -std=c11 -O2 -I"$top/include" -o "$work/call" "$here/call_apply.c" "$top/crates/exchange_c/out/libexchange_c.a" \
     "$(dirname "$(rt doc)")/c/liblibc_c.a"
 "$work/call" 32x64x256 "$work/batch" "$work/image" | cmp - "$work/apply"
-count[call]=$(millions "$work/call" 32x64x256 "$work/batch" "$work/image")
+judge call "$work/call" 32x64x256 "$work/batch" "$work/image"
 if ! grep -q "^ran settings 64 words 524288 " "$work/run" || ! grep -q "^ran 1 run 1 settings 64 words 524288 " "$work/serve"; then
     echo "apply: the batch wasn't run"
     exit 1
 fi
 echo "2048 transfers of 256 words, in millions of instructions: ${count[apply]} of apply, ${count[run]} of run, ${count[serve]} of a session, ${count[call]} of a call"
 
-if [ "${1-}" = --check ]; then
-    failed=
-    for name in apply run serve call; do
-        if awk -v count="${count[$name]}" -v most="${greatest[$name]}" 'BEGIN { exit !(count > most) }'; then
-            echo "apply: $name takes ${count[$name]} million instructions, and may take ${greatest[$name]} million at most"
-            failed=yes
-        fi
-    done
+if [ "$check" ]; then
     [ ! "$failed" ]
     exit
 fi
