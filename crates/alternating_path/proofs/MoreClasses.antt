@@ -24,7 +24,7 @@ module _ (g : List Transfer) (k : ℕ) (f h : List (Option ℕ)) (x : AreCellsOf
   abbrev now : List (Option ℕ)
   now = h ++ replicate LINKS None
 
-  -- a row that was there, or one behind it
+  -- a row that was there, or one after it
   row_of : (c l : ℕ) → l < LINKS → ((c < k) × (holder_at now c l ≡ holder_at h c l)) ⊎ (holder_at now c l ≡ None)
   row_of c l l_in = elim (cases_lt c k) [
     | inl c_in ↦ inl (c_in, get_or_append_left h (replicate LINKS None) None (c * LINKS + l) (omega (arith, x.rows, c_in, l_in)))

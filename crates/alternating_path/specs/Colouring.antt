@@ -82,7 +82,7 @@ pub record PlacesJust (old new : List (Option ℕ)) (t : ℕ) : Type 0 where
 abbrev pub ArePlacedApart : List (Option ℕ) → List (Option ℕ) → Type 0
 ArePlacedApart left right = (t : ℕ) → HasColour left t → HasColour right t → ⊥
 
--- a transfer's colour where the colours of another table stand behind the k of this one
+-- a transfer's colour where the colours of another table stand after the k of this one
 abbrev pub joined_colour : ℕ → Option ℕ → Option ℕ → Option ℕ
 joined_colour k None None = None
 joined_colour k None (Some c) = Some (k + c)
@@ -92,7 +92,7 @@ joined_colour k (Some c) other = Some c
 abbrev pub counted : ℕ → ℕ
 counted n = min n (2 ^ 64 - 1)
 
--- the two tables in one: the colours of the left one, and behind them those of the right one
+-- the two tables in one: the colours of the left one, and after them those of the right one
 pub record IsJoined (left right table : Colouring) : Type 0 where
   pub batch : table.batch ≡ left.batch
   pub colours : table.colours ≡ left.colours + right.colours
@@ -101,7 +101,7 @@ pub record IsJoined (left right table : Colouring) : Type 0 where
       ≡ joined_colour left.colours (colour_at left.colour t) (colour_at right.colour t)
   pub inserted : table.inserted ≡ counted (left.inserted + right.inserted)
 
--- the table with one colour more, behind the others: each placed transfer keeps its colour, just
+-- the table with one colour more, after the others: each placed transfer keeps its colour, just
 -- those of the class have the new one, and no other is placed
 pub record HasClassMore (old : Colouring) (class : List ℕ) (new : Colouring) : Type 0 where
   pub batch : new.batch ≡ old.batch

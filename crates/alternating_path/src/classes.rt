@@ -18,7 +18,7 @@ fn push_into(lists: &mut Vec<Vec<usize>>, k: usize, t: usize) -> Result<(), Allo
     Ok(())
 }
 
-/// Puts a transfer into a new list behind the others, with room for this many.
+/// Puts a transfer into a new list after the others, with room for this many.
 fn push_alone(
     alloc: Global,
     lists: &mut Vec<Vec<usize>>,

@@ -61,7 +61,7 @@ pub(crate) fn note_class(
     }
 }
 
-/// Takes a colour's row out. The rows behind it move up: they are copied as a whole, which takes a
+/// Takes a colour's row out. The rows after it move up: they are copied as a whole, which takes a
 /// fraction of the steps that moving them cell by cell would.
 pub(crate) fn remove_row(
     cells: &mut Vec<Option<u16>>,

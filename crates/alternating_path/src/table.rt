@@ -114,7 +114,7 @@ impl<'a> Table<'a> {
         Table::empty(graph, 0, cells).with_class(members, steps)
     }
 
-    /// The table with one colour more, behind the others, that just the members have: distinct
+    /// The table with one colour more, after the others, that just the members have: distinct
     /// numbers of transfers that aren't placed yet, of which no two use a common link. The table is
     /// dropped also where there is no memory.
     ///
@@ -138,7 +138,7 @@ impl<'a> Table<'a> {
         Ok(table)
     }
 
-    /// The table with one colour more, behind the others, that no transfer has.
+    /// The table with one colour more, after the others, that no transfer has.
     fn with_free_colour(self, steps: &mut Steps) -> Result<Table<'a>, AllocError>
         ensures more { IfOk result
             (λ table. table ≡ record self.entry { colours = self.entry.colours + 1 }) }
@@ -197,7 +197,7 @@ impl<'a> Table<'a> {
         Ok(table)
     }
 
-    /// The two tables in one: the colours of the left table, and behind them those of the right
+    /// The two tables in one: the colours of the left table, and after them those of the right
     /// one. Both are of one graph, and no transfer is placed in both. They are dropped also where
     /// there is no memory.
     ///

@@ -38,7 +38,7 @@ module _ (ts : List Transfer) (none : (i j : ℕ) → IsFirstOverlap ts i j → 
   pub none_overlap : IsApart ts
   none_overlap i j both = none_below (suc i) i j (omega arith) both
 
--- two pairs neither of which is behind the other are one
+-- two pairs neither of which is after the other are one
 same_pair : (i j k l : ℕ) → IsPairUpTo i j k l → IsPairUpTo k l i j → (i ≡ k) × (j ≡ l)
 same_pair i j k l (inl a) (inl b) = absurd (omega arith)
 same_pair i j k l (inl a) (inr b) = absurd (omega (arith, b.0))
@@ -102,7 +102,7 @@ module _ (ts : List Transfer) (i : ℕ) (some : 0 < i) where
         (next_kept q (get_or next (place_index widest q) None) (λ f. other (ap (place_index widest) (sym f ∙ sym e) ∙ sym at)) (h q hq))
   ]
 
-  -- no transfer behind it overlaps with it
+  -- no transfer after it overlaps with it
   first_kept : (first : Option (ℕ × ℕ)) → ((l : ℕ) → Overlap ts (i - 1) l → ⊥) → IsFirstFrom ts i first → IsFirstFrom ts (i - 1) first
   first_kept None none h = λ k l m o. h k l (behind k m (λ f. none l (subst (λ (x : ℕ). Overlap ts x l) f o))) o
   first_kept (Some pair) none h = (h.0, λ k l m o. h.1 k l (behind k m (λ f. none l (subst (λ (x : ℕ). Overlap ts x l) f o))) o)
@@ -110,7 +110,7 @@ module _ (ts : List Transfer) (i : ℕ) (some : 0 < i) where
   pub first_alone : (first : Option (ℕ × ℕ)) (p : Place) → p ≡ destination_at ts (i - 1) → IsNextWriter ts i p None → IsFirstFrom ts i first → IsFirstFrom ts (i - 1) first
   first_alone first p e h = first_kept first (λ l o. h l (omega (arith, o.ordered)) o.within (sym o.one_destination ∙ sym e))
 
-  -- it overlaps with a transfer behind it
+  -- it overlaps with a transfer after it
   pub first_more : (j : ℕ) (p : Place) → p ≡ destination_at ts (i - 1) → IsNext ts i p j → IsFirstFrom ts (i - 1) (Some (i - 1, j))
   first_more j p e h = (
     record { ordered = omega (arith, h.from); within = h.within; one_destination = sym e ∙ sym h.writes },

@@ -9,7 +9,7 @@ use Rattle.batch.specs.Numbers.{IsNumber, number, line_feed}
 use Rattle.batch.specs.Lists.{Form, head, line, IsWithin, Denotes}
 use Rattle.batch.specs.ListFaults.{IsHeaded, IsLineFault, IsGoodUpTo, IsFirstFault, at_line, NeedsMemory}
 
--- the first line, behind what stands before its number
+-- the first line, after what stands before its number
 pub headed : {Thing : Type 0} (form : Form Thing) (text heading rest : List ℕ) (r : Option (ℕ × Bor (List ℕ))) → heading ≡ form.heading → text ≡ heading ++ rest → IfSome r (λ x. IsNumber x.0 × (rest ≡ number x.0 line_feed ++ x.1.now)) → IfSome r (λ x. IsHeaded form text x.0 x.1.now)
 headed form text heading rest None same parts read = tt
 headed form text heading rest (Some x) same parts read =
@@ -41,7 +41,7 @@ module _ {Thing : Type 0} (form : Form Thing) (shape : Extent) where
   pub stopped : (text : List ℕ) (n t : ℕ) (xs : List Thing) (rest : List ℕ) (fault : BatchFault) → IsGoodUpTo form shape text n xs rest → length xs ≡ t → t < n → IsLineFault form shape t rest fault → IsFirstFault form shape text fault
   stopped text n t xs rest fault good counted less stops = at_line n xs rest good (rw counted less) (rw counted stops)
 
-  -- all lines, and nothing behind them
+  -- all lines, and nothing after them
   pub whole : (text : List ℕ) (n : ℕ) (xs : List Thing) (rest : List ℕ) → IsGoodUpTo form shape text n xs rest → length xs ≡ n → rest ≡ [] → Denotes form shape text xs
   whole text n xs rest good counted none = record {
     spelled = good.spelled ∙ ap (λ (k : ℕ). head form k ++ (flat_map (line form) xs ++ rest)) (sym counted) ∙ ap (λ (y : List ℕ). head form (length xs) ++ y) (ap (λ (y : List ℕ). flat_map (line form) xs ++ y) none ∙ append-nil (flat_map (line form) xs));

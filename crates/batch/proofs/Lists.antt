@@ -10,7 +10,7 @@ use Rattle.std.proofs.lemmas.List.FromFn.{map-range_with_len_more}
 use Rattle.std.proofs.lemmas.List.Sums.{sum_by-set, sum_by_push}
 use mathlib.Core.List.{map-id}
 
--- what stands in a list is its first, or stands behind it
+-- what stands in a list is its first, or stands after it
 pub at_cons : {X : Type 0} (x t : X) (xs : List X) → Contains (x ∷ xs) t → (x ≡ t) ⊎ Contains xs t
 at_cons x t xs (zero, lt, at) = inl at
 at_cons x t xs (suc k, lt, at) = inr (k, omega arith, at)
@@ -20,7 +20,7 @@ pub concat_more : (lists : List (List ℕ)) (k : ℕ) → k < length lists → c
 concat_more lists k lt =
     ap concat (take_more lists k [] lt) ∙ concat-append (take k lists) (get_or lists k [] ∷ []) ∙ ap (λ (xs : List ℕ). concat (take k lists) ++ xs) (append-nil (get_or lists k []))
 
--- ---- lists of numbered parts, one behind the other
+-- ---- lists of numbered parts, one after the other
 
 -- one number more
 pub range_more : (n : ℕ) → range_with_len 0 (n + 1) ≡ range_with_len 0 n ++ n ∷ []

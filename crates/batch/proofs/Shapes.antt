@@ -11,7 +11,7 @@ use Rattle.batch.specs.ShapeText.{shape_text, DenotesShape, IsBadShape}
 use Rattle.batch.specs.declared.fault.ShapeFault.{ShapeFault}
 use Rattle.batch.proofs.Lines.{Ends, one_number}
 
--- the numbers of a shape, each before what stands behind it
+-- the numbers of a shape, each before what stands after it
 pub record AreNumbers (e : Extent) : Type 0 where
   pub modules : IsNumber e.modules
   pub blocks : IsNumber e.blocks
@@ -20,11 +20,11 @@ pub record AreNumbers (e : Extent) : Type 0 where
 pub ends_separator : Ends SEPARATOR
 ends_separator = λ digit. omega arith
 
--- the text behind the first separator
-abbrev pub behind_modules : Extent → List ℕ
-behind_modules e = number e.blocks SEPARATOR ++ decimal e.words
+-- the text after the first separator
+abbrev pub after_modules : Extent → List ℕ
+after_modules e = number e.blocks SEPARATOR ++ decimal e.words
 
-pub shape_parts : (e : Extent) → shape_text e ≡ number e.modules SEPARATOR ++ behind_modules e
+pub shape_parts : (e : Extent) → shape_text e ≡ number e.modules SEPARATOR ++ after_modules e
 shape_parts e = simp append_assoc
 
 pub of_shape : (e : Extent) → IsShape e → AreNumbers e
@@ -34,8 +34,8 @@ same_extent : (a b : Extent) → a.modules ≡ b.modules → a.blocks ≡ b.bloc
 same_extent a b m k w = ap (λ (x : ℕ). extent x a.blocks a.words) m ∙ ap (λ (x : ℕ). extent b.modules x a.words) k ∙ ap (λ (x : ℕ). extent b.modules b.blocks x) w
 
 -- the parts that were read are those of each shape that the text spells
-pub to_modules : (text : List ℕ) (m : ℕ) (rest : List ℕ) (b : Extent) → IsNumber m × (text ≡ number m SEPARATOR ++ rest) → AreNumbers b → text ≡ shape_text b → (m ≡ b.modules) × (rest ≡ behind_modules b)
-to_modules text m rest b read fits whole = one_number m b.modules SEPARATOR rest (behind_modules b) read.0 fits.modules ends_separator (sym read.1 ∙ whole ∙ shape_parts b)
+pub to_modules : (text : List ℕ) (m : ℕ) (rest : List ℕ) (b : Extent) → IsNumber m × (text ≡ number m SEPARATOR ++ rest) → AreNumbers b → text ≡ shape_text b → (m ≡ b.modules) × (rest ≡ after_modules b)
+to_modules text m rest b read fits whole = one_number m b.modules SEPARATOR rest (after_modules b) read.0 fits.modules ends_separator (sym read.1 ∙ whole ∙ shape_parts b)
 
 pub to_blocks : (text : List ℕ) (m k : ℕ) (rest more : List ℕ) (b : Extent) → IsNumber m × (text ≡ number m SEPARATOR ++ rest) → IsNumber k × (rest ≡ number k SEPARATOR ++ more) → AreNumbers b → text ≡ shape_text b → (m ≡ b.modules) × (k ≡ b.blocks) × (more ≡ decimal b.words)
 to_blocks text m k rest more b read next fits whole =
@@ -49,7 +49,7 @@ spelled text m k w rest more a b c =
 
 pub one_extent : (text : List ℕ) (a b : Extent) → AreNumbers a → AreNumbers b → text ≡ shape_text a → text ≡ shape_text b → a ≡ b
 one_extent text a b fa fb ta tb =
-    let p = to_blocks text a.modules a.blocks (behind_modules a) (decimal a.words) b (fa.modules, ta ∙ shape_parts a) (fa.blocks, refl) fb tb in
+    let p = to_blocks text a.modules a.blocks (after_modules a) (decimal a.words) b (fa.modules, ta ∙ shape_parts a) (fa.blocks, refl) fb tb in
     same_extent a b p.0 p.1 (decimal_injective a.words b.words (omega (arith, fa.words)) (omega (arith, fb.words)) p.2)
 
 pub one_shape : (text : List ℕ) (a b : Extent) → DenotesShape text a → DenotesShape text b → a ≡ b

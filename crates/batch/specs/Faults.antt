@@ -10,7 +10,7 @@ use Rattle.batch.specs.Text.{batch_form}
 abbrev pub IsSpellable : Transfer → Type 0
 IsSpellable = lists.IsSpellable batch_form
 
--- the first fault of the text: of its first line, of a transfer's line behind good ones, or behind
+-- the first fault of the text: of its first line, of a transfer's line after good ones, or after
 -- the last
 abbrev pub IsFirstFault : Extent → List ℕ → BatchFault → Type 0
 IsFirstFault = lists.IsFirstFault batch_form

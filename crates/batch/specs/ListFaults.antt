@@ -88,7 +88,7 @@ module _ {Thing : Type 0} (form : Form Thing) (shape : Extent) where
     pub within : All (IsWithin form shape) xs
     pub spelled : text ≡ head form n ++ (flat_map (line form) xs ++ rest)
 
-  -- the first fault of the text: of its first line, of a line behind good ones, or something that
+  -- the first fault of the text: of its first line, of a line after good ones, or something that
   -- follows the last
   pub data IsFirstFault (text : List ℕ) (fault : BatchFault) : Type 0 where
     at_head : IsHeadFault form text fault → IsFirstFault text fault

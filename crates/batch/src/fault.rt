@@ -28,7 +28,7 @@ pub enum BatchFault {
     /// A block of this transfer, counted from 0, isn't below the shape's blocks.
     #[error("no block {0}")]
     NoBlock(usize),
-    /// The text ends with fewer transfer lines than were announced, or goes on behind the last.
+    /// The text ends with fewer transfer lines than were announced, or goes on after the last.
     #[error("count")]
     Count,
     /// There was no memory to keep the transfers.

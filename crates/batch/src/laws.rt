@@ -25,7 +25,7 @@ pub fn first_overlap()
     ensures one { OneFirstOverlap }
 {}
 
-/// The digits of a number are `0`, or a digit from 1 to 9 and at most eight digits behind it.
+/// The digits of a number are `0`, or a digit from 1 to 9 and at most eight digits after it.
 pub fn number_grammar()
     ensures { (digits : List ℕ) → IsNumeral digits ↔ SpellsNumber digits }
 {}

@@ -24,7 +24,7 @@ pub trait Listed: Copy {
         ensures { result.now ≡ form.heading };
 
     /// The word that a text begins with, and the rest. Where the text begins with the word of some
-    /// thing, that is the one, and the same rest is behind it.
+    /// thing, that is the one, and the same rest is after it.
     fn read_word(text: &[u8]) -> Option<(Self::Word, &[u8])>
         ensures some { IfSome result (λ x. text.now ≡ spelling x.0 ++ x.1.now) }
         ensures rest { IfSome result (λ x.

@@ -13,7 +13,7 @@ fn has_leading_zero(digits: &[u8]) -> bool
     digits.len() > 1 && digits[0] == b'0'
 }
 
-/// The number that these digits spell: `0`, or a digit from 1 to 9 and digits behind it, at most
+/// The number that these digits spell: `0`, or a digit from 1 to 9 and digits after it, at most
 /// [`MAX_DIGITS`] in all. Takes time that grows with the number of digits.
 pub fn number_from_digits(digits: &[u8]) -> Option<usize>
     ensures some { IfSome result (λ n. IsNumber n × (digits.now ≡ decimal n)) }
@@ -40,7 +40,7 @@ pub fn position_of(bytes: &[u8], byte: u8) -> Option<usize>
     bytes.iter().position(|b| *b == byte)
 }
 
-/// A number that this byte ends behind one digit or two, and what stands behind the two. Most
+/// A number that this byte ends after one digit or two, and what stands after the two. Most
 /// numbers of a text are so short; of others, and of a number that ends the text, nothing is said.
 fn short_number_before(bytes: &[u8], end: u8) -> Option<(usize, &[u8])>
     ensures { IfSome result (λ x. IsNumber x.0 × (bytes.now ≡ number x.0 end ++ x.1.now)) }
@@ -59,7 +59,7 @@ fn short_number_before(bytes: &[u8], end: u8) -> Option<(usize, &[u8])>
     Some((10 * tens + ones, &bytes[3..]))
 }
 
-/// A number that this byte ends, which is no digit, and what stands behind the two. Takes time that
+/// A number that this byte ends, which is no digit, and what stands after the two. Takes time that
 /// grows with the number of bytes before the byte.
 pub fn number_before(bytes: &[u8], end: u8) -> Option<(usize, &[u8])>
     requires { IsDigit end → ⊥ }

@@ -16,7 +16,7 @@ impl Shape {
     /// Reads a shape's text `MxKxW`: how many modules there are, how many blocks each has, and how
     /// many words each block: 1 to [`MAX_MODULES`](crate::MAX_MODULES), 1 to
     /// [`MAX_BLOCKS`](crate::MAX_BLOCKS) and 1 to [`MAX_WORDS`](crate::MAX_WORDS), without leading
-    /// zeros, and with nothing behind them. Whatever isn't the text of a shape is a `BadShape`. It
+    /// zeros, and with nothing after them. Whatever isn't the text of a shape is a `BadShape`. It
     /// takes no memory.
     pub fn read(text: &[u8]) -> Result<Shape, ShapeFault>
         ensures shape { IfOk result (λ shape. DenotesShape text.now shape) }

@@ -26,21 +26,19 @@ use Rattle.own_lists.specs.contracts.keeper.OwnList as OwnList
 use Rattle.own_lists.proofs.keeper.Keeper.TheSendSync as keeper
 use Rattle.own_lists.proofs.keeper.OwnList.TheSendSync as own
 use Rattle.setting_runner.proofs.plant.Plant.TheSendSync as plant
-use Rattle.batch_book.specs.declared.history.History as History
+use Rattle.batch_book.specs.declared.entry_log.EntryLog as EntryLog
 use Rattle.batch_book.specs.declared.naming.ExchangeName as ExchangeName
 use Rattle.batch_book.specs.declared.recorder.Recorder as Recorder
-use Rattle.batch_book.specs.declared.waiting_entries.WaitingEntries as WaitingEntries
+use Rattle.batch_book.specs.declared.pending_entries.PendingEntries as PendingEntries
 use Rattle.batch_book.specs.contracts.book.Book as Book
-use Rattle.batch_book.specs.contracts.book_side.BookSide as BookSide
+use Rattle.batch_book.specs.contracts.book_state.BookState as BookState
 use Rattle.batch_book.specs.contracts.entry.Entry as Entry
 use Rattle.batch_book.specs.contracts.kept_history.Kept as Kept
-use Rattle.batch_book.specs.contracts.kept_history.KeptHistory.TheImpl as kept
-use Rattle.batch_book.specs.contracts.lent.Lent as Lent
-use Rattle.batch_book.specs.contracts.lent.LentHistory.TheImpl as lent
+use Rattle.batch_book.specs.contracts.kept_history.KeptEntryLog.TheImpl as kept
 use Rattle.batch_book.specs.contracts.locked.Locked as Locked
 use Rattle.batch_book.specs.contracts.noted.NotedEntry as NotedEntry
 use Rattle.batch_book.specs.contracts.noted.NotedEntryOfSession.TheImpl.{ghosts}
-use Rattle.batch_book.specs.contracts.record_side.RecordSide as RecordSide
+use Rattle.batch_book.specs.contracts.writer_state.WriterState as WriterState
 use Rattle.batch_book.specs.contracts.recorder.NoRecorder as NoRecorder
 use Rattle.batch_book.specs.contracts.recorder.NoRecorderRecorder.TheImpl as no_recorder
 use Rattle.batch_book.specs.contracts.seat.Place as Place
@@ -48,11 +46,12 @@ use Rattle.batch_book.specs.contracts.seat.Seat as Seat
 use Rattle.batch_book.specs.contracts.shared.Shared as Shared
 use Rattle.batch_book.specs.contracts.shared.Shared.TheInside as Inside
 use Rattle.batch_book.specs.contracts.shared.Sides as Sides
-use Rattle.batch_book.specs.contracts.waiting.Waiting as Waiting
-use Rattle.batch_book.specs.contracts.waiting_entries.NoneWait as NoneWait
-use Rattle.batch_book.specs.contracts.waiting_entries.NoneWaitWaitingEntries.TheImpl as none_wait
+use Rattle.batch_book.specs.contracts.commit_queue.CommitQueue as CommitQueue
+use Rattle.batch_book.specs.contracts.silent.Silent as Silent
+use Rattle.batch_book.specs.contracts.silent.SilentEntryLog.TheImpl as silent_log
+use Rattle.batch_book.specs.contracts.silent.SilentPendingEntries.TheImpl as silent
+use Rattle.batch_book.specs.contracts.writer_state.Detached as Detached
 use denote.Enum.Declared as enum
-use mir.Syntax.{given}
 use Rattle.batch_book.proofs.access.ExchangeAccess.TheSendSync as access
 use denote.RattleType.{RattleType}
 use denote.Param.Send.{IsSend, IsSync, enum_sync, recorded_send, recorded_sync, struct_send, struct_sync, view_sync, sendable}
@@ -64,8 +63,8 @@ entry_send = search (crosses, sendable) depth 60 fits 20000
 kept_send : IsSend Kept.the_row
 kept_send = let e = entry_send in search (crosses, sendable) depth 60 fits 20000
 
-none_wait_send : IsSend NoneWait.the_row
-none_wait_send = search rules
+silent_send : IsSend Silent.the_row
+silent_send = search rules
 
 no_recorder_send : IsSend NoRecorder.the_row
 no_recorder_send = search sendable depth 20
@@ -73,11 +72,8 @@ no_recorder_send = search sendable depth 20
 noted_send : IsSend NotedEntry.the_row
 noted_send = search (crosses, sendable) depth 60 fits 20000
 
-book_send : (H E Q : RattleType) (t : History.Ghosts H.Denot E.Denot Q.Denot) (e : WaitingEntries.Ghosts E.Denot) (q : Recorder.Ghosts Q.Denot) → IsSend H → IsSend (Book.the_row H E Q t e q)
-book_send H E Q t e q s = search (crosses, sendable) depth 60 fits 20000
-
-lent_send : (E : RattleType) (e : WaitingEntries.Ghosts E.Denot) → IsSend E → IsSend (Lent.the_row E)
-lent_send E e s = search (crosses, sendable) depth 20
+book_send : (H : RattleType) (g : EntryLog.Ghosts H.Denot) → IsSend H → IsSend (Book.the_row H g)
+book_send H g s = search (crosses, sendable) depth 60 fits 20000
 
 module _ (L : RattleType) (n : ExchangeName.Ghosts L.Denot) (h : HistoryName.Ghosts L.Denot) (l : Ledger.Ghosts L.Denot) where
   keeper_send : IsSend (Keeper.the_row NotedEntry.the_row L ghosts h)
@@ -92,61 +88,60 @@ module _ (L : RattleType) (n : ExchangeName.Ghosts L.Denot) (h : HistoryName.Gho
   noted_list_send : IsSend (OwnList.the_row NotedEntry.the_row L h)
   noted_list_send = own.the_send NotedEntry.the_row L h noted_send
 
-  module _ (H E Q : RattleType) (t : History.Ghosts H.Denot E.Denot Q.Denot) (e : WaitingEntries.Ghosts E.Denot) (q : Recorder.Ghosts Q.Denot) where
-    waiting_send : IsSend (Waiting.the_row L H E Q n h t e q l)
+  module _ (E : RattleType) (e : PendingEntries.Ghosts E.Denot) (f : EntryLog.Ghosts E.Denot) where
+    waiting_send : IsSend (CommitQueue.the_row L E n h e f l)
     waiting_send =
-        let T = Waiting.the_type L H E Q n h t e q l in
-        recorded_send (Waiting.the_field L H E Q n h t e q l).row _ _ T.to_one
-        (struct_send (shape T) (search (crosses, sendable) depth 40, (search sendable depth 20, (search sendable depth 20, (search sendable depth 20, (search sendable depth 20, (search sendable depth 20, (search sendable depth 20, (search sendable depth 20, (search sendable depth 20, (search sendable depth 20, (search sendable depth 20, (search (crosses, sendable) depth 40, (total.the_send L l, (keeper_send, (search (crosses, sendable) depth 20, tt))))))))))))))))
+        let T = CommitQueue.the_type L E n h e f l in
+        recorded_send (CommitQueue.the_field L E n h e f l).row _ _ T.to_one
+        (struct_send (shape T) (search (crosses, sendable) depth 40, (search sendable depth 20, (search sendable depth 20, (search sendable depth 20, (search sendable depth 20, (search sendable depth 20, (search sendable depth 20, (search sendable depth 20, (search sendable depth 20, (search sendable depth 20, (search (crosses, sendable) depth 40, (total.the_send L l, (keeper_send, (search (crosses, sendable) depth 20, tt)))))))))))))))
 
-    record_send : IsSend Q → IsSend (RecordSide.the_row L H E Q n l h t e q)
-    record_send s =
-        let T = RecordSide.the_type L H E Q n l h t e q in
+  module _ (P W G H I : RattleType) (p : ConfigPort.Ghosts P.Denot) (w : WireMaker.Ghosts W.Denot I.Denot) (i : Wire.Ghosts I.Denot) where
+    locked_send : (g : EntryLog.Ghosts H.Denot) → IsSend P → IsSend W → IsSend G → IsSend H → IsSend (Locked.the_row L P W G H I n h p w i g l)
+    locked_send g sp sw sg sh =
+        let T = Locked.the_type L P W G H I n h p w i g l in
+        recorded_send (Locked.the_field L P W G H I n h p w i g l).row _ _ T.to_one
+        (struct_send (shape T) (book_send H g sh, (plant.the_field_send P W G sp sw sg, (total.the_send L l, (keeper_send, tt)))))
+
+    book_side_send : (E : RattleType) (e : PendingEntries.Ghosts E.Denot) (f : EntryLog.Ghosts E.Denot) → IsSend P → IsSend W → IsSend G → IsSend E → IsSend (BookState.the_row L P W G E I n l h p w i e f)
+    book_side_send E e f sp sw sg se =
+        let T = BookState.the_type L P W G E I n l h p w i e f in
         let o = noted_list_send in
-        recorded_send (RecordSide.the_field L H E Q n l h t e q).row _ _ T.to_one
-        (struct_send (shape T) (s, (search (crosses, sendable) depth 40, (search (crosses, sendable) depth 40, (search (crosses, sendable) depth 40, tt)))))
+        recorded_send (BookState.the_field L P W G E I n l h p w i e f).row _ _ T.to_one
+        (struct_send (shape T) (book_send E f se, (plant.the_field_send P W G sp sw sg, (search (crosses, sendable) depth 40, (search sendable depth 20, tt)))))
 
-  module _ (P W G H I E Q : RattleType) (p : ConfigPort.Ghosts P.Denot) (w : WireMaker.Ghosts W.Denot I.Denot) (i : Wire.Ghosts I.Denot) (t : History.Ghosts H.Denot E.Denot Q.Denot) (e : WaitingEntries.Ghosts E.Denot) (q : Recorder.Ghosts Q.Denot) where
-    locked_send : IsSend P → IsSend W → IsSend G → IsSend H → IsSend (Locked.the_row L P W G H I E Q n h p w i t e q l)
-    locked_send sp sw sg sh =
-        let T = Locked.the_type L P W G H I E Q n h p w i t e q l in
-        recorded_send (Locked.the_field L P W G H I E Q n h p w i t e q l).row _ _ T.to_one
-        (struct_send (shape T) (book_send H E Q t e q sh, (plant.the_field_send P W G sp sw sg, (total.the_send L l, (keeper_send, tt)))))
+    module _ (E Q : RattleType) (g : EntryLog.Ghosts H.Denot) (e : PendingEntries.Ghosts E.Denot) (f : EntryLog.Ghosts E.Denot) (q : Recorder.Ghosts Q.Denot) where
+      record_send : IsSend Q → IsSend (WriterState.the_row L H E Q n l h g e f q)
+      record_send s =
+          let T = WriterState.the_type L H E Q n l h g e f q in
+          let o = noted_list_send in
+          recorded_send (WriterState.the_field L H E Q n l h g e f q).row _ _ T.to_one
+          (struct_send (shape T) (s, (search (crosses, sendable) depth 40, (search (crosses, sendable) depth 40, (search (crosses, sendable) depth 40, tt)))))
 
-    book_side_send : IsSend P → IsSend W → IsSend G → IsSend E → IsSend (BookSide.the_row L P W G H I E Q n l h p w i t e q)
-    book_side_send sp sw sg se =
-        let T = BookSide.the_type L P W G H I E Q n l h p w i t e q in
-        let o = noted_list_send in
-        recorded_send (BookSide.the_field L P W G H I E Q n l h p w i t e q).row _ _ T.to_one
-        (struct_send (shape T) (book_send (Lent.the_row E) NoneWait.the_row NoRecorder.the_row (lent.ghosts E e (given 0)) none_wait.ghosts no_recorder.ghosts (lent_send E e se), (plant.the_field_send P W G sp sw sg, (search (crosses, sendable) depth 40, (search sendable depth 20, tt)))))
+      detached_sync : IsSend P → IsSend W → IsSend G → IsSend E → IsSend Q → IsSync (Detached.the_field L P W G H I E Q n l h p w i g e f q).row
+      detached_sync sp sw sg se sq =
+          struct_sync (shape (Detached.the_type L P W G H I E Q n l h p w i g e f q)) (
+            mutex.the_sync _ (book_side_send E e f sp sw sg se),
+            (mutex.the_sync _ (waiting_send E e f), (condvar.the_field_sync, (condvar.the_field_sync, (mutex.the_sync _ (record_send sq), tt)))),
+          )
 
-    sides_sync : IsSend P → IsSend W → IsSend G → IsSend H → IsSend E → IsSend Q → IsSync (Sides.the_field L P W G H I E Q n l h p w i t e q).row
-    sides_sync sp sw sg sh se sq =
-        let T = Sides.the_type L P W G H I E Q n l h p w i t e q in
-        enum_sync (enum.shape T) (
-          (mutex.the_sync (Locked.the_row L P W G H I E Q n h p w i t e q l) (locked_send sp sw sg sh), tt),
-          (
-            (
-              mutex.the_sync (BookSide.the_row L P W G H I E Q n l h p w i t e q) (book_side_send sp sw sg se),
-              (mutex.the_sync (Waiting.the_row L H E Q n h t e q l) (waiting_send H E Q t e q), (condvar.the_field_sync, (condvar.the_field_sync, (mutex.the_sync (RecordSide.the_row L H E Q n l h t e q) (record_send H E Q t e q sq), tt)))),
-            ),
-            tt,
-          ),
-        )
+      sides_sync : IsSend P → IsSend W → IsSend G → IsSend H → IsSend E → IsSend Q → IsSync (Sides.the_field L P W G H I E Q n l h p w i g e f q).row
+      sides_sync sp sw sg sh se sq =
+          let T = Sides.the_type L P W G H I E Q n l h p w i g e f q in
+          enum_sync (enum.shape T) ((mutex.the_sync _ (locked_send g sp sw sg sh), tt), ((detached_sync sp sw sg se sq, tt), tt))
 
-    pub any_shared_sync : IsSend P → IsSend W → IsSend G → IsSend H → IsSend E → IsSend Q → IsSync (Shared.the_row L P W G H I E Q n l h p w i t e q)
-    any_shared_sync sp sw sg sh se sq =
-        let T = Inside.the_type L P W G H I E Q n l h p w i t e q in
-        view_sync (Inside.the_row L P W G H I E Q n l h p w i t e q) _ _ _ _
-        (recorded_sync (Inside.the_field L P W G H I E Q n l h p w i t e q).row _ _ T.to_one
-        (struct_sync (shape T) (sides_sync sp sw sg sh se sq, (word.the_sync, (extent.the_sync, tt)))))
+      pub any_shared_sync : IsSend P → IsSend W → IsSend G → IsSend H → IsSend E → IsSend Q → IsSync (Shared.the_row L P W G H I E Q n l h p w i g e f q)
+      any_shared_sync sp sw sg sh se sq =
+          let T = Inside.the_type L P W G H I E Q n l h p w i g e f q in
+          view_sync (Inside.the_row L P W G H I E Q n l h p w i g e f q) _ _ _ _
+          (recorded_sync (Inside.the_field L P W G H I E Q n l h p w i g e f q).row _ _ T.to_one
+          (struct_sync (shape T) (sides_sync sp sw sg sh se sq, (word.the_sync, (extent.the_sync, tt)))))
 
   -- where the history is kept in memory
   pub shared_sync : (P W G I : RattleType) (p : ConfigPort.Ghosts P.Denot) (w : WireMaker.Ghosts W.Denot I.Denot) (i : Wire.Ghosts I.Denot) → IsSend P → IsSend W → IsSend G
-      → IsSync (Shared.the_row L P W G Kept.the_row I NoneWait.the_row NoRecorder.the_row n l h p w i kept.ghosts none_wait.ghosts no_recorder.ghosts)
-  shared_sync P W G I p w i sp sw sg = any_shared_sync P W G Kept.the_row I NoneWait.the_row NoRecorder.the_row p w i kept.ghosts none_wait.ghosts no_recorder.ghosts sp sw sg kept_send none_wait_send no_recorder_send
+      → IsSync (Shared.the_row L P W G Kept.the_row I Silent.the_row NoRecorder.the_row n l h p w i kept.ghosts silent.ghosts silent_log.ghosts no_recorder.ghosts)
+  shared_sync P W G I p w i sp sw sg = any_shared_sync P W G Kept.the_row I p w i Silent.the_row NoRecorder.the_row kept.ghosts silent.ghosts silent_log.ghosts no_recorder.ghosts sp sw sg kept_send silent_send no_recorder_send
 
 -- and port and wires never fail
 pub plain_sync : (L : RattleType) (n : ExchangeName.Ghosts L.Denot) (h : HistoryName.Ghosts L.Denot) (l : Ledger.Ghosts L.Denot)
-    → IsSync (Shared.the_row L MemoryPort.the_row PlainWires.the_row OpenGate.the_row Kept.the_row PlainWire.the_row NoneWait.the_row NoRecorder.the_row n l h port.ghosts wires.ghosts wire.ghosts kept.ghosts none_wait.ghosts no_recorder.ghosts)
+    → IsSync (Shared.the_row L MemoryPort.the_row PlainWires.the_row OpenGate.the_row Kept.the_row PlainWire.the_row Silent.the_row NoRecorder.the_row n l h port.ghosts wires.ghosts wire.ghosts kept.ghosts silent.ghosts silent_log.ghosts no_recorder.ghosts)
 plain_sync L n h l = shared_sync L n h l MemoryPort.the_row PlainWires.the_row OpenGate.the_row PlainWire.the_row port.ghosts wires.ghosts wire.ghosts memory_port.the_send plain_wires.the_send open_gate.the_send

@@ -22,9 +22,9 @@ front_more old es stands new e was is (inl same) = subst (λ (l : List Entry). S
 front_more old es stands new e was is (inr all) = starts_same stands new all
 
 -- what stands where an entry was drafted, and then pushed
-pub either_stands : {old mid new all : List Entry} → mid ≡ old → (new ≡ mid) ⊎ (new ≡ all) → (new ≡ old) ⊎ (new ≡ all)
-either_stands same (inl e) = inl (e ∙ same)
-either_stands same (inr e) = inr e
+pub either_stands : {old mid new all : List Entry} (loses : Bool) → mid ≡ old → (loses ≡ true → new ≡ mid) → (loses ≡ false → new ≡ all) → (new ≡ old) ⊎ (new ≡ all)
+either_stands true same waits now = inl (waits refl ∙ same)
+either_stands false same waits now = inr (now refl)
 
 pub stays_front : (old es stands new : List Entry) (e : Entry) → Starts old es → new ≡ es ++ e ∷ [] → (stands ≡ old) ⊎ (stands ≡ new) → Starts old stands
 stays_front old es stands new e was is (inl same) = starts_same old stands (sym same)
@@ -32,8 +32,8 @@ stays_front old es stands new e was is (inr all) = subst (Starts old) (sym all) 
 
 -- one step of the machine and one more entry, where there was room for it
 pub grown : (limited loses : Bool) (a : Account) (session : ℕ) (c : Call) (r : Reply) (es stands : List Entry) (n : Machine) (whole : Bool)
-    → IsKeptBook limited loses a → HasRoom limited a → es ≡ a.history ++ entry session c r ∷ [] → (stands ≡ a.stands) ⊎ (stands ≡ es) → IsMachineStep a.machine session c r n → whole ≡ a.whole → IsKeptBook limited loses (account a.opening es stands n whole)
-grown limited loses a session c r es stands n whole kept room is stood step same =
+    → IsKeptBook limited loses a → HasRoom limited a → es ≡ a.history ++ entry session c r ∷ [] → (stands ≡ a.stands) ⊎ (stands ≡ es) → (loses ≡ false → stands ≡ es) → IsMachineStep a.machine session c r n → whole ≡ a.whole → IsKeptBook limited loses (account a.opening es stands n whole)
+grown limited loses a session c r es stands n whole kept room is stood all step same =
     let small = small_step a.machine session c r n step in
     let given = small.given in let runs = small.runs in
     let given_before = kept.given in let runs_before = kept.runs in
@@ -46,6 +46,7 @@ grown limited loses a session c r es stands n whole kept room is stood step same
       few_given = omega arith;
       few_runs = omega arith;
       front = front_more a.stands a.history stands es (entry session c r) kept.front is stood;
+      all = all;
       lost = λ none. kept.lost (sym same ∙ none);
     }
 
@@ -53,32 +54,16 @@ grown limited loses a session c r es stands n whole kept room is stood step same
 pub is_answered : (old new : Account) (session : ℕ) (c : Call) (r : Reply) → old.whole ≡ true → new.whole ≡ true → is_logged r ≡ true → IsGrown old session c r new → IsAnswered old session c r new
 is_answered old new session c r was is logged more = record { was_whole = was; whole = is; grown = λ _. more; unlogged = λ un. absurd (true≢false (sym logged ∙ un)) }
 
--- ---- a recorder that is lent, and that comes back
-
-pub lent_kept : (limited loses : Bool) (a : Account) (es handed : List Entry) → IsKeptBook limited loses a → es ≡ a.history → handed ≡ a.history → IsKeptBook false true (account a.opening es handed a.machine true)
-lent_kept limited loses a es handed kept same all = record {
+-- with another history, where a recorder is lent, and where it comes back
+pub replaced : (limited its loses lost : Bool) (a : Account) (es stands : List Entry) (whole : Bool) → IsKeptBook limited loses a → its ≡ limited → lost ≡ true → es ≡ a.history → Starts stands es → IsKeptBook its lost (account a.opening es stands a.machine whole)
+replaced limited its loses lost a es stands whole kept kind is same front = record {
   replay = subst (λ (x : List Entry). IsReplay (opened a.opening) x a.machine) (sym same) kept.replay;
-  few = tt;
+  few = subst (λ (x : Bool × ℕ). IsWithin x.0 x.1) (λ i. (sym kind i, length (sym same i))) kept.few;
   given = let longer = ap length same in let given = kept.given in omega (arith, longer, given);
   runs = let longer = ap length same in let runs = kept.runs in omega (arith, longer, runs);
   few_given = kept.few_given;
   few_runs = kept.few_runs;
-  front = starts_same handed es (all ∙ sym same);
-  lost = λ never. absurd (true≢false never);
-}
-
-within_any : (limited : Bool) (n : ℕ) → limited ≡ false → IsWithin limited n
-within_any limited n is = subst (λ (b : Bool). IsWithin b n) (sym is) tt
-
-pub back_kept : (limited loses : Bool) (a : Account) (es stands recorded tried : List Entry) (whole : Bool) → IsKeptBook false true a → es ≡ a.history → stands ≡ recorded → Starts recorded tried → Starts tried a.stands → limited ≡ false → loses ≡ true
-    → IsKeptBook limited loses (account a.opening es stands a.machine whole)
-back_kept limited loses a es stands recorded tried whole kept same are first further free lost = record {
-  replay = subst (λ (x : List Entry). IsReplay (opened a.opening) x a.machine) (sym same) kept.replay;
-  few = within_any limited (length es) free;
-  given = let longer = ap length same in let given = kept.given in omega (arith, longer, given);
-  runs = let longer = ap length same in let runs = kept.runs in omega (arith, longer, runs);
-  few_given = kept.few_given;
-  few_runs = kept.few_runs;
-  front = subst (Starts stands) (sym same) (starts_then stands tried a.history (subst (λ (l : List Entry). Starts l tried) (sym are) first) (starts_then tried a.stands a.history further kept.front));
-  lost = λ never. lost;
+  front = front;
+  all = λ never. absurd (true≢false (sym is ∙ never));
+  lost = λ never. is;
 }

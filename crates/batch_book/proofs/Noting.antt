@@ -47,18 +47,18 @@ mark_has : (ns : List Noted) (session : ℕ) → has_mark (ns ++ mark session �
 mark_has [] session = refl
 mark_has (n ∷ ns) session = or_right (marks n) (has_mark (ns ++ mark session ∷ [])) (mark_has ns session)
 
--- behind what is no mark
+-- after what is no mark
 plain_has : (ns : List Noted) (m : Noted) → marks m ≡ false → has_mark (ns ++ m ∷ []) ≡ has_mark ns
 plain_has [] m plain = ap (λ (b : Bool). b || false) plain
 plain_has (n ∷ ns) m plain = ap (λ (b : Bool). marks n || b) (plain_has ns m plain)
 
--- behind a mark all could be told that was made
+-- after a mark all could be told that was made
 pub told_mark : (ns : List Noted) (session : ℕ) → marked_in (ns ++ mark session ∷ []) ≡ made_in ns
 told_mark [] session = refl
 told_mark (n ∷ ns) session =
     ap (λ (b : Bool). if b then made_by n ++ marked_in (ns ++ mark session ∷ []) else []) (mark_has (n ∷ ns) session) ∙ ap (λ (l : List Entry). made_by n ++ l) (told_mark ns session)
 
--- behind what is no mark no more could be told than before
+-- after what is no mark no more could be told than before
 pub told_plain : (ns : List Noted) (m : Noted) → marks m ≡ false → marked_in (ns ++ m ∷ []) ≡ marked_in ns
 told_plain [] m plain = ap (λ (b : Bool). if b || false then made_by m ++ [] else []) plain
 told_plain (n ∷ ns) m plain =
@@ -102,24 +102,6 @@ pub kept_more : (earlier : List Entry) (notes : List Noted) (old new : Account) 
 kept_more earlier notes old new session place c r is kept =
     grown_by old new session place c r is ∙ (ap (λ (es : List Entry). es ++ made_in (noted session place c r)) kept
     ∙ (append_assoc earlier (made_in notes) (made_in (noted session place c r)) ∙ ap (λ (es : List Entry). earlier ++ es) (sym (made_append notes (noted session place c r)))))
-
--- what stood where it belongs still does
-stand_if : (old new : Account) (session : ℕ) (c : Call) (r : Reply) (b : Bool) → is_logged r ≡ b → IsAnswered old session c r new → Starts old.stands new.stands
-stand_if old new session c r true is answered = (answered.grown is).stands
-stand_if old new session c r false is answered = starts_same old.stands new.stands (ap (λ (a : Account). a.stands) (sym (answered.unlogged is)))
-
-still_stand : (old new : Account) (session : ℕ) (c : Call) (r : Result Reply Unrecorded) → Applies old session c r new → Starts old.stands new.stands
-still_stand old new session c (Ok reply) is = stand_if old new session c reply (is_logged reply) refl is
-still_stand old new session c (Err lost) is = starts_same old.stands new.stands (ap (λ (a : Account). a.stands) (sym is.1))
-
-pub told_more : (earlier : List Entry) (notes : List Noted) (old new : Account) (session place : ℕ) (c : Call) (r : Result Reply Unrecorded)
-    → Applies old session c r new → Starts (earlier ++ marked_in notes) old.stands → Starts (earlier ++ marked_in (notes ++ noted session place c r)) new.stands
-told_more earlier notes old new session place c r is told =
-    subst (λ (es : List Entry). Starts (earlier ++ es) new.stands) (sym (told_noted notes session place c r)) (starts_then (earlier ++ marked_in notes) old.stands new.stands told (still_stand old new session c r is))
-
--- behind a mark where all entries stand
-pub told_all : (earlier stands history : List Entry) (notes : List Noted) (session : ℕ) → stands ≡ history → history ≡ earlier ++ made_in notes → Starts (earlier ++ marked_in (notes ++ mark session ∷ [])) stands
-told_all earlier stands history notes session all kept = starts_same _ stands (ap (λ (es : List Entry). earlier ++ es) (told_mark notes session) ∙ sym (all ∙ kept))
 
 -- ---- values
 
@@ -176,7 +158,7 @@ pub others_made : (session by : ℕ) (m : Option (Call × Reply)) → nat_eq by 
 others_made session by None is = refl
 others_made session by (Some m) is = ap (λ (b : Bool). cond b (entry by m.0 m.1 ∷ []) []) is
 
--- the entries of its notes, where some stand behind its own or another's
+-- the entries of its notes, where some stand after its own or another's
 own_behind : (session : ℕ) (n : Noted) (es : List Entry) → nat_eq n.session session ≡ true → own session (made_by n ++ es) ≡ made_by n ++ own session es
 own_behind session n es is = own_append session (made_by n) es ∙ ap (λ (l : List Entry). l ++ own session es) (own_made session n.session n.made is)
 
@@ -316,14 +298,12 @@ asked o p session place parts after broken breaks notes list c r reaches quiet s
 }
 
 -- where the reply can be told at once
-pub asked_all : (old new all : SeatState) (list : List Noted) (c : Call) (r : Result Reply Unrecorded) → IsAsked old c r new → new.asked ≡ made_in list → new.log ≡ marked_in list → all ≡ record new { log = new.asked } → IsAsked old c r all
-asked_all old new all list c r is made told same =
-    let f = told_front list in
-    let more : Starts new.log new.asked = starts new.log new.asked f.0 (made ∙ f.1 ∙ ap (λ (l : List Entry). l ++ f.0) (sym told)) in
+pub asked_all : (old new all : SeatState) (c : Call) (r : Result Reply Unrecorded) → IsAsked old c r new → Starts new.log new.asked → all ≡ record new { log = new.asked } → IsAsked old c r all
+asked_all old new all c r is front same =
     subst (IsAsked old c r) (sym same) record {
       seat = record { exchange = is.seat.exchange; session = is.seat.session; parts = is.seat.parts };
       asked = is.asked;
-      log = starts_then old.log new.log new.asked is.log more;
+      log = starts_then old.log new.log new.asked is.log front;
       later = is.later;
       seen = is.seen;
       quiet = is.quiet;

@@ -21,7 +21,7 @@ use Rattle.batch_book.specs.Machine.{Machine, opened, batch_of, Gives, accept, f
 use Rattle.batch_book.specs.History.{IsReplay, batch_number, run_number, given_numbers}
 use Rattle.batch_book.specs.Laws.{CountsUp}
 
--- behind a number that was given last, these were given and no others
+-- after a number that was given last, these were given and no others
 abbrev IsNext : ℕ → List ℕ → ℕ → Type 0
 IsNext last [] next = next ≡ last
 IsNext last (x ∷ xs) next = (x ≡ last + 1) × (xs ≡ []) × (next ≡ last + 1)

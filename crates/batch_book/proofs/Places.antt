@@ -14,7 +14,7 @@ use Rattle.batch_book.specs.Seats.{own}
 use Rattle.batch_book.specs.Places.{are_placed, are_up_to, last_lists, last_place, lists_or, notes_of, notes_to}
 use Rattle.batch_book.proofs.Noting.{own_append, own_made, others_made}
 
--- ---- no place is behind one
+-- ---- no place is after one
 
 pub up_to_more : (last more : ℕ) (ns : List Noted) (m : Noted) → are_up_to last ns ≡ true → last ≤ more → m.place ≤ more → are_up_to more (ns ++ m ∷ []) ≡ true
 up_to_more last more [] m low le at = and_from _ true (le-leb m.place more at) refl
@@ -31,7 +31,7 @@ pub low_noted : (last : ℕ) (ns : List Noted) (session : ℕ) (c : Call) (r : R
 low_noted last ns session c (Ok reply) low = low_if last ns session c reply (is_logged reply) low
 low_noted last ns session c (Err lost) low = ap (are_up_to last) (append-nil ns) ∙ low
 
--- all that are up to a place that isn't behind another
+-- all that are up to a place that isn't after another
 pub all_up_to : (last front : ℕ) (ns : List Noted) → are_up_to last ns ≡ true → last ≤ front → notes_to front ns ≡ ns
 all_up_to last front [] low le = refl
 all_up_to last front (n ∷ ns) low le =

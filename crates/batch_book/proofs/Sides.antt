@@ -150,7 +150,7 @@ module _ (texts : List Entry → List Entry → List ℕ) (earlier : List Entry)
         told = subst (λ (l : List Noted). AreMarkedUpTo 0 l) (sym none) (λ s. refl);
       }
 
-  -- a call, with the place behind all; what is handed on is what was, or all there is
+  -- a call, with the place after all; what is handed on is what was, or all there is
   pub called : (h new : List Noted) (session place : ℕ) (c : Call) (r : Reply) (handed more all : List Entry) (count counts upto : ℕ) (text now : List ℕ)
       → IsKnown texts earlier h handed count upto text → new ≡ (h ++ note session place c r ∷ []) ++ side_note BOOK_SIDE 0 all more ∷ []
       → all ≡ (earlier ++ made_in h) ++ entry session c r ∷ [] → length all ≡ length earlier + place
@@ -217,7 +217,7 @@ module _ (texts : List Entry → List Entry → List ℕ) (earlier : List Entry)
         told = subst (AreMarkedUpTo front) (sym grown) (told_further upto front (h ++ m ∷ []) le (told_plainly upto h m refl k.told));
       }
 
-  -- all that a session has asked can be told, since its last entry isn't behind this place
+  -- all that a session has asked can be told, since its last entry isn't after this place
   pub marked : (h new list : List Noted) (session last upto : ℕ) (handed : List Entry) (count : ℕ) (text : List ℕ)
       → IsKnown texts earlier h handed count upto text → new ≡ h ++ mark session ∷ [] → list ≡ notes_of session h → are_up_to last list ≡ true → last ≤ upto
       → IsKnown texts earlier new handed count upto text

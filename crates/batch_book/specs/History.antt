@@ -63,7 +63,7 @@ new_account store = account store [] [] (opened store) true
 
 -- ---- room; entries are limited in number, or they aren't
 
--- there is room for an entry behind so many
+-- there is room for an entry after so many
 abbrev pub has_room : Bool → ℕ → Bool
 has_room true n = nat_lt n MAX_ENTRIES
 has_room false n = true
@@ -89,8 +89,8 @@ IsFull true a = length a.history ≡ MAX_ENTRIES
 IsFull false a = (a.machine.given ≡ MAX_NUMBER) ⊎ (a.machine.runs ≡ MAX_NUMBER)
 
 -- The machine is the history's replay. There are no more entries than may be, nor more numbers than
--- entries, or than a line can hold. The first entries stand where they belong. An entry can be lost
--- only where the history's kind says so.
+-- entries, or than a line can hold. The first entries stand where they belong. An entry can wait or
+-- be lost only where the history's kind says so.
 pub record IsKeptBook (limited loses : Bool) (a : Account) : Type 0 where
   pub replay : IsReplay (opened a.opening) a.history a.machine
   pub few : IsWithin limited (length a.history)
@@ -99,6 +99,7 @@ pub record IsKeptBook (limited loses : Bool) (a : Account) : Type 0 where
   pub few_given : a.machine.given ≤ MAX_NUMBER
   pub few_runs : a.machine.runs ≤ MAX_NUMBER
   pub front : Starts a.stands a.history
+  pub all : loses ≡ false → a.stands ≡ a.history
   pub lost : a.whole ≡ false → loses ≡ true
 
 -- ---- growth

@@ -33,7 +33,7 @@ abbrev pub batch_in : Option KeptBatch → Option (List Transfer)
 batch_in None = None
 batch_in (Some h) = Some h.batch
 
--- Behind a run that left the machine's words: the reply that tells of it, and the next machine.
+-- After a run that left the machine's words: the reply that tells of it, and the next machine.
 -- Where there was no memory for the run, there is no reply.
 abbrev pub EndsRun : {E : Type 0} → Machine → ℕ → Outcome → Result Reply E → Machine → Type 0
 EndsRun m id (outcome.Completed settings words) r next =

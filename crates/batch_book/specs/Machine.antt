@@ -1,5 +1,5 @@
 -- The book as a machine: what it holds, and the steps that it makes. A step is the call of a
--- session, the reply, and the machine behind them. The calls, their refusals and the order in which
+-- session, the reply, and the machine after them. The calls, their refusals and the order in which
 -- these are tested are this project's choice.
 use Rattle.std.specs.Prelude.{◌≡◌, ℕ, ◌+◌, ◌==◌, nat_eq, nat_lt, if◌then◌else◌, List, [], ◌∷◌, ◌++◌, length, Option, Some, None}
 use Rattle.std.specs.Map.{lookup, set_value, remove_entry}
@@ -76,7 +76,7 @@ set_stage id s batches = staged id s batches (lookup (nat_eq id) batches)
 --   Show, Discard   Unknown
 --   Peek, Poke      Memory: NoModule, Misaligned, Outside
 
--- ---- all calls but a run: the one reply, and the machine behind it
+-- ---- all calls but a run: the one reply, and the machine after it
 
 -- that reply, and that machine
 abbrev pub Gives : Reply × Machine → Reply → Machine → Type 0

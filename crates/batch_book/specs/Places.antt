@@ -10,7 +10,7 @@ use Rattle.batch_book.specs.Seats.{SeatState, own}
 abbrev pub notes_of : ℕ → List Noted → List Noted
 notes_of session notes = own_of (λ n. n.session) session notes
 
--- behind so many entries, each has the next place
+-- after so many entries, each has the next place
 abbrev pub are_placed : ℕ → List Noted → Bool
 are_placed k [] = true
 are_placed k (n ∷ ns) =
@@ -20,7 +20,7 @@ are_placed k (n ∷ ns) =
 abbrev pub notes_to : ℕ → List Noted → List Noted
 notes_to front notes = filter (λ n. nat_le n.place front) notes
 
--- no place is behind this one
+-- no place is after this one
 abbrev pub are_up_to : ℕ → List Noted → Bool
 are_up_to last [] = true
 are_up_to last (n ∷ ns) = nat_le n.place last && are_up_to last ns

@@ -25,11 +25,6 @@ abbrev pub Applies : Account → ℕ → Call → Result Reply Unrecorded → Ac
 Applies old session call (Ok reply) new = IsAnswered old session call reply new
 Applies old session call (Err lost) new = (old.whole ≡ false) × (new ≡ old)
 
--- all entries stand where they belong; or those that stood, and no other will
-abbrev pub Flushes : Account → Result (Unit {0}) Unrecorded → Account → Type 0
-Flushes old (Ok done) new = (old.whole ≡ true) × (new ≡ record old { stands = old.history })
-Flushes old (Err lost) new = new ≡ record old { whole = false }
-
 -- the value of the reply
 abbrev pub value_made : Result Reply Unrecorded → ℕ
 value_made (Ok reply) = value_of reply

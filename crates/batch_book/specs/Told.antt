@@ -5,12 +5,12 @@ use Rattle.batch_book.specs.declared.call.Call.{Call}
 use Rattle.batch_book.specs.declared.call.Call.TheVariants.{Submit, Fetch, Settle, Run, Show, Discard, Peek, Poke}
 use Rattle.batch_book.specs.declared.reply.Reply.{Reply}
 use Rattle.batch_book.specs.declared.reply.Reply.TheVariants.{Fetched}
-use Rattle.batch_book.specs.declared.told_call.ToldCall.{ToldCall}
-use Rattle.batch_book.specs.declared.told_call.ToldCall.TheVariants as told_call
+use Rattle.batch_book.specs.declared.recorded_call.RecordedCall.{RecordedCall}
+use Rattle.batch_book.specs.declared.recorded_call.RecordedCall.TheVariants as told_call
 
 -- a call without its plan
 abbrev pub PlanlessCall : Type 0
-PlanlessCall = ToldCall (List Transfer)
+PlanlessCall = RecordedCall (List Transfer)
 
 -- what the history tells of a call
 abbrev pub told : Call → PlanlessCall

@@ -10,23 +10,23 @@ ghost use Rattle.batch_book.specs.Running.{plan_to_run};
 ghost use Rattle.batch_book.specs.Replies.{is_logged, outcome_of, outcome_in};
 ghost use Rattle.batch_book.specs.History.{new_account, IsReplay, IsLegal, IsFull, IsGrown, IsSound, IsKeptBook, Starts, account, has_book_room};
 ghost use Rattle.batch_book.specs.declared.entry.Entry.{Entry};
-ghost use Rattle.batch_book.specs.Recording.{Applies, Flushes, IsAnswered};
+ghost use Rattle.batch_book.specs.Recording.{Applies, IsAnswered};
 ghost use Rattle.batch_book.specs.Values.{greatest};
 
 use crate::call::Call;
 use crate::entry::Entry;
+use crate::entry_log::EntryLog;
+use crate::ghost_history::GhostHistory;
 use crate::history::History;
 use crate::holdings::Holdings;
 use crate::kept_history::Kept;
-use crate::lent::Lent;
 use crate::limits::{MAX_ENTRIES, MAX_NUMBER};
 use crate::logged::{LoggedCall, LoggedReply};
-use crate::past::PastEntries;
+use crate::pending_entries::PendingEntries;
 use crate::recorder::Recorder;
 use crate::refusal::BookRefusal;
 use crate::reply::Reply;
 use crate::unrecorded::Unrecorded;
-use crate::waiting_entries::WaitingEntries;
 use batch::Batch;
 use crossbar::ConfigPort;
 use module_memory::Rack;
@@ -71,7 +71,7 @@ impl BareBook {
 /// what was asked and answered. Contracts see the words that it was opened with, the history, its
 /// first entries, which stand where they belong, the machine that this has led to, step by step, and
 /// whether the others can still be put there.
-pub struct Book<H: History = Kept> {
+pub struct Book<H: EntryLog = Kept> {
     holdings: Holdings,
     opening: Rack,
     history: H,
@@ -80,7 +80,7 @@ pub struct Book<H: History = Kept> {
 }
 
 // Said once, so that no function that lets go of one has to say it again.
-impl<H: History + Drop> Drop for Book<H> {
+impl<H: EntryLog + Drop> Drop for Book<H> {
     fn drop(self) {
         let Book {
             holdings: _,
@@ -91,7 +91,7 @@ impl<H: History + Drop> Drop for Book<H> {
     }
 }
 
-impl<H: History> Model for Book<H> {
+impl<H: EntryLog> Model for Book<H> {
     ghost use Rattle.std.specs.Prelude.{◌≡◌};
     ghost use Rattle.batch_book.specs.History.{Account, account, IsKeptBook};
     ghost use Rattle.batch_book.specs.Values.{greatest};
@@ -134,7 +134,7 @@ impl Book<Kept> {
     }
 }
 
-impl<H: History> Book<H> {
+impl<H: EntryLog> Book<H> {
     /// The same, with this history, which is empty.
     pub fn with(alloc: Global, rack: Rack, history: H) -> Result<Book<H>, (Rack, H, AllocError)>
         requires empty { H.pushed history ≡ [] }
@@ -164,6 +164,7 @@ impl<H: History> Book<H> {
         ensures pushed { H.pushed result.now ≡ self.now.history }
         ensures stands { H.stands result.now ≡ self.now.stands }
         ensures whole { H.whole result.now ≡ self.now.whole }
+        ensures all { H.loses ≡ false → self.now.stands ≡ self.now.history }
         ensures replay { IsReplay (opened self.now.opening) self.now.history self.now.machine }
     {
         &self.history
@@ -265,8 +266,8 @@ impl<H: History> Book<H> {
     /// for them, and where there was no memory: then nothing has changed. A plan of a call that is
     /// refused is dropped.
     ///
-    /// The reply can be told once the entry stands where it belongs, which [`flush`](Book::flush)
-    /// sees to. Where one has failed before, no call is made.
+    /// The reply can be told once the entry stands where it belongs. Where one was lost before, no
+    /// call is made.
     ///
     /// Where there is no room no memory is asked for. Else all of it is taken before anything
     /// changes: for the entry, for the copy of a batch that is fetched, and for the run, if there
@@ -276,6 +277,7 @@ impl<H: History> Book<H> {
     /// A run takes its time, `Fetch` and `Settle` take time by the batch, and `Discard` by the
     /// batches that are held. All other calls take constant time, beside what the history takes,
     /// however long it is, but for those few at which its memory grows.
+    #[inline(always)]
     pub fn try_apply<
         R: Threads + Sync,
         P: ConfigPort,
@@ -293,7 +295,7 @@ impl<H: History> Book<H> {
 
         // One step of the machine, and one entry more.
         ensures step { Applies self.old session call result self.new }
-        ensures waits { H.waits ≡ true → self.new.stands ≡ self.old.stands }
+        ensures waits { H.loses ≡ true → self.new.stands ≡ self.old.stands }
         ensures opening { self.new.opening ≡ self.old.opening }
         ensures full { IfOk result (λ reply.
             (reply ≡ Reply.Refused BookRefusal.HistoryFull) ↔ IsFull H.limited self.old) }
@@ -319,6 +321,7 @@ impl<H: History> Book<H> {
 
     /// One call of a session, where there is room for its entry. For want of memory nothing
     /// changes.
+    #[inline(always)]
     fn enter<R: Threads + Sync, P: ConfigPort, W: WireMaker + Sync, G: Gate + Sync, N: Notice>(
         &mut self,
         rt: &R,
@@ -332,7 +335,7 @@ impl<H: History> Book<H> {
 
         ensures step { IfOk result (λ reply. IsAnswered self.old session call reply self.new) }
         ensures logged { IfOk result (λ reply. is_logged reply ≡ true) }
-        ensures waits { H.waits ≡ true → self.new.stands ≡ self.old.stands }
+        ensures waits { H.loses ≡ true → self.new.stands ≡ self.old.stands }
         ensures opening { self.new.opening ≡ self.old.opening }
         ensures unchanged { OnErr result (self.new ≡ self.old) }
 
@@ -353,23 +356,6 @@ impl<H: History> Book<H> {
         };
         self.history.push(entry);
         Ok(reply)
-    }
-
-    /// Whether entries may wait.
-    pub(crate) fn may_wait(&self) -> bool
-        ensures all { result ≡ false → self.now.stands ≡ self.now.history }
-        ensures never { H.loses ≡ false → result ≡ false }
-    {
-        self.history.may_wait()
-    }
-
-    /// Puts all entries that wait where they belong. Where that fails, or did before, those that
-    /// waited are lost, and no later call is made. It takes the time of the history's flush.
-    pub fn flush(&mut self) -> Result<(), Unrecorded>
-        ensures flushed { Flushes self.old result self.new }
-        ensures loses { OnErr result (H.loses ≡ true) }
-    {
-        self.history.flush()
     }
 
     /// The same as [`try_apply`](Book::try_apply) for a history that loses no entry, as [`Kept`]
@@ -402,17 +388,17 @@ impl<H: History> Book<H> {
     }
 }
 
-impl<E: WaitingEntries> Book<Lent<E>> {
+impl<E: PendingEntries> Book<E> {
     /// The entries of the history, for contracts alone.
-    pub(crate) fn past(&self) -> Snapshot<PastEntries>
+    pub(crate) fn past(&self) -> Snapshot<GhostHistory>
         ensures { result.value ≡ self.now.history }
     {
-        self.history.entries.past()
+        self.history.past()
     }
 
-    /// Hands on what waits: puts its text behind this one. Where there is no memory for it nothing
+    /// Hands on what waits: puts its text after this one. Where there is no memory for it nothing
     /// changes.
-    pub(crate) fn hand_on(&mut self, text: &mut Vec<u8>) -> Result<(), AllocError>
+    pub(crate) fn queue_text(&mut self, text: &mut Vec<u8>) -> Result<(), AllocError>
         ensures all { OnOk result (self.new ≡ record self.old { stands = self.old.history }) }
         ensures text { OnOk result ((taken : List Entry) → Starts taken self.old.stands
             → text.old.items ≡ E.texts taken self.old.stands
@@ -420,60 +406,50 @@ impl<E: WaitingEntries> Book<Lent<E>> {
         ensures none { OnErr result (self.new ≡ self.old) }
         ensures same { OnErr result (text.new.items ≡ text.old.items) }
     {
-        self.history.entries.hand_on(text)
+        self.history.queue_text(text)
     }
 }
 
-/// A book whose recorder is lent, and that; or the book as it was, where its history writes all
-/// itself.
-pub(crate) fn lend<H: History>(
-    book: Book<H>,
-) -> Result<(Book<Lent<H::Waiting>>, H::Recorder), Book<H>>
+/// A book whose recorder is lent, and that; or the book as it was, where its history loses no entry.
+pub(crate) fn lend<H: History>(book: Book<H>) -> Result<(Book<H::Pending>, H::Recorder), Book<H>>
     requires whole { book.whole ≡ true }
     requires all { book.stands ≡ book.history }
     ensures book { IfOk result (λ parts. parts.0 ≡ book) }
     ensures stands { IfOk result (λ parts. H.Recorder.stands parts.1 ≡ book.history) }
     ensures tried { IfOk result (λ parts. H.Recorder.tried parts.1 ≡ book.history) }
     ensures texts { OnOk result ((taken all : List Entry)
-        → H.Waiting.texts taken all ≡ H.Recorder.texts taken all) }
-    ensures loses { OnOk result (H.loses ≡ true) }
-    ensures limited { OnOk result (H.limited ≡ false) }
-    ensures lends { OnOk result (H.lends ≡ true) }
+        → H.Pending.texts taken all ≡ H.Recorder.texts taken all) }
+    ensures limited { OnOk result (H.Pending.limited ≡ H.limited) }
+    ensures loses { OnOk result ((H.loses ≡ true) × (H.Pending.loses ≡ true)) }
+    ensures sure { OnErr result (H.loses ≡ false) }
     ensures back { IfErr result (λ back. back ≡ book) }
 {
     let (bare, history) = book.part();
     match history.lend() {
-        Ok((entries, recorder)) => {
-            let lent = Lent {
-                entries,
-                is_whole: true,
-            };
-            Ok((Book::go_on(bare, lent), recorder))
-        }
+        Ok((pending, recorder)) => Ok((Book::go_on(bare, pending), recorder)),
         Err(history) => Err(Book::go_on(bare, history)),
     }
 }
 
-/// The book whose recorder is back, to which all was taken over that was handed on; or a writing
-/// failed.
-pub(crate) fn take_back<H: History>(book: Book<Lent<H::Waiting>>, recorder: H::Recorder) -> Book<H>
+/// The book whose recorder is back, which writes all that this hasn't got, unless a writing has
+/// failed: this text of the entries that were handed on, and that of the others.
+pub(crate) fn take_back<H: History>(
+    book: Book<H::Pending>,
+    recorder: H::Recorder,
+    text: &[u8],
+) -> Book<H>
     requires loses { H.loses ≡ true }
-    requires limited { H.limited ≡ false }
-    requires lends { H.lends ≡ true }
-    requires all { H.Recorder.whole recorder ≡ true → H.Recorder.tried recorder ≡ book.stands }
-    requires first { Starts (H.Recorder.tried recorder) book.stands }
+    requires limited { H.Pending.limited ≡ H.limited }
     requires stands { Starts (H.Recorder.stands recorder) (H.Recorder.tried recorder) }
-    ensures { result ≡ record book {
-      stands = H.Recorder.stands recorder;
-      whole = H.Recorder.whole recorder;
-    } }
+    requires first { Starts (H.Recorder.tried recorder) book.stands }
+    requires text { text.now ≡ H.Recorder.texts (H.Recorder.tried recorder) book.stands }
+    ensures opening { result.opening ≡ book.opening }
+    ensures history { result.history ≡ book.history }
+    ensures more { Starts (H.Recorder.stands recorder) result.stands }
+    ensures all { result.whole ≡ true → result.stands ≡ result.history }
 {
-    let (bare, lent) = book.part();
-    let Lent {
-        entries,
-        is_whole: _,
-    } = lent;
-    let Some(history) = H::take_back(entries, recorder) else {
+    let (bare, pending) = book.part();
+    let Some(history) = H::take_back(pending, recorder, text) else {
         unreachable!()
     };
     Book::go_on(bare, history)

@@ -9,7 +9,7 @@ ghost use Rattle.batch_book.specs.Seats.{Reaches};
 
 use crate::book::Book;
 use crate::call::Call;
-use crate::history::History;
+use crate::entry_log::EntryLog;
 use crate::raise::Raise;
 use crate::reply::Reply;
 use crate::unrecorded::Unrecorded;
@@ -21,12 +21,13 @@ use setting_runner::Plant;
 use std::thread::Threads;
 
 /// One call of the book, which raises the word from the watcher while a run goes on.
+#[inline(always)]
 pub(crate) fn apply<
     R: Threads + Sync,
     P: ConfigPort,
     W: WireMaker + Sync,
     G: Gate + Sync,
-    H: History,
+    H: EntryLog,
 >(
     rt: &R,
     book: &mut Book<H>,
@@ -40,7 +41,7 @@ pub(crate) fn apply<
     requires parts { 0 < watcher.parts }
     ensures reply { IfOk result.0 (IsReplyTo call) }
     ensures step { Applies book.old session call result.0 book.new }
-    ensures waits { H.waits ≡ true → book.new.stands ≡ book.old.stands }
+    ensures waits { H.loses ≡ true → book.new.stands ≡ book.old.stands }
     ensures opening { book.new.opening ≡ book.old.opening }
     ensures reaches { Reaches watcher (value_made result.0) result.1 }
     ensures quiet { value_made result.0 ≡ 0 → result.1 ≡ watcher }
@@ -62,7 +63,7 @@ pub(crate) fn apply<
     (made, watcher)
 }
 
-/// Whether a record is broken that was broken before, or behind such a call.
+/// Whether a record is broken that was broken before, or after such a call.
 pub(crate) fn is_broken(made: &Result<Reply, Unrecorded>, before: bool) -> bool
     ensures { result ≡ is_err made.now || before }
 {

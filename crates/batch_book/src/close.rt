@@ -1,6 +1,6 @@
 //! How an exchange is closed.
 
-ghost use Rattle.std.specs.Prelude.{◌≡◌, ◌≤◌, max, true, false, length, All, Some, IsSome};
+ghost use Rattle.std.specs.Prelude.{◌≡◌, ◌≤◌, max, true, length, All, Some, IsSome};
 ghost use Rattle.batch_book.specs.Recording.{made_in};
 ghost use Rattle.batch_book.specs.Closing.{AreClosed};
 ghost use Rattle.batch_book.specs.Places.{LogAgrees};
@@ -9,17 +9,18 @@ ghost use Rattle.batch_book.specs.Values.{greatest};
 
 use crate::access::ExchangeAccess;
 use crate::book::{Book, take_back};
-use crate::book_side::BookSide;
+use crate::book_state::BookState;
+use crate::commit_queue::CommitQueue;
+use crate::entry_log::EntryLog;
 use crate::history::History;
 use crate::kept_history::Kept;
 use crate::lists::have_all_parts;
 use crate::locked::Locked;
 use crate::naming::ExchangeName;
 use crate::noted::NotedEntry;
-use crate::record_side::RecordSide;
 use crate::seat::{Place, Seat};
 use crate::shared::{Shared, Sides};
-use crate::waiting::Waiting;
+use crate::writer_state::{Detached, WriterState};
 use crossbar::ConfigPort;
 use own_lists::Keeper;
 use peek_poke::WireMaker;
@@ -28,7 +29,7 @@ use setting_runner::Plant;
 
 /// What an exchange leaves.
 #[derive(Drop)]
-pub struct Closed<P, W, G, H: History = Kept> {
+pub struct Closed<P, W, G, H: EntryLog = Kept> {
     /// The book, with the history and the rack.
     pub book: Book<H>,
     /// What runs were made with.
@@ -65,25 +66,28 @@ impl<L: ExchangeName, P: ConfigPort, W: WireMaker, G, H: History> Shared<L, P, W
         let (sides, word) = self.into_parts();
         match sides {
             Sides::One(locked) => Ok(close_one(locked.into_inner(), &word, seats)),
-            Sides::Each {
-                book,
-                waiting,
-                odd: _,
-                even: _,
-                record,
-            } => Ok(close_each(
-                book.into_inner(),
-                waiting.into_inner(),
-                record.into_inner(),
-                &word,
-                seats,
-            )),
+            Sides::Each(sides) => {
+                let Detached {
+                    book,
+                    waiting,
+                    odd: _,
+                    even: _,
+                    record,
+                } = sides;
+                Ok(close_each(
+                    book.into_inner(),
+                    waiting.into_inner(),
+                    record.into_inner(),
+                    &word,
+                    seats,
+                ))
+            }
         }
     }
 }
 
 // What is left of an exchange with one lock.
-fn close_one<L: ExchangeName, P: ConfigPort, W: WireMaker, G, H: History>(
+fn close_one<L: ExchangeName, P: ConfigPort, W: WireMaker, G, H: EntryLog>(
     locked: Locked<L, P, W, G, H>,
     word: &ProgressWord,
     seats: Vec<Seat<L>>,
@@ -99,37 +103,38 @@ fn close_one<L: ExchangeName, P: ConfigPort, W: WireMaker, G, H: History>(
         mut entries,
         mut keeper,
     } = locked;
+    // Asked for only for its contract: all entries stand where they belong.
+    book.log();
     let mut all = gather(word, &mut keeper, seats);
     entries.audit(&mut all.share);
     word.load(&mut all.watcher);
     Closed { book, plant }
 }
 
-// What is left of an exchange whose recorder was lent: all that waits is written, if none of it was
-// lost.
+// What is left of an exchange whose recorder was lent: all that waits is written, unless a writing
+// has failed.
 fn close_each<L: ExchangeName, P: ConfigPort, W: WireMaker, G, H: History>(
-    book: BookSide<L, P, W, G, H>,
-    waiting: Waiting<L, H>,
-    record: RecordSide<L, H>,
+    book: BookState<L, P, W, G, H::Pending>,
+    waiting: CommitQueue<L, H::Pending>,
+    record: WriterState<L, H>,
     word: &ProgressWord,
     seats: Vec<Seat<L>>,
 ) -> Closed<P, W, G, H>
+    requires loses { H.loses ≡ true }
+    requires limited { H.Pending.limited ≡ H.limited }
     requires parts { L.parts ≡ ALL_PARTS }
     requires all { ALL_PARTS ≤ parts_of seats.items }
     requires seats { All (λ s. s.exchange ≡ Some word.now) seats.items }
     ensures { AreClosed P.ConfigPort W.is_sure L.opening L.earlier seats.items result.book }
 {
-    let mut waiting = waiting;
-    let mut record = record;
-    record.flush_last(&mut waiting);
-    let BookSide {
+    let BookState {
         book,
         plant,
         own,
         pushed: _,
     } = book;
-    let Waiting {
-        text: _,
+    let CommitQueue {
+        text,
         count: _,
         front: _,
         gathers: _,
@@ -138,14 +143,13 @@ fn close_each<L: ExchangeName, P: ConfigPort, W: WireMaker, G, H: History>(
         writes: _,
         round: _,
         taken_over: _,
-        lost: _,
         late: _,
         handed: _,
         mut entries,
         mut keeper,
         of: _,
     } = waiting;
-    let RecordSide {
+    let WriterState {
         recorder,
         taken: _,
         own: its,
@@ -158,7 +162,7 @@ fn close_each<L: ExchangeName, P: ConfigPort, W: WireMaker, G, H: History>(
     let mut all = gather(word, &mut keeper, seats);
     entries.audit(&mut all.share);
     word.load(&mut all.watcher);
-    let book = take_back::<H>(book, recorder);
+    let book = take_back::<H>(book, recorder, text.as_slice());
     Closed { book, plant }
 }
 

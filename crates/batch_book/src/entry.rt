@@ -12,6 +12,7 @@ pub struct Entry {
 
 // Said once, so that no function that lets go of one has to say it again.
 impl Drop for Entry {
+    #[inline(always)]
     fn drop(self) {
         let Entry {
             session: _,

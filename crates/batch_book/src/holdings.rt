@@ -15,10 +15,10 @@ ghost use Rattle.batch_book.specs.Told.{told};
 use crate::call::Call;
 use crate::kept::{KeptBatch, Stage};
 use crate::limits::{MAX_BATCHES, MAX_NUMBER};
+use crate::recorded_call::RecordedCall;
 use crate::refusal::BookRefusal;
 use crate::reply::Reply;
 use crate::shared_batch::SharedBatch;
-use crate::told_call::ToldCall;
 use batch::Batch;
 use crossbar::ConfigPort;
 use indexmap::IndexMap;
@@ -283,7 +283,7 @@ impl Holdings {
         self.end(id, &outcome)
     }
 
-    /// Brings a batch to the stage behind its run, which left these words, and gives the run's
+    /// Brings a batch to the stage after its run, which left these words, and gives the run's
     /// number.
     fn number(&mut self, id: usize, stage: Stage) -> usize
         requires { self.old.runs < MAX_NUMBER }
@@ -337,7 +337,7 @@ impl Holdings {
         call: Call,
         plant: &mut Plant<P, W, G>,
         notice: &mut N,
-    ) -> Result<(ToldCall<SharedBatch>, Reply), AllocError>
+    ) -> Result<(RecordedCall<SharedBatch>, Reply), AllocError>
         requires id { self.old.given < MAX_NUMBER }
         requires number { self.old.runs < MAX_NUMBER }
 
@@ -353,21 +353,27 @@ impl Holdings {
         match call {
             Call::Submit(batch) => {
                 let batch = SharedBatch::new(*self.batches.allocator(), batch)?;
-                let told = ToldCall::Submit(batch.share()?);
+                let told = RecordedCall::Submit(batch.share()?);
                 Ok((told, self.submit(session, batch)?))
             }
-            Call::Fetch(id) => Ok((ToldCall::Fetch(id), self.fetch(session, id)?)),
+            Call::Fetch(id) => Ok((RecordedCall::Fetch(id), self.fetch(session, id)?)),
             Call::Settle(id, planned) => {
-                Ok((ToldCall::Settle(id), self.settle(session, id, planned)))
+                Ok((RecordedCall::Settle(id), self.settle(session, id, planned)))
             }
-            Call::Run(id) => Ok((ToldCall::Run(id), self.run(rt, session, id, plant, notice)?)),
-            Call::Show(id) => Ok((ToldCall::Show(id), self.show(session, id))),
-            Call::Discard(id) => Ok((ToldCall::Discard(id), self.discard(session, id))),
+            Call::Run(id) => Ok((
+                RecordedCall::Run(id),
+                self.run(rt, session, id, plant, notice)?,
+            )),
+            Call::Show(id) => Ok((RecordedCall::Show(id), self.show(session, id))),
+            Call::Discard(id) => Ok((RecordedCall::Discard(id), self.discard(session, id))),
             Call::Peek(module, address) => {
-                Ok((ToldCall::Peek(module, address), self.peek(module, address)))
+                Ok((
+                    RecordedCall::Peek(module, address),
+                    self.peek(module, address),
+                ))
             }
             Call::Poke(module, address, word) => {
-                let told = ToldCall::Poke(module, address, word);
+                let told = RecordedCall::Poke(module, address, word);
                 Ok((told, self.poke(module, address, word)))
             }
         }

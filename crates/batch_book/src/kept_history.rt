@@ -4,11 +4,11 @@ ghost use Rattle.std.specs.Prelude.{◌≡◌, ◌<◌, [], true, false, vec_len
 
 use crate::call::Call;
 use crate::entry::Entry;
+use crate::entry_log::EntryLog;
 use crate::history::History;
 use crate::limits::MAX_ENTRIES;
 use crate::recorder::NoRecorder;
-use crate::unrecorded::Unrecorded;
-use crate::waiting_entries::NoneWait;
+use crate::silent::Silent;
 use std::alloc::{AllocError, Global};
 
 /// The entries in memory, at most [`MAX_ENTRIES`] of them.
@@ -34,11 +34,7 @@ impl Kept {
     }
 }
 
-impl History for Kept {
-    type Waiting = NoneWait;
-
-    type Recorder = NoRecorder;
-
+impl EntryLog for Kept {
     ghost pushed = { λ k. k.entries.items };
 
     ghost stands = { λ k. k.entries.items };
@@ -49,22 +45,10 @@ impl History for Kept {
 
     ghost loses = { false };
 
-    ghost waits = { false };
-
-    ghost lends = { false };
-
     ghost drafted = { λ k _ _. vec_len k.entries < vec_capacity k.entries };
 
     fn is_whole(&self) -> bool {
         true
-    }
-
-    fn groups() -> bool {
-        false
-    }
-
-    fn may_wait(&self) -> bool {
-        false
     }
 
     fn has_room(&self) -> bool {
@@ -78,16 +62,18 @@ impl History for Kept {
     fn push(&mut self, entry: Entry) {
         self.entries.push(entry).unwrap();
     }
+}
 
-    fn flush(&mut self) -> Result<(), Unrecorded> {
-        Ok(())
-    }
+impl History for Kept {
+    type Pending = Silent;
 
-    fn lend(self) -> Result<(NoneWait, NoRecorder), Kept> {
+    type Recorder = NoRecorder;
+
+    fn lend(self) -> Result<(Silent, NoRecorder), Kept> {
         Err(self)
     }
 
-    fn take_back(_waiting: NoneWait, _recorder: NoRecorder) -> Option<Kept> {
+    fn take_back(_pending: Silent, _recorder: NoRecorder, _text: &[u8]) -> Option<Kept> {
         None
     }
 }

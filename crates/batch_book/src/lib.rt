@@ -7,36 +7,38 @@
 //! that each reply in it is one that the machine may give there, and that batches and memories are
 //! where the history leads. A history leads to one machine (`laws::replays`).
 //!
-//! The entries go where the book's [`History`] puts them: [`Kept`] has them in memory, [`Silent`]
-//! is known to contracts alone, and others may write them, many at a time: entries may wait until
-//! [`Book::flush`] puts them there. Where that fails they are [`Unrecorded`], and no later call is
-//! made ([`Book::try_apply`], `Applies` and `Flushes` of `specs/Recording.antt`).
+//! The entries go where the book's [`EntryLog`] puts them: [`Kept`] has them in memory, [`Silent`]
+//! is known to contracts alone, and others may write them, many at a time. Where that fails they are
+//! [`Unrecorded`], and no later call is made ([`Book::try_apply`], `Applies` of
+//! `specs/Recording.antt`).
 //!
-//! A [`Shared`] is one exchange for many sessions: a book behind a lock, and a word that says how
+//! A [`Shared`] is one exchange for many sessions: a book under a lock, and a word that says how
 //! far the runs have come, which is read without the lock. Each session calls from its own
 //! [`Seat`]. Contracts see the list of what it asked, and of that what could be told: the entries
 //! that stood where they belong as [`Shared::settle`] was called. Where all seats are given back and
 //! the exchange closes, what each asked is the history filtered to its session, and what could be
 //! told to it stands where it belongs (`AreClosed` of `specs/Closing.antt`).
 //!
-//! A history may lend its [`Recorder`] ([`History::lend`]), as one does that writes. Then the
-//! recorder has a lock of its own, and [`Shared::settle`] doesn't take that of the book: so it waits
-//! for no run. Contracts say the same of both forms.
+//! A [`History`] whose entries wait until they are written lends its [`Recorder`]
+//! ([`History::lend`]). Then the recorder has a lock of its own, and [`Shared::settle`] doesn't take
+//! that of the book: so it waits for no run.
 #![tactic(auto)]
 
 mod access;
 mod book;
-mod book_side;
+mod book_state;
 mod call;
 mod calling;
 mod close;
+mod commit_queue;
 mod entry;
+mod entry_log;
+mod ghost_history;
 mod history;
 mod holdings;
 mod kept;
 mod kept_history;
 pub mod laws;
-mod lent;
 mod limits;
 mod lists;
 mod locked;
@@ -44,10 +46,10 @@ mod logged;
 mod naming;
 mod noted;
 mod open;
-mod past;
+mod pending_entries;
 mod raise;
 mod reading;
-mod record_side;
+mod recorded_call;
 mod recorder;
 mod refusal;
 mod reply;
@@ -55,15 +57,15 @@ mod seat;
 mod shared;
 mod shared_batch;
 mod silent;
-mod told_call;
 mod unrecorded;
-mod waiting;
-mod waiting_entries;
+mod writer_state;
 
 pub use book::{BareBook, Book};
 pub use call::Call;
 pub use close::{Closed, SeatMissing};
 pub use entry::Entry;
+pub use entry_log::EntryLog;
+pub use ghost_history::{GhostHistory, HistorySnapshot};
 pub use history::History;
 pub use kept::{BatchState, KeptBatch, Stage};
 pub use kept_history::Kept;
@@ -72,9 +74,10 @@ pub use logged::{LoggedCall, LoggedReply};
 pub use naming::{ExchangeBlank, ExchangeName};
 pub use noted::NotedEntry;
 pub use open::SharedFault;
-pub use past::{PastEntries, SeenEntries};
+pub use pending_entries::PendingEntries;
 pub use progress_word::ALL_PARTS;
 pub use reading::Reading;
+pub use recorded_call::RecordedCall;
 pub use recorder::{NoRecorder, Recorder};
 pub use refusal::BookRefusal;
 pub use reply::Reply;
@@ -82,6 +85,4 @@ pub use seat::Seat;
 pub use shared::Shared;
 pub use shared_batch::SharedBatch;
 pub use silent::Silent;
-pub use told_call::ToldCall;
 pub use unrecorded::Unrecorded;
-pub use waiting_entries::{NoneWait, WaitingEntries};

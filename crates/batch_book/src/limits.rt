@@ -15,7 +15,7 @@ pub const MAX_NUMBER: usize = 999_999_999;
 /// times the number of a run, and the settings of it that are done. No plan has as many settings.
 pub const RUN_STEP: u64 = 8192;
 
-/// The list of what the book's side has noted, behind those of all sessions.
+/// The list of what the book's side has noted, after those of all sessions.
 pub(crate) const BOOK_SIDE: usize = MAX_SESSIONS;
 
 /// The list of what the record's side has noted.

@@ -1,17 +1,17 @@
-//! What lies under the lock of an exchange whose history writes all itself.
+//! What lies under the lock of an exchange that loses no entry.
 
-ghost use Rattle.std.specs.Prelude.{◌≡◌, ◌+◌, ◌++◌, [], ◌∷◌, length, true, false, Some, IsSome, IfOk, OnErr};
+ghost use Rattle.std.specs.Prelude.{◌≡◌, ◌+◌, ◌++◌, length, true, false, Some, IsSome, IfOk, OnErr};
 ghost use Rattle.batch_book.specs.Answering.{IsReplyTo};
-ghost use Rattle.batch_book.specs.History.{AreUnstopped, Starts};
-ghost use Rattle.batch_book.specs.Recording.{Applies, Flushes, made_in, marked_in};
+ghost use Rattle.batch_book.specs.History.{AreUnstopped};
+ghost use Rattle.batch_book.specs.Recording.{Applies, made_in, marked_in};
 ghost use Rattle.batch_book.specs.Replies.{NeverFail};
-ghost use Rattle.batch_book.specs.Seats.{IsAsked, IsSettled, open_seat};
+ghost use Rattle.batch_book.specs.Seats.{IsAsked, open_seat};
 
 use crate::access::ExchangeAccess;
 use crate::book::Book;
 use crate::call::Call;
 use crate::calling::{apply, is_broken};
-use crate::history::History;
+use crate::entry_log::EntryLog;
 use crate::naming::ExchangeName;
 use crate::noted::{NotedEntry, note_call};
 use crate::reply::Reply;
@@ -29,31 +29,30 @@ use std::thread::Threads;
 
 /// The book and the plant, the ledger's total, which is the number of entries that were made, and
 /// the keeper of the sessions' lists, which knows what the book's history has beyond the entries
-/// that the exchange's name says. What could be told of these stands where it belongs. The book was
-/// opened with the words that the name says. Where port and wires never fail, no run of the book has
-/// stopped.
+/// that the exchange's name says. The book was opened with the words that the name says. Where port
+/// and wires never fail, no run of the book has stopped.
 #[derive(Drop)]
-pub struct Locked<L: ExchangeName, P: ConfigPort, W: WireMaker, G, H: History> {
+pub struct Locked<L: ExchangeName, P: ConfigPort, W: WireMaker, G, H: EntryLog> {
     pub book: Book<H>,
     pub plant: Plant<P, W, G>,
     pub entries: ledger::Book<L>,
     pub keeper: Keeper<NotedEntry, L>,
+    pub ghost sure: { H.loses ≡ false },
     pub ghost counted: { length (made_in keeper.history) ≡ entries.total },
     pub ghost kept: { book.history ≡ L.earlier ++ made_in keeper.history },
-    pub ghost told: { Starts (L.earlier ++ marked_in keeper.history) book.stands },
     pub ghost opened: { book.opening ≡ L.opening },
     pub ghost unstopped: { NeverFail P.ConfigPort W.is_sure → AreUnstopped book.history },
 }
 
-impl<L: ExchangeName, P: ConfigPort, W: WireMaker + Sync, G: Gate + Sync, H: History> Locked<
+impl<L: ExchangeName, P: ConfigPort, W: WireMaker + Sync, G: Gate + Sync, H: EntryLog> Locked<
     L,
     P,
     W,
     G,
     H,
 > {
-    /// One call of a seat. The history and what the seat asked get the entry, or neither does. Where
-    /// no entry waits the reply can be told.
+    /// One call of a seat. The history and what the seat asked get the entry, or neither does. The
+    /// reply can be told.
     pub fn call<R: Threads + Sync>(
         &mut self,
         rt: &R,
@@ -65,70 +64,42 @@ impl<L: ExchangeName, P: ConfigPort, W: WireMaker + Sync, G: Gate + Sync, H: His
         ensures reply { IfOk result (IsReplyTo call) }
         ensures step { Applies self.old.book seat.old.session call result self.new.book }
         ensures asked { IsAsked seat.old call result seat.new }
-        ensures told { H.loses ≡ false → seat.new.log ≡ seat.new.asked }
+        ensures told { seat.new.log ≡ seat.new.asked }
         ensures loses { OnErr result (H.loses ≡ true) }
     {
         let session = seat.session;
         let Some(place) = seat.place.take() else {
             unreachable!()
         };
-        let (made, place) = self.make(rt, word, session, place, call);
-        seat.place = Some(place);
+        let (made, place) = self.ask(rt, word, session, place, call);
+        seat.place = Some(self.mark(session, place));
         made
     }
 
-    /// Puts all entries that wait where they belong. All that the seat has asked can be told then.
-    pub fn settle(&mut self, seat: &mut Seat<L>) -> Result<(), Unrecorded>
+    /// Notes that all that the seat has asked can be told.
+    pub fn settle(&mut self, seat: &mut Seat<L>)
         requires { IsSome seat.old.exchange }
-        ensures flushed { Flushes self.old.book result self.new.book }
-        ensures settled { IsSettled seat.old result seat.new }
-        ensures loses { OnErr result (H.loses ≡ true) }
+        ensures book { self.new.book ≡ self.old.book }
+        ensures seat { seat.new ≡ record seat.old { log = seat.old.asked } }
     {
         let session = seat.session;
         let Some(place) = seat.place.take() else {
             unreachable!()
         };
-        match self.book.flush() {
-            Ok(()) => {
-                seat.place = Some(mark(&mut self.keeper, session, place));
-                Ok(())
-            }
-            Err(lost) => {
-                seat.place = Some(place.break_off());
-                Err(lost)
-            }
-        }
+        seat.place = Some(self.mark(session, place));
     }
 
-    // One call of the book, whose reply can be told at once where no entry waits.
-    fn make<R: Threads + Sync>(
-        &mut self,
-        rt: &R,
-        word: &ProgressWord,
-        session: usize,
-        place: Place<L>,
-        call: Call,
-    ) -> (Result<Reply, Unrecorded>, Place<L>)
-        requires word { place.access.watcher.word ≡ word.now }
+    // Notes that all that a session has asked can be told.
+    fn mark(&mut self, session: usize, place: Place<L>) -> Place<L>
         requires session { place.own.session ≡ session }
-        ensures reply { IfOk result.0 (IsReplyTo call) }
-        ensures step { Applies self.old.book session call result.0 self.new.book }
-        ensures asked { IsAsked
-            (open_seat place.access.watcher session (made_in place.own.list)
-            (marked_in place.own.list) place.access.parts place.broken)
-            call result.0
-            (open_seat result.1.access.watcher session (made_in result.1.own.list)
-            (marked_in result.1.own.list) result.1.access.parts result.1.broken) }
-        ensures told { H.loses ≡ false → marked_in result.1.own.list ≡ made_in result.1.own.list }
-        ensures session { result.1.own.session ≡ session }
-        ensures loses { OnErr result.0 (H.loses ≡ true) }
+        ensures book { self.new.book ≡ self.old.book }
+        ensures access { result.access ≡ place.access }
+        ensures made { made_in result.own.list ≡ made_in place.own.list }
+        ensures told { marked_in result.own.list ≡ made_in place.own.list }
+        ensures session { result.own.session ≡ session }
+        ensures broken { result.broken ≡ place.broken }
     {
-        let (made, place) = self.ask(rt, word, session, place, call);
-        if self.book.may_wait() {
-            return (made, place);
-        }
-        let place = mark(&mut self.keeper, session, place);
-        (made, place)
+        mark(&mut self.keeper, session, place)
     }
 
     // One call of the book, which raises the word from the access's watcher, and is noted.

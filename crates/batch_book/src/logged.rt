@@ -5,9 +5,9 @@ ghost use Rattle.std.specs.Option.{option_copied};
 ghost use Rattle.batch_book.specs.Told.{told, IsKeptOf};
 
 use crate::call::Call;
+use crate::recorded_call::RecordedCall;
 use crate::reply::Reply;
 use crate::shared_batch::SharedBatch;
-use crate::told_call::ToldCall;
 use std::marker::Model;
 use std::snapshot::Snapshot;
 
@@ -15,7 +15,7 @@ use std::snapshot::Snapshot;
 /// while that has it. Contracts see the whole call.
 #[derive(Drop)]
 pub struct LoggedCall {
-    kept: ToldCall<SharedBatch>,
+    kept: RecordedCall<SharedBatch>,
     asked: Snapshot<Call>,
 }
 
@@ -33,7 +33,7 @@ impl Model for LoggedCall {
 
 impl LoggedCall {
     /// This call, of which that is kept.
-    pub(crate) fn new(asked: Snapshot<Call>, kept: ToldCall<SharedBatch>) -> LoggedCall
+    pub(crate) fn new(asked: Snapshot<Call>, kept: RecordedCall<SharedBatch>) -> LoggedCall
         requires { kept ≡ told asked.value }
         ensures { result ≡ asked.value }
     {
@@ -41,7 +41,7 @@ impl LoggedCall {
     }
 
     /// All of the call, but its plan.
-    pub fn told(&self) -> &ToldCall<SharedBatch>
+    pub fn told(&self) -> &RecordedCall<SharedBatch>
         ensures { result.now ≡ told self.now }
     {
         &self.kept
@@ -68,6 +68,7 @@ impl Model for LoggedReply {
 
 impl LoggedReply {
     /// What the history keeps of a reply. It takes no memory.
+    #[inline(always)]
     pub(crate) fn of(reply: &Reply) -> LoggedReply
         ensures { result ≡ reply.now }
     {

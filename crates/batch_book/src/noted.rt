@@ -4,8 +4,8 @@ ghost use Rattle.std.specs.Prelude.{◌≡◌, ◌++◌, ◌+◌, ◌<◌, lengt
 ghost use Rattle.batch_book.specs.Recording.{note, mark, side_note, noted, made_in};
 
 use crate::call::Call;
+use crate::ghost_history::HistorySnapshot;
 use crate::naming::ExchangeName;
-use crate::past::SeenEntries;
 use crate::reply::Reply;
 use crate::unrecorded::Unrecorded;
 use own_lists::{Keeper, OfSession, OwnList};
@@ -22,7 +22,7 @@ pub struct NotedEntry {
     session: Snapshot<usize>,
     made: Option<(Snapshot<Call>, Snapshot<Reply>)>,
     place: Snapshot<u64>,
-    lists: Option<(Snapshot<SeenEntries>, Snapshot<SeenEntries>)>,
+    lists: Option<(Snapshot<HistorySnapshot>, Snapshot<HistorySnapshot>)>,
 }
 
 impl Model for NotedEntry {
@@ -73,8 +73,8 @@ impl NotedEntry {
     pub(crate) fn side(
         side: usize,
         place: u64,
-        all: &SeenEntries,
-        handed: &SeenEntries,
+        all: &HistorySnapshot,
+        handed: &HistorySnapshot,
     ) -> NotedEntry
         ensures { result ≡ side_note side place all.now.value.value handed.now.value.value }
     {

@@ -13,17 +13,17 @@ ghost use Rattle.batch_book.specs.Values.{greatest};
 
 use crate::access::ExchangeAccess;
 use crate::book::{Book, lend};
-use crate::book_side::BookSide;
+use crate::book_state::BookState;
+use crate::commit_queue::CommitQueue;
 use crate::history::History;
 use crate::kept_history::Kept;
 use crate::locked::Locked;
 use crate::naming::{ExchangeBlank, ExchangeName};
 use crate::noted::NotedEntry;
-use crate::record_side::RecordSide;
 use crate::recorder::Recorder;
 use crate::seat::Seat;
 use crate::shared::{Shared, Sides};
-use crate::waiting::Waiting;
+use crate::writer_state::{Detached, WriterState};
 use crossbar::ConfigPort;
 use exchange_limits::MAX_SESSIONS;
 use module_memory::Rack;
@@ -226,16 +226,16 @@ fn part<L: ExchangeName, P: ConfigPort, W: WireMaker, G, H: History>(
     let handed = book.past();
     let taken = Snapshot::of(&book.past());
     let gathers = recorder.gathers();
-    // Asked for only for its contract, which says that no text is behind all entries.
+    // Asked for only for its contract, which says that no text is after all entries.
     recorder.is_whole();
-    Sides::Each {
-        book: Mutex::new(BookSide {
+    Sides::Each(Detached {
+        book: Mutex::new(BookState {
             book,
             plant,
             own: Some(own),
             pushed: 0,
         }),
-        waiting: Mutex::new(Waiting {
+        waiting: Mutex::new(CommitQueue {
             text: Vec::new(alloc),
             count: 0,
             front: 0,
@@ -245,7 +245,6 @@ fn part<L: ExchangeName, P: ConfigPort, W: WireMaker, G, H: History>(
             writes: false,
             round: 0,
             taken_over: 0,
-            lost: false,
             late: false,
             handed,
             entries,
@@ -254,16 +253,16 @@ fn part<L: ExchangeName, P: ConfigPort, W: WireMaker, G, H: History>(
         }),
         odd: Condvar::new(),
         even: Condvar::new(),
-        record: Mutex::new(RecordSide {
+        record: Mutex::new(WriterState {
             recorder,
             taken,
             own: Some(its),
             spare: Vec::new(alloc),
         }),
-    }
+    })
 }
 
-// The lists of the book's side and of the record's, behind those of all sessions that there may be.
+// The lists of the book's side and of the record's, after those of all sessions that there may be.
 fn deal_sides<L: ExchangeName>(
     keeper: &mut Keeper<NotedEntry, L>,
     sessions: usize,

@@ -4,7 +4,7 @@ ghost use Rattle.std.specs.Prelude.{◌≡◌, [], true, false, ℕ, Bool, List,
 ghost use Rattle.batch_book.specs.declared.entry.Entry.{Entry};
 ghost use Rattle.batch_book.specs.History.{Starts};
 
-use crate::past::SeenEntries;
+use crate::ghost_history::HistorySnapshot;
 use crate::unrecorded::Unrecorded;
 use std::snapshot::Snapshot;
 
@@ -20,7 +20,7 @@ pub trait Recorder {
     /// Whether no writing has failed.
     ghost whole: { Self → Bool };
 
-    /// Behind these entries, of all of those, the text of the others.
+    /// After these entries, of all of those, the text of the others.
     ghost texts: { List Entry → List Entry → List ℕ };
 
     /// Whether no writing has failed.
@@ -32,7 +32,7 @@ pub trait Recorder {
     fn gathers(&self) -> bool;
 
     /// Writes the text of all of these entries that weren't taken over yet.
-    fn append(&mut self, all: &SeenEntries, text: &[u8]) -> Result<(), Unrecorded>
+    fn append(&mut self, all: &HistorySnapshot, text: &[u8]) -> Result<(), Unrecorded>
         requires whole { whole self.old ≡ true }
         requires first { Starts (tried self.old) all.now.value.value }
         requires text { text.now ≡ texts (tried self.old) all.now.value.value }
@@ -46,8 +46,8 @@ pub trait Recorder {
 /// What is in a recorder's place where a history writes all itself. It writes nothing.
 #[derive(Drop)]
 pub struct NoRecorder {
-    stands: Snapshot<SeenEntries>,
-    tried: Snapshot<SeenEntries>,
+    stands: Snapshot<HistorySnapshot>,
+    tried: Snapshot<HistorySnapshot>,
     is_whole: bool,
 }
 
@@ -70,7 +70,7 @@ impl Recorder for NoRecorder {
         false
     }
 
-    fn append(&mut self, all: &SeenEntries, _text: &[u8]) -> Result<(), Unrecorded> {
+    fn append(&mut self, all: &HistorySnapshot, _text: &[u8]) -> Result<(), Unrecorded> {
         self.tried = Snapshot::of(all);
         self.is_whole = false;
         Err(Unrecorded)

@@ -22,7 +22,7 @@ pub enum BookRefusal {
     /// The plan is one of another batch.
     #[error("stranger")]
     Stranger,
-    /// The batch has its plan, where one is handed in; or its run is behind it.
+    /// The batch has its plan, where one is handed in; or its run is after it.
     #[error("already")]
     Already,
     /// The rack has no such word.

@@ -14,7 +14,7 @@ use own_lists::{Keeper, OwnList};
 use progress_word::ALL_PARTS;
 use std::marker::Model;
 
-/// What a seat has of its exchange: its access, its session's list, behind which place it has no
+/// What a seat has of its exchange: its access, its session's list, after which place it has no
 /// entry, whether it may have asked something that can't be told yet, and whether the record of its
 /// calls is broken.
 #[derive(Drop)]

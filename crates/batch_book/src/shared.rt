@@ -5,7 +5,6 @@ ghost use Rattle.batch_book.specs.Answering.{IsReplyTo};
 ghost use Rattle.batch_book.specs.Seats.{IsSameSeat, IsAsked, IsSettled, HasRaisedOwn};
 ghost use Rattle.batch_book.specs.Values.{value_at};
 
-use crate::book_side::BookSide;
 use crate::call::Call;
 use crate::history::History;
 use crate::kept_history::Kept;
@@ -13,11 +12,10 @@ use crate::limits::RUN_STEP;
 use crate::locked::Locked;
 use crate::naming::ExchangeName;
 use crate::reading::Reading;
-use crate::record_side::{RecordSide, settle};
 use crate::reply::Reply;
 use crate::seat::Seat;
 use crate::unrecorded::Unrecorded;
-use crate::waiting::Waiting;
+use crate::writer_state::Detached;
 use batch::Shape;
 use crossbar::ConfigPort;
 use peek_poke::WireMaker;
@@ -25,7 +23,7 @@ use progress_word::ProgressWord;
 use schedule_certificate::Gate;
 use std::hint::spin_loop;
 use std::marker::Model;
-use std::sync::{Condvar, Mutex, MutexGuard, Wait};
+use std::sync::{Mutex, MutexGuard, Wait};
 use std::thread;
 use std::thread::Threads;
 use std::time::Clock;
@@ -70,7 +68,7 @@ fn take<'b, T, R: Wait>(rt: &R, lock: &'b Mutex<T>) -> MutexGuard<'b, T> {
     lock.lock(rt)
 }
 
-/// One exchange for many sessions: a book and its plant behind a lock, a recorder that is lent behind
+/// One exchange for many sessions: a book and its plant under a lock, a recorder that is lent under
 /// another, and beside them a word that says how far the runs have come. Each session calls from a
 /// [`Seat`] of its own. Contracts see which exchange it is, and the shape of its rack.
 #[derive(Drop)]
@@ -83,18 +81,10 @@ pub struct Shared<L: ExchangeName, P: ConfigPort, W: WireMaker, G, H: History = 
 /// What lies under the locks of an exchange.
 #[derive(Drop)]
 pub(crate) enum Sides<L: ExchangeName, P: ConfigPort, W: WireMaker, G, H: History> {
-    /// All under one, where the history writes all itself.
+    /// All under one, where no entry can be lost.
     One(Mutex<Locked<L, P, W, G, H>>),
-    /// The book, what waits, and the record; and where seats sleep while another writes. Who has the
-    /// book's lock or the record's may wait for that of what waits. Nobody waits for one of those
-    /// two who has the other, or that of what waits.
-    Each {
-        book: Mutex<BookSide<L, P, W, G, H>>,
-        waiting: Mutex<Waiting<L, H>>,
-        odd: Condvar,
-        even: Condvar,
-        record: Mutex<RecordSide<L, H>>,
-    },
+    /// The book, what waits and the record under one each, where the recorder is lent.
+    Each(Detached<L, P, W, G, H>),
 }
 
 impl<L: ExchangeName, P: ConfigPort, W: WireMaker, G, H: History> Model for Shared<L, P, W, G, H> {
@@ -136,7 +126,18 @@ impl<L: ExchangeName, P: ConfigPort, W: WireMaker, G, H: History> Shared<L, P, W
         self.shape
     }
 
-    /// How far the runs have come, which isn't behind what the seat has seen. One atomic load: it
+    /// Whether the seat may have asked something that can't be told yet: never where no entry can be
+    /// lost. It takes no lock.
+    pub fn waits(&self, seat: &Seat<L>) -> bool
+        ensures { result ≡ true → H.loses ≡ true }
+    {
+        match &self.sides {
+            Sides::One(_) => false,
+            Sides::Each(_) => seat.waits(),
+        }
+    }
+
+    /// How far the runs have come, which isn't after what the seat has seen. One atomic load: it
     /// takes no lock, and waits for no run.
     pub fn progress(&self, seat: &mut Seat<L>) -> Reading
         requires { seat.old.exchange ≡ Some self.now.word }
@@ -190,9 +191,9 @@ impl<L: ExchangeName, P: ConfigPort, W: WireMaker + Sync, G: Gate + Sync, H: His
     {
         match &self.sides {
             Sides::One(locked) => take(rt, locked).call(rt, &self.word, seat, call),
-            Sides::Each { book, waiting, .. } => take(rt, book).call(
-                rt, waiting, &self.word, seat, call,
-            ),
+            Sides::Each(sides) => {
+                take(rt, &sides.book).call(rt, &sides.waiting, &self.word, seat, call)
+            }
         }
     }
 
@@ -227,14 +228,11 @@ impl<L: ExchangeName, P: ConfigPort, W: WireMaker + Sync, G: Gate + Sync, H: His
             return Ok(());
         }
         match &self.sides {
-            Sides::One(locked) => take(rt, locked).settle(seat),
-            Sides::Each {
-                book: _,
-                waiting,
-                odd,
-                even,
-                record,
-            } => settle(rt, waiting, odd, even, record, seat),
+            Sides::One(locked) => {
+                take(rt, locked).settle(seat);
+                Ok(())
+            }
+            Sides::Each(sides) => sides.settle(rt, seat),
         }
     }
 }

@@ -4,18 +4,19 @@ ghost use Rattle.std.specs.Prelude.{◌≡◌, [], true, false};
 
 use crate::call::Call;
 use crate::entry::Entry;
+use crate::entry_log::EntryLog;
+use crate::ghost_history::GhostHistory;
 use crate::history::History;
-use crate::past::PastEntries;
+use crate::pending_entries::PendingEntries;
 use crate::recorder::NoRecorder;
-use crate::unrecorded::Unrecorded;
-use crate::waiting_entries::NoneWait;
 use std::alloc::AllocError;
+use std::snapshot::Snapshot;
 
 /// Entries that go nowhere. They take no memory, and there may be any number of them.
 #[derive(Drop)]
 pub struct Silent {
     /// The entries, which contracts alone see.
-    pub past: PastEntries,
+    pub past: GhostHistory,
 }
 
 impl Silent {
@@ -24,16 +25,12 @@ impl Silent {
         ensures { result.past ≡ [] }
     {
         Silent {
-            past: PastEntries::none(),
+            past: GhostHistory::none(),
         }
     }
 }
 
-impl History for Silent {
-    type Waiting = NoneWait;
-
-    type Recorder = NoRecorder;
-
+impl EntryLog for Silent {
     ghost pushed = { λ s. s.past };
 
     ghost stands = { λ s. s.past };
@@ -44,22 +41,10 @@ impl History for Silent {
 
     ghost loses = { false };
 
-    ghost waits = { false };
-
-    ghost lends = { false };
-
     ghost drafted = { λ _ _ _. Unit {0} };
 
     fn is_whole(&self) -> bool {
         true
-    }
-
-    fn groups() -> bool {
-        false
-    }
-
-    fn may_wait(&self) -> bool {
-        false
     }
 
     fn has_room(&self) -> bool {
@@ -73,16 +58,31 @@ impl History for Silent {
     fn push(&mut self, entry: Entry) {
         self.past.add(&entry);
     }
+}
 
-    fn flush(&mut self) -> Result<(), Unrecorded> {
-        Ok(())
+// In the place of what is left of a history that lends no recorder.
+impl PendingEntries for Silent {
+    ghost texts = { λ _ _. [] };
+
+    fn past(&self) -> Snapshot<GhostHistory> {
+        Snapshot::of(&self.past)
     }
 
-    fn lend(self) -> Result<(NoneWait, NoRecorder), Silent> {
+    fn queue_text(&mut self, _text: &mut Vec<u8>) -> Result<(), AllocError> {
+        Ok(())
+    }
+}
+
+impl History for Silent {
+    type Pending = Silent;
+
+    type Recorder = NoRecorder;
+
+    fn lend(self) -> Result<(Silent, NoRecorder), Silent> {
         Err(self)
     }
 
-    fn take_back(_waiting: NoneWait, _recorder: NoRecorder) -> Option<Silent> {
+    fn take_back(_pending: Silent, _recorder: NoRecorder, _text: &[u8]) -> Option<Silent> {
         None
     }
 }

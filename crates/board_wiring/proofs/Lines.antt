@@ -7,15 +7,15 @@ use Rattle.batch.specs.Text.{IsNumber, number, space, line_feed}
 use Rattle.batch.proofs.Lines.{Ends, ends_line, ends_space, one_number}
 use Rattle.c004_commands.specs.declared.port.TheConstants.{PORTS}
 use Rattle.crossbar.specs.declared.switch.TheConstants.{JOINED_MODULES}
-use Rattle.line_words.proofs.Numbers.{behind_word}
+use Rattle.line_words.proofs.Numbers.{after_word}
 use Rattle.board_wiring.specs.Faults.{AreModules, HasPorts, IsPort}
 use Rattle.board_wiring.specs.Modules.{are_wired}
 use Rattle.board_wiring.specs.Text.{links, line, lines_of, place}
 use Rattle.board_wiring.specs.declared.wired_module.WiredModule.{WiredModule}
 
--- what stands behind a number is one, and so is the number
-pub behind_number : (bytes words : List ℕ) (n m e : ℕ) (a b : List ℕ) → Ends e → IsNumber n → IsNumber m → bytes ≡ words ++ (number n e ++ a) → bytes ≡ words ++ (number m e ++ b) → (n ≡ m) × (a ≡ b)
-behind_number bytes words n m e a b ends ln lm p q = one_number n m e a b ln lm ends (behind_word bytes words (number n e ++ a) (number m e ++ b) p q)
+-- what stands after a number is one, and so is the number
+pub after_number : (bytes words : List ℕ) (n m e : ℕ) (a b : List ℕ) → Ends e → IsNumber n → IsNumber m → bytes ≡ words ++ (number n e ++ a) → bytes ≡ words ++ (number m e ++ b) → (n ≡ m) × (a ≡ b)
+after_number bytes words n m e a b ends ln lm p q = one_number n m e a b ln lm ends (after_word bytes words (number n e ++ a) (number m e ++ b) p q)
 
 -- ports and modules are numbers of a text
 port_number : (n : ℕ) → n < PORTS → IsNumber n
@@ -26,7 +26,7 @@ module_number n lt = omega arith
 
 -- ---- the place of a link
 
--- a link of the switch stands behind `at `
+-- a link of the switch stands after `at `
 pub at_link : (l e : ℕ) (rest : List ℕ) → place (Some l) e ++ rest ≡ codes "at " ++ (number l e ++ rest)
 at_link l e rest = append_assoc (codes "at ") (number l e) rest
 
@@ -45,32 +45,32 @@ one_place None None e x y ends p q same = (refl, append_cancel_left (place None 
 one_place None (Some b) e x y ends p q same = absurd (never_none b e (e ∷ x) y same)
 one_place (Some a) None e x y ends p q same = absurd (never_none a e (e ∷ y) x (sym same))
 one_place (Some a) (Some b) e x y ends p q same =
-    let one = behind_number (place (Some a) e ++ x) (codes "at ") a b e x y ends (port_number a p) (port_number b q) (at_link a e x) (same ∙ at_link b e y) in
+    let one = after_number (place (Some a) e ++ x) (codes "at ") a b e x y ends (port_number a p) (port_number b q) (at_link a e x) (same ∙ at_link b e y) in
     (ap (λ l. Some l) one.0, one.1)
 
-pub behind_place : (bytes words : List ℕ) (a b : Option ℕ) (e : ℕ) (x y : List ℕ) → Ends e → IsPort a → IsPort b → bytes ≡ words ++ (place a e ++ x) → bytes ≡ words ++ (place b e ++ y) → (a ≡ b) × (x ≡ y)
-behind_place bytes words a b e x y ends p q same other = one_place a b e x y ends p q (behind_word bytes words (place a e ++ x) (place b e ++ y) same other)
+pub after_place : (bytes words : List ℕ) (a b : Option ℕ) (e : ℕ) (x y : List ℕ) → Ends e → IsPort a → IsPort b → bytes ≡ words ++ (place a e ++ x) → bytes ≡ words ++ (place b e ++ y) → (a ≡ b) × (x ≡ y)
+after_place bytes words a b e x y ends p q same other = one_place a b e x y ends p q (after_word bytes words (place a e ++ x) (place b e ++ y) same other)
 
 -- `none` without the byte that ends it is no place
 pub not_ended : (bytes words rest more : List ℕ) (link : Option ℕ) (e : ℕ) (after : List ℕ) → bytes ≡ words ++ rest → rest ≡ codes "none" ++ more → ((x : List ℕ) → more ≢ e ∷ x) → bytes ≡ words ++ (place link e ++ after) → ⊥
-not_ended bytes words rest more None e after p q none same = none after (append_cancel_left (codes "none") more (e ∷ after) (sym q ∙ behind_word bytes words rest (place None e ++ after) p same))
-not_ended bytes words rest more (Some l) e after p q none same = never_none l e more after (sym q ∙ behind_word bytes words rest (place (Some l) e ++ after) p same)
+not_ended bytes words rest more None e after p q none same = none after (append_cancel_left (codes "none") more (e ∷ after) (sym q ∙ after_word bytes words rest (place None e ++ after) p same))
+not_ended bytes words rest more (Some l) e after p q none same = never_none l e more after (sym q ∙ after_word bytes words rest (place (Some l) e ++ after) p same)
 
 -- and so is what is neither `none` nor a link
 pub not_placed : (bytes words rest : List ℕ) (link : Option ℕ) (e : ℕ) (after : List ℕ) → bytes ≡ words ++ rest → ((x : List ℕ) → rest ≢ codes "none" ++ x) → ((n : ℕ) (x : List ℕ) → n < PORTS → rest ≢ codes "at " ++ (number n e ++ x)) → IsPort link → bytes ≡ words ++ (place link e ++ after) → ⊥
-not_placed bytes words rest None e after p none no_link port same = none (e ∷ after) (behind_word bytes words rest (place None e ++ after) p same)
-not_placed bytes words rest (Some l) e after p none no_link port same = no_link l after port (behind_word bytes words rest (place (Some l) e ++ after) p same ∙ at_link l e after)
+not_placed bytes words rest None e after p none no_link port same = none (e ∷ after) (after_word bytes words rest (place None e ++ after) p same)
+not_placed bytes words rest (Some l) e after p none no_link port same = no_link l after port (after_word bytes words rest (place (Some l) e ++ after) p same ∙ at_link l e after)
 
 -- ---- a line
 
--- its parts: behind the number of its module, and behind the place of link 0
+-- its parts: after the number of its module, and after the place of link 0
 abbrev pub behind0 : WiredModule → List ℕ → List ℕ
 behind0 on rest = codes "link 3 " ++ (place on.link3 line_feed ++ rest)
 
-abbrev pub behind_module : WiredModule → List ℕ → List ℕ
-behind_module on rest = codes "link 0 " ++ (place on.link0 space ++ behind0 on rest)
+abbrev pub after_module : WiredModule → List ℕ → List ℕ
+after_module on rest = codes "link 0 " ++ (place on.link0 space ++ behind0 on rest)
 
-links_parts : (on : WiredModule) (rest : List ℕ) → links on ++ rest ≡ behind_module on rest
+links_parts : (on : WiredModule) (rest : List ℕ) → links on ++ rest ≡ after_module on rest
 links_parts on rest =
     append_assoc (codes "link 0 ") (place on.link0 space ++ (codes "link 3 " ++ place on.link3 line_feed)) rest
     ∙ ap (λ (t : List ℕ). codes "link 0 " ++ t) (
@@ -78,20 +78,20 @@ links_parts on rest =
     ∙ ap (λ (t : List ℕ). place on.link0 space ++ t) (append_assoc (codes "link 3 ") (place on.link3 line_feed) rest)
     )
 
-pub line_parts : (on : WiredModule) (rest : List ℕ) → line on ++ rest ≡ codes "module " ++ (number on.number space ++ behind_module on rest)
+pub line_parts : (on : WiredModule) (rest : List ℕ) → line on ++ rest ≡ codes "module " ++ (number on.number space ++ after_module on rest)
 line_parts on rest =
     append_assoc (codes "module ") (number on.number space ++ links on) rest
     ∙ ap (λ (t : List ℕ). codes "module " ++ t) (append_assoc (number on.number space) (links on) rest ∙ ap (λ (t : List ℕ). number on.number space ++ t) (links_parts on rest))
 
 -- a line that begins with a module's number is that of this module
-pub is_module : (bytes : List ℕ) (n : ℕ) (a : List ℕ) (on : WiredModule) (rest : List ℕ) → IsNumber n → HasPorts on → bytes ≡ codes "module " ++ (number n space ++ a) → bytes ≡ line on ++ rest → (n ≡ on.number) × (a ≡ behind_module on rest)
-is_module bytes n a on rest ln ports p q = behind_number bytes (codes "module ") n on.number space a (behind_module on rest) ends_space ln (module_number on.number ports.0) p (q ∙ line_parts on rest)
+pub is_module : (bytes : List ℕ) (n : ℕ) (a : List ℕ) (on : WiredModule) (rest : List ℕ) → IsNumber n → HasPorts on → bytes ≡ codes "module " ++ (number n space ++ a) → bytes ≡ line on ++ rest → (n ≡ on.number) × (a ≡ after_module on rest)
+is_module bytes n a on rest ln ports p q = after_number bytes (codes "module ") n on.number space a (after_module on rest) ends_space ln (module_number on.number ports.0) p (q ∙ line_parts on rest)
 
 -- and so on for its link 0
 pub is_link0 : (bytes : List ℕ) (n : ℕ) (l : Option ℕ) (a b : List ℕ) (on : WiredModule) (rest : List ℕ) → IsNumber n → IsPort l → HasPorts on → bytes ≡ codes "module " ++ (number n space ++ a) → a ≡ codes "link 0 " ++ (place l space ++ b) → bytes ≡ line on ++ rest → (l ≡ on.link0) × (b ≡ behind0 on rest)
 is_link0 bytes n l a b on rest ln pl ports p q same =
     let one = is_module bytes n a on rest ln ports p same in
-    behind_place a (codes "link 0 ") l on.link0 space b (behind0 on rest) ends_space pl ports.1 q one.1
+    after_place a (codes "link 0 ") l on.link0 space b (behind0 on rest) ends_space pl ports.1 q one.1
 
 on_links : ℕ → Option ℕ → Option ℕ → WiredModule
 on_links n a b = record { number = n; link0 = a; link3 = b }
@@ -104,9 +104,9 @@ same_module n m a b c d p q r = rw (p, q, r) refl
 pub one_line : (a b : WiredModule) (x y : List ℕ) → HasPorts a → HasPorts b → line a ++ x ≡ line b ++ y → (a ≡ b) × (x ≡ y)
 unfolding on_links
 one_line a b x y pa pb same =
-    let whole = is_module (line a ++ x) a.number (behind_module a x) b y (module_number a.number pa.0) pb (line_parts a x) same in
-    let first = is_link0 (line a ++ x) a.number a.link0 (behind_module a x) (behind0 a x) b y (module_number a.number pa.0) pa.1 pb (line_parts a x) refl same in
-    let last = behind_place (behind0 a x) (codes "link 3 ") a.link3 b.link3 line_feed x y ends_line pa.2 pb.2 refl first.1 in
+    let whole = is_module (line a ++ x) a.number (after_module a x) b y (module_number a.number pa.0) pb (line_parts a x) same in
+    let first = is_link0 (line a ++ x) a.number a.link0 (after_module a x) (behind0 a x) b y (module_number a.number pa.0) pa.1 pb (line_parts a x) refl same in
+    let last = after_place (behind0 a x) (codes "link 3 ") a.link3 b.link3 line_feed x y ends_line pa.2 pb.2 refl first.1 in
     (same_module a.number b.number a.link0 a.link3 b.link0 b.link3 whole.0 first.0 last.0, last.1)
 
 -- ---- one module more

@@ -10,7 +10,7 @@ use Rattle.crossbar.specs.Boards.{are_distinct}
 use Rattle.crossbar.specs.declared.switch.TheConstants.{JOINED_MODULES}
 use Rattle.crossbar.proofs.Boards.{is_on, has_all, and_left, and_right, distinct_more, distinct_two}
 use Rattle.board_wiring.specs.Faults.{HasPorts, IsPort}
-use Rattle.board_wiring.specs.Modules.{given, given_links, all_given, are_rising, are_wired, behind_last, is_at, is_free_in, is_one}
+use Rattle.board_wiring.specs.Modules.{given, given_links, all_given, are_rising, are_wired, after_last, is_at, is_free_in, is_one}
 use Rattle.board_wiring.specs.declared.wired_module.WiredModule.{WiredModule}
 
 -- whether one switch joins modules of these numbers
@@ -55,10 +55,10 @@ and_assoc : (a b c : Bool) → (a && (b && c)) ≡ ((a && b) && c)
 and_assoc true b c = refl
 and_assoc false b c = refl
 
-rising_more : (l : ℕ) (ms : List WiredModule) (on : WiredModule) → are_rising l (ms ++ on ∷ []) ≡ (are_rising l ms && nat_le (behind_last l ms) on.number)
+rising_more : (l : ℕ) (ms : List WiredModule) (on : WiredModule) → are_rising l (ms ++ on ∷ []) ≡ (are_rising l ms && nat_le (after_last l ms) on.number)
 rising_more l [] on = and_true (nat_le l on.number)
 rising_more l (m ∷ ms) on =
-    ap (λ b. nat_le l m.number && b) (rising_more (m.number + 1) ms on) ∙ and_assoc (nat_le l m.number) (are_rising (m.number + 1) ms) (nat_le (behind_last (m.number + 1) ms) on.number)
+    ap (λ b. nat_le l m.number && b) (rising_more (m.number + 1) ms on) ∙ and_assoc (nat_le l m.number) (are_rising (m.number + 1) ms) (nat_le (after_last (m.number + 1) ms) on.number)
 
 rising_front : (l : ℕ) (ms ns : List WiredModule) → are_rising l (ms ++ ns) ≡ true → are_rising l ms ≡ true
 rising_front l [] ns e = refl
@@ -66,18 +66,18 @@ rising_front l (m ∷ ms) ns e =
     and_both (nat_le l m.number) (are_rising (m.number + 1) ms) (and_left (nat_le l m.number) (are_rising (m.number + 1) (ms ++ ns)) e)
     (rising_front (m.number + 1) ms ns (and_right (nat_le l m.number) (are_rising (m.number + 1) (ms ++ ns)) e))
 
--- the number behind the last is that, or at least the one from which they rise
-pub last_behind : (l : ℕ) (ms : List WiredModule) (on : WiredModule) → behind_last l (ms ++ on ∷ []) ≡ on.number + 1
-last_behind l [] on = refl
-last_behind l (m ∷ ms) on = last_behind (m.number + 1) ms on
+-- the number after the last is that, or at least the one from which they rise
+pub last_after : (l : ℕ) (ms : List WiredModule) (on : WiredModule) → after_last l (ms ++ on ∷ []) ≡ on.number + 1
+last_after l [] on = refl
+last_after l (m ∷ ms) on = last_after (m.number + 1) ms on
 
--- so it is the number behind that of the last
-pub width_at : (lines : List WiredModule) (count : ℕ) (d : WiredModule) → 1 ≤ count → count ≤ length lines → (get_or lines (count - 1) d).number + 1 ≡ behind_last 0 (take count lines)
+-- so it is the number after that of the last
+pub width_at : (lines : List WiredModule) (count : ℕ) (d : WiredModule) → 1 ≤ count → count ≤ length lines → (get_or lines (count - 1) d).number + 1 ≡ after_last 0 (take count lines)
 width_at lines count d some le =
     let e : count ≡ count - 1 + 1 = omega arith in
-    sym (ap (λ n. behind_last 0 (take n lines)) e ∙ ap (behind_last 0) (take_more lines (count - 1) d (omega arith)) ∙ last_behind 0 (take (count - 1) lines) (get_or lines (count - 1) d))
+    sym (ap (λ n. after_last 0 (take n lines)) e ∙ ap (after_last 0) (take_more lines (count - 1) d (omega arith)) ∙ last_after 0 (take (count - 1) lines) (get_or lines (count - 1) d))
 
-pub goes_up : (l : ℕ) (ms : List WiredModule) → are_rising l ms ≡ true → l + length ms ≤ behind_last l ms
+pub goes_up : (l : ℕ) (ms : List WiredModule) → are_rising l ms ≡ true → l + length ms ≤ after_last l ms
 goes_up l [] e = omega arith
 goes_up l (m ∷ ms) e =
     let first = and_left (nat_le l m.number) (are_rising (m.number + 1) ms) e in
@@ -85,17 +85,17 @@ goes_up l (m ∷ ms) e =
     let more = goes_up (m.number + 1) ms (and_right (nat_le l m.number) (are_rising (m.number + 1) ms) e) in
     omega (arith, le, more)
 
-pub stays_joined : (l : ℕ) (ms : List WiredModule) → are_joined ms ≡ true → l ≤ JOINED_MODULES → behind_last l ms ≤ JOINED_MODULES
+pub stays_joined : (l : ℕ) (ms : List WiredModule) → are_joined ms ≡ true → l ≤ JOINED_MODULES → after_last l ms ≤ JOINED_MODULES
 stays_joined l [] e le = le
 stays_joined l (m ∷ ms) e le =
     let first = and_left (nat_lt m.number JOINED_MODULES) (are_joined ms) e in
     let lt : m.number < JOINED_MODULES = grind (arith, nat_tests) in
     stays_joined (m.number + 1) ms (and_right (nat_lt m.number JOINED_MODULES) (are_joined ms) e) (omega (arith, lt))
 
-pub width_few : (ms : List WiredModule) → IsTrue (are_wired ms) → behind_last 0 ms ≤ JOINED_MODULES
+pub width_few : (ms : List WiredModule) → IsTrue (are_wired ms) → after_last 0 ms ≤ JOINED_MODULES
 width_few ms own = stays_joined 0 ms (wired_parts ms own).joined (omega arith)
 
-pub few_modules : (ms : List WiredModule) → IsTrue (are_wired ms) → length ms ≤ behind_last 0 ms
+pub few_modules : (ms : List WiredModule) → IsTrue (are_wired ms) → length ms ≤ after_last 0 ms
 few_modules ms own = let up = goes_up 0 ms (wired_parts ms own).rising in omega (arith, up)
 
 -- ---- links
@@ -106,10 +106,10 @@ one_free true true = refl
 one_free true false = refl
 one_free false on = refl
 
-one_free_behind : (p on : Bool) → ((true && (p && true)) && (true && not on)) ≡ (true && ((p && not on) && true))
-one_free_behind true true = refl
-one_free_behind true false = refl
-one_free_behind false on = refl
+one_free_after : (p on : Bool) → ((true && (p && true)) && (true && not on)) ≡ (true && ((p && not on) && true))
+one_free_after true true = refl
+one_free_after true false = refl
+one_free_after false on = refl
 
 two_free : (p0 p3 same on0 on3 : Bool)
     → ((true && (p0 && (p3 && true))) && ((true && not on0) && not (on3 || (same || false)))) ≡ ((p0 && not on0) && ((p3 && not on3) && not same))
@@ -135,7 +135,7 @@ free_more xs (Some a) None h d =
 free_more xs None (Some b) h d =
     ap₂ (λ p q. p && q) (list_all-append (λ link. nat_lt link PORTS) xs (b ∷ [])) (distinct_more xs b)
     ∙ ap₂ (λ p q. (p && (nat_lt b PORTS && true)) && (q && not (is_on b xs))) h d
-    ∙ one_free_behind (nat_lt b PORTS) (is_on b xs)
+    ∙ one_free_after (nat_lt b PORTS) (is_on b xs)
 free_more xs (Some a) (Some b) h d =
     ap₂ (λ p q. p && q) (list_all-append (λ link. nat_lt link PORTS) xs (a ∷ b ∷ [])) (distinct_two xs a b)
     ∙ ap₂ (λ p q. (p && (nat_lt a PORTS && (nat_lt b PORTS && true))) && ((q && not (is_on a xs)) && not (is_on b xs || ((a == b) || false)))) h d
@@ -146,10 +146,10 @@ free_more xs (Some a) (Some b) h d =
 given_more : (ms : List WiredModule) (on : WiredModule) → all_given (ms ++ on ∷ []) ≡ all_given ms ++ given_links on
 given_more ms on = flat_map-append given_links ms (on ∷ []) ∙ ap (λ (x : List ℕ). all_given ms ++ x) (append-nil (given_links on))
 
--- whether a module may stand behind the others
+-- whether a module may stand after the others
 abbrev pub has_room : List WiredModule → WiredModule → Bool
 has_room ms on =
-    (nat_le (behind_last 0 ms) on.number && nat_lt on.number JOINED_MODULES)
+    (nat_le (after_last 0 ms) on.number && nat_lt on.number JOINED_MODULES)
     && (is_free_in (all_given ms) on.link0 && (is_free_in (all_given ms) on.link3 && not (is_one on.link0 on.link3)))
 
 joined_more : (p : Bool) → (true && (p && true)) ≡ p
@@ -161,7 +161,7 @@ unfolding are_links
 wired_more ms on own =
     let w = wired_parts ms own in
     let links : are_links (all_given (ms ++ on ∷ [])) ≡ (is_free_in (all_given ms) on.link0 && (is_free_in (all_given ms) on.link3 && not (is_one on.link0 on.link3))) = ap are_links (given_more ms on) ∙ free_more (all_given ms) on.link0 on.link3 w.had w.distinct in
-    let rising : are_rising 0 (ms ++ on ∷ []) ≡ nat_le (behind_last 0 ms) on.number = rising_more 0 ms on ∙ ap (λ b. b && nat_le (behind_last 0 ms) on.number) w.rising in
+    let rising : are_rising 0 (ms ++ on ∷ []) ≡ nat_le (after_last 0 ms) on.number = rising_more 0 ms on ∙ ap (λ b. b && nat_le (after_last 0 ms) on.number) w.rising in
     let joined : are_joined (ms ++ on ∷ []) ≡ nat_lt on.number JOINED_MODULES =
     list_all-append (λ (m : WiredModule). nat_lt m.number JOINED_MODULES) ms (on ∷ []) ∙ ap (λ b. b && (nat_lt on.number JOINED_MODULES && true)) w.joined ∙ joined_more (nat_lt on.number JOINED_MODULES) in
     ap₂ (λ n l. n && l) (ap₂ (λ r j. r && j) rising joined) links
@@ -173,7 +173,7 @@ taken_on link (m ∷ ms) =
     ap₂ (λ a b. a || b) (sym (list_any-append (λ other. other == link) (given m.link0) (given m.link3))) (taken_on link ms)
     ∙ sym (list_any-append (λ other. other == link) (given_links m) (all_given ms))
 
--- where a module stands behind the others they aren't as many as one switch joins
+-- where a module stands after the others they aren't as many as one switch joins
 pub room_for : (ms : List WiredModule) (on : WiredModule) → IsTrue (are_wired (ms ++ on ∷ [])) → length ms < JOINED_MODULES
 room_for ms on own = omega (arith, few_modules (ms ++ on ∷ []) own, width_few (ms ++ on ∷ []) own, length_push ms on)
 

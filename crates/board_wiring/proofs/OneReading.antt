@@ -12,7 +12,7 @@ use Rattle.board_wiring.specs.Text.{Denotes, line, lines_of}
 use Rattle.board_wiring.specs.declared.fault.WiringFault.{WiringFault}
 use Rattle.board_wiring.specs.declared.fault.WiringFault.TheVariants.{Line}
 use Rattle.board_wiring.specs.declared.wired_module.WiredModule.{WiredModule}
-use Rattle.board_wiring.proofs.Lines.{behind_number, one_line}
+use Rattle.board_wiring.proofs.Lines.{after_number, one_line}
 use Rattle.board_wiring.proofs.Modules.{Ported, few_modules, ported, width_few, wired_front}
 
 -- ---- lines that go on
@@ -57,7 +57,7 @@ early ts us r s b lt ends =
     let g = going ts us r s b (omega arith) in
     next_stands ts g.more us r s b.us_wired g.list g.rest (omega (arith, ap length g.list, length-append ts g.more)) ends
 
--- lists of one length are one, and so is what stands behind them
+-- lists of one length are one, and so is what stands after them
 same_rest : (ts us : List WiredModule) (r s : List ℕ) → Both ts us r s → length ts ≡ length us → (ts ≡ us) × (r ≡ s)
 same_rest ts us r s b len =
     let g = going ts us r s b (omega (arith, len)) in
@@ -68,7 +68,7 @@ same_rest ts us r s b len =
 
 one_head : (text : List ℕ) (n m : ℕ) (x y : List ℕ) → IsHeaded text n x → IsHeaded text m y → (n ≡ m) × (x ≡ y)
 one_head text n m x y a b =
-    behind_number text (codes "wiring ") n m line_feed x y ends_line (omega (arith, a.few)) (omega (arith, b.few))
+    after_number text (codes "wiring ") n m line_feed x y ends_line (omega (arith, a.few)) (omega (arith, b.few))
     (a.spelled ∙ append_assoc (codes "wiring ") (number n line_feed) x) (b.spelled ∙ append_assoc (codes "wiring ") (number m line_feed) y)
 
 headed : (text : List ℕ) (ms : List WiredModule) → Denotes text ms → IsHeaded text (length ms) (lines_of ms)
@@ -77,7 +77,7 @@ headed text ms d = record { spelled = d.spelled; some = d.some; few = omega (ari
 whole : (text : List ℕ) (ms : List WiredModule) → Denotes text ms → AreModules (lines_of ms) (length ms) ms []
 whole text ms d = record { counted = refl; wired = d.wired; spelled = sym (append-nil (lines_of ms)) }
 
--- the lines of two lists that stand behind one head
+-- the lines of two lists that stand after one head
 both : (x y : List ℕ) (n m : ℕ) (ts us : List WiredModule) (r s : List ℕ) → x ≡ y → AreModules x n ts r → AreModules y m us s → Both ts us r s
 both x y n m ts us r s e a b = record { ts_wired = a.wired; us_wired = b.wired; same = sym a.spelled ∙ e ∙ b.spelled }
 

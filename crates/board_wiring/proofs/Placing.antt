@@ -12,7 +12,7 @@ use Rattle.crossbar.specs.Wired.{unwired}
 use Rattle.crossbar.specs.declared.module_links.ModuleLinks.{ModuleLinks}
 use Rattle.crossbar.specs.declared.switch.TheConstants.{JOINED_MODULES}
 use Rattle.crossbar.proofs.Boards.{are_wired as wiring_parts, never_one, one_link0, one_link3, and_left, and_right, has_all, is_on}
-use Rattle.board_wiring.specs.Modules.{given, given_links, all_given, are_rising, are_wired, behind_last, is_free_in, is_one}
+use Rattle.board_wiring.specs.Modules.{given, given_links, all_given, are_rising, are_wired, after_last, is_free_in, is_one}
 use Rattle.board_wiring.specs.declared.wired_module.WiredModule.{WiredModule}
 use Rattle.board_wiring.specs.Filling.{exchange, exchange_on, usual_links, usual_on}
 use Rattle.board_wiring.proofs.Modules.{and_both, distinct_front, has_room, last_ports, goes_up, width_few, wired_front, wired_more, wired_parts}
@@ -225,7 +225,7 @@ avoids xs on (Some k) free within = (
 )
 
 -- the numbers of those in front are below
-below_last : (l : ℕ) (ms : List WiredModule) (k : ℕ) (d : WiredModule) → are_rising l ms ≡ true → k < length ms → (get_or ms k d).number < behind_last l ms
+below_last : (l : ℕ) (ms : List WiredModule) (k : ℕ) (d : WiredModule) → are_rising l ms ≡ true → k < length ms → (get_or ms k d).number < after_last l ms
 below_last l [] k d e lt = absurd (omega arith)
 below_last l (m ∷ ms) zero d e lt =
     let more = goes_up (m.number + 1) ms (and_right (nat_le l m.number) (are_rising (m.number + 1) ms) e) in omega (arith, more)
@@ -246,10 +246,10 @@ one_more ws us vs ms new own_ws own_us placed own m0 m3 =
     let whole : are_wired (ms ++ new ∷ []) ≡ true = cc in
     let room : has_room ms new ≡ true = sym (wired_more ms new front) ∙ whole in
     let xs = all_given ms in
-    let numbers = and_left (nat_le (behind_last 0 ms) new.number && nat_lt new.number JOINED_MODULES) (is_free_in xs new.link0 && (is_free_in xs new.link3 && not (is_one new.link0 new.link3))) room in
-    let links = and_right (nat_le (behind_last 0 ms) new.number && nat_lt new.number JOINED_MODULES) (is_free_in xs new.link0 && (is_free_in xs new.link3 && not (is_one new.link0 new.link3))) room in
-    let rises = and_left (nat_le (behind_last 0 ms) new.number) (nat_lt new.number JOINED_MODULES) numbers in
-    let le : behind_last 0 ms ≤ new.number = grind (arith, nat_tests) in
+    let numbers = and_left (nat_le (after_last 0 ms) new.number && nat_lt new.number JOINED_MODULES) (is_free_in xs new.link0 && (is_free_in xs new.link3 && not (is_one new.link0 new.link3))) room in
+    let links = and_right (nat_le (after_last 0 ms) new.number && nat_lt new.number JOINED_MODULES) (is_free_in xs new.link0 && (is_free_in xs new.link3 && not (is_one new.link0 new.link3))) room in
+    let rises = and_left (nat_le (after_last 0 ms) new.number) (nat_lt new.number JOINED_MODULES) numbers in
+    let le : after_last 0 ms ≤ new.number = grind (arith, nat_tests) in
     let known = (last_ports ms new own).0 in
     let free0 = and_left (is_free_in xs new.link0) (is_free_in xs new.link3 && not (is_one new.link0 new.link3)) links in
     let behind = and_right (is_free_in xs new.link0) (is_free_in xs new.link3 && not (is_one new.link0 new.link3)) links in
@@ -294,7 +294,7 @@ abbrev KeptAt : ModuleLinks → WiredModule → Type 0
 KeptAt at on = IfSome on.link0 (λ l. at.link0 ≡ l) × IfSome on.link3 (λ l. at.link3 ≡ l)
 
 -- those up to the last of these are where the board's wiring says
-pub first_placed : (ws vs : List ModuleLinks) (all front : List WiredModule) (w : ℕ) → Placed ws front → front ≡ all → IsTrue (are_wired all) → w ≡ behind_last 0 all → vs ≡ take w ws → (length vs ≡ w) × All (KeptIn vs) all
+pub first_placed : (ws vs : List ModuleLinks) (all front : List WiredModule) (w : ℕ) → Placed ws front → front ≡ all → IsTrue (are_wired all) → w ≡ after_last 0 all → vs ≡ take w ws → (length vs ≡ w) × All (KeptIn vs) all
 first_placed ws vs all front w placed same own width first =
     let few = width_few all own in
     let parts = wired_parts all own in

@@ -8,7 +8,7 @@ use Rattle.batch.specs.Overlap.{transfer_at}
 use Rattle.batch.specs.declared.transfer.Transfer.{Transfer}
 use Rattle.board_wiring.specs.Boards.{IsFilled, modules_of}
 use Rattle.board_wiring.specs.Lacks.{HasWaysOn, has_way}
-use Rattle.board_wiring.specs.Modules.{are_rising, behind_last, has_link0, has_link3}
+use Rattle.board_wiring.specs.Modules.{are_rising, after_last, has_link0, has_link3}
 use Rattle.board_wiring.specs.declared.board.Board.{Board}
 use Rattle.board_wiring.specs.declared.wired_module.WiredModule.{WiredModule}
 use Rattle.board_wiring.proofs.Modules.{goes_up, wired_parts}
@@ -16,8 +16,8 @@ use Rattle.crossbar.specs.Wired.{links_of}
 use Rattle.crossbar.specs.declared.board.BoardWiring.{BoardWiring}
 use Rattle.crossbar.proofs.Boards.{and_left, and_right}
 
--- a module that is there, of which something holds, isn't behind the last
-below_last : (holds : WiredModule → Bool) (m l : ℕ) (ms : List WiredModule) → are_rising l ms ≡ true → list_any (λ on. on.number == m && holds on) ms ≡ true → m < behind_last l ms
+-- a module that is there, of which something holds, isn't after the last
+below_last : (holds : WiredModule → Bool) (m l : ℕ) (ms : List WiredModule) → are_rising l ms ≡ true → list_any (λ on. on.number == m && holds on) ms ≡ true → m < after_last l ms
 below_last holds m l [] rising any = absurd cc
 below_last holds m l (on ∷ ms) rising any =
     let rest = and_right (nat_le l on.number) (are_rising (on.number + 1) ms) rising in

@@ -1,7 +1,7 @@
 -- A board as the text of its wiring says it is, or a rack that is wired as usual.
 use Rattle.std.specs.Prelude.{◌≡◌, ℕ, List, Option, Some, None, IfSome, All, length, take, ⊤}
 use Rattle.board_wiring.specs.Faults.{IsFirstBad}
-use Rattle.board_wiring.specs.Modules.{behind_last}
+use Rattle.board_wiring.specs.Modules.{after_last}
 use Rattle.board_wiring.specs.Text.{Denotes}
 use Rattle.board_wiring.specs.declared.board.Board.{Board}
 use Rattle.board_wiring.specs.declared.fault.WiringFault.{WiringFault}
@@ -13,9 +13,9 @@ use Rattle.crossbar.specs.declared.board.BoardWiring.{BoardWiring}
 abbrev pub modules_of : Board → List WiredModule
 modules_of board = take board.count board.lines
 
--- the number behind that of its last module
+-- the number after that of its last module
 abbrev pub width_of : Board → ℕ
-width_of board = behind_last 0 (modules_of board)
+width_of board = after_last 0 (modules_of board)
 
 -- ---- where there may be a board
 

@@ -47,8 +47,8 @@ StopsAt lines count (Line n) =
     × AreModules lines (length modules) modules rest × (length modules < count)
     × EndsAt modules rest × (n ≡ length modules + 2)
 
--- The first line at fault: line 1, the line of a module behind those that are as they should be, or
--- the line behind the last.
+-- The first line at fault: line 1, the line of a module after those that are as they should be, or
+-- the line after the last.
 pub data IsFirstBad (text : List ℕ) (fault : WiringFault) : Type 0 where
   at_head : HasNoHead text → fault ≡ Line 1 → IsFirstBad text fault
   at_module : (count : ℕ) (lines : List ℕ) → IsHeaded text count lines

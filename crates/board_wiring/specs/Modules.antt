@@ -26,10 +26,10 @@ abbrev pub are_rising : ℕ → List WiredModule → Bool
 are_rising least [] = true
 are_rising least (on ∷ modules) = nat_le least on.number && are_rising (on.number + 1) modules
 
--- the number behind that of the last module, or this one where there is none
-abbrev pub behind_last : ℕ → List WiredModule → ℕ
-behind_last least [] = least
-behind_last least (on ∷ modules) = behind_last (on.number + 1) modules
+-- the number after that of the last module, or this one where there is none
+abbrev pub after_last : ℕ → List WiredModule → ℕ
+after_last least [] = least
+after_last least (on ∷ modules) = after_last (on.number + 1) modules
 
 -- Their numbers rise, and one switch joins the modules of these numbers. It has the links that they
 -- are on, and no link stands there twice.

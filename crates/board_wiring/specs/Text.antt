@@ -9,12 +9,12 @@ use Rattle.board_wiring.specs.declared.wired_module.WiredModule.{WiredModule}
 abbrev pub head : ℕ → List ℕ
 head count = codes "wiring " ++ number count line_feed
 
--- where a link of a module is, and the byte behind it: `at A`, or `none`
+-- where a link of a module is, and the byte after it: `at A`, or `none`
 abbrev pub place : Option ℕ → ℕ → List ℕ
 place (Some link) end = codes "at " ++ number link end
 place None end = codes "none" ++ end ∷ []
 
--- what stands behind the number of a module: `link 0 at A link 3 at B`
+-- what stands after the number of a module: `link 0 at A link 3 at B`
 abbrev pub links : WiredModule → List ℕ
 links on =
     codes "link 0 " ++ (place on.link0 space

@@ -17,7 +17,7 @@ pub(crate) const MOST: usize = JOINED_MODULES as usize;
 /// of their links are on one link of the switch.
 #[derive(Clone, Copy, Debug, PartialEq, Eq)]
 pub struct Board {
-    // What the modules are on, by rising numbers, and behind them anything.
+    // What the modules are on, by rising numbers, and after them anything.
     lines: [WiredModule; MOST],
     count: usize,
     ghost few: { count ≤ JOINED_MODULES },
@@ -42,7 +42,7 @@ impl Board {
         }
     }
 
-    /// The number behind that of the last module.
+    /// The number after that of the last module.
     pub(crate) fn width(&self) -> usize
         ensures width { result ≡ width_of self.now }
         ensures few { result ≤ JOINED_MODULES }
@@ -76,7 +76,7 @@ impl Board {
         Some(more)
     }
 
-    /// Whether the module may stand behind the last, and the switch has the links that it is on,
+    /// Whether the module may stand after the last, and the switch has the links that it is on,
     /// and these are free.
     fn has_room_for(&self, on: &WiredModule) -> bool
         ensures { result ≡ are_wired (modules_of self.now ++ on.now ∷ []) }

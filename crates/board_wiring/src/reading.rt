@@ -16,7 +16,7 @@ use batch::number_before;
 use c004_commands::PORTS;
 use line_words::behind;
 
-/// A number behind these words, and what stands behind the byte that ends it, which is no digit.
+/// A number after these words, and what stands after the byte that ends it, which is no digit.
 fn number_behind<'a>(bytes: &'a [u8], words: &[u8], end: u8) -> Option<(usize, &'a [u8])>
     requires { IsDigit end → ⊥ }
     ensures some { IfSome result (λ x. IsNumber x.0
@@ -28,9 +28,9 @@ fn number_behind<'a>(bytes: &'a [u8], words: &[u8], end: u8) -> Option<(usize, &
     Some((n, rest))
 }
 
-/// Where a link is, behind these words: a link of the switch or none; and what stands behind the
+/// Where a link is, after these words: a link of the switch or none; and what stands after the
 /// byte that ends it, which is no digit.
-fn place_behind<'a>(bytes: &'a [u8], words: &[u8], end: u8) -> Option<(Option<u8>, &'a [u8])>
+fn place_after<'a>(bytes: &'a [u8], words: &[u8], end: u8) -> Option<(Option<u8>, &'a [u8])>
     requires { IsDigit end → ⊥ }
     ensures some { IfSome result (λ x. IsPort x.0
         × (bytes.entry.now ≡ words.now ++ (place x.0 end ++ x.1.now))) }
@@ -41,13 +41,13 @@ fn place_behind<'a>(bytes: &'a [u8], words: &[u8], end: u8) -> Option<(Option<u8
     if let Some(rest) = behind(bytes, b"none") {
         return Some((None, behind(rest, &[end])?));
     }
-    let (link, rest) = link_behind(bytes, end)?;
+    let (link, rest) = link_after(bytes, end)?;
     Some((Some(link), rest))
 }
 
-/// A link of the switch behind `at `, and what stands behind the byte that ends it, which is no
+/// A link of the switch after `at `, and what stands after the byte that ends it, which is no
 /// digit.
-fn link_behind(bytes: &[u8], end: u8) -> Option<(u8, &[u8])>
+fn link_after(bytes: &[u8], end: u8) -> Option<(u8, &[u8])>
     requires { IsDigit end → ⊥ }
     ensures some { IfSome result (λ x. (x.0 < PORTS)
         × (bytes.now ≡ codes "at " ++ (number x.0 end ++ x.1.now))) }
@@ -83,8 +83,8 @@ fn module_line(bytes: &[u8]) -> Option<(WiredModule, &[u8])>
     if number >= MOST {
         return None;
     }
-    let (link0, rest) = place_behind(rest, b"link 0 ", b' ')?;
-    let (link3, rest) = place_behind(rest, b"link 3 ", b'\n')?;
+    let (link0, rest) = place_after(rest, b"link 0 ", b' ')?;
+    let (link3, rest) = place_after(rest, b"link 3 ", b'\n')?;
     let on = WiredModule {
         number,
         link0,
@@ -117,7 +117,7 @@ fn modules(lines: &[u8], count: usize) -> Result<(Board, &[u8]), WiringFault>
 /// Reads a wiring's text: the line `wiring N`, for N from 1 to [`JOINED_MODULES`], and then N lines
 /// `module M link 0 at A link 3 at B`, by rising numbers M below [`JOINED_MODULES`]. A and B are
 /// links of the switch, below [`PORTS`](c004_commands::PORTS), and none of them stands twice. In
-/// the place of `at A` or `at B` may stand `none`. Nothing stands behind these lines. It takes no
+/// the place of `at A` or `at B` may stand `none`. Nothing stands after these lines. It takes no
 /// memory.
 ///
 /// Gives the board whose wiring the text denotes, or the text's first line at fault. Takes time

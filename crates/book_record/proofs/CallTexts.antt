@@ -1,83 +1,124 @@
 -- A call's lines tell one call, and where they end.
-use Rattle.std.proofs.Common.{◌≡◌, ℕ, List, [], ◌∷◌, ◌++◌, get_or, drop, codes, sym, ap, ◌∙◌, append_assoc, arith}
+use Rattle.std.proofs.Common.{◌≡◌, ◌≢◌, ℕ, ◌≤◌, List, [], ◌∷◌, ◌++◌, get_or, take, drop, ◌+◌, length, codes, Option, None, Some, IfNone, IfSome, refl, sym, ap, ◌∙◌, subst, append_assoc, arith}
 use Rattle.std.specs.Fmt.{decimal}
+use Rattle.std.specs.List.{flat_map}
+use Rattle.std.specs.Prelude.{position, ◌==◌}
+use Rattle.std.proofs.lemmas.Fmt.{decimal_injective}
 use Rattle.std.proofs.lemmas.List.{append_cancel_left}
-use Rattle.batch.specs.Text.{IsNumber, number, space, line_feed}
-use Rattle.batch.proofs.Lines.{one_number, ends_line}
-use Rattle.line_words.specs.HexWords.{IsWord, hex8}
-use Rattle.line_words.proofs.Numbers.{space_ends, one_hex8, hex8_in_front}
+use Rattle.batch.specs.Extent.{widest}
+use Rattle.batch.specs.Text.{IsNumber, line, number, space, line_feed}
+use Rattle.batch.proofs.Lines.{after_number, ends_space}
+use Rattle.batch.proofs.OneReading.{same_lines}
+use Rattle.batch.proofs.Shapes.{widest_shape}
 use Rattle.batch_book.specs.Told.{PlanlessCall}
-use Rattle.batch_book.specs.declared.told_call.ToldCall.TheVariants.{Submit, Fetch, Settle, Run, Show, Discard, Peek, Poke}
-use Rattle.book_record.specs.RecordText.{call_text, CanSay}
-use Rattle.book_record.proofs.BatchTexts.{one_batch_front}
+use Rattle.batch_book.specs.declared.recorded_call.RecordedCall.TheVariants.{Submit, Fetch, Settle, Run, Show, Discard, Peek, Poke}
+use Rattle.client_session.specs.Commands.{Means}
+use Rattle.client_session.specs.Replies.{with_feed}
+use Rattle.client_session.specs.declared.command.SessionCommand.{SessionCommand}
+use Rattle.client_session.specs.declared.command.SessionCommand.TheVariants as command
+use Rattle.client_session.proofs.OneMeaning.{means_one}
+use Rattle.book_record.specs.RecordText.{call_line, call_text, CanSay}
+use Rattle.book_record.specs.Reading.{BeginsWithNoBatch, BeginsWithNoCall, BeginsWithNoEntry, IsCallOf, command_for}
+use Rattle.book_record.proofs.Feeds.{byte_at, first_at, first_line, line_there, no_byte, without_feed}
+use Rattle.book_record.proofs.Marks.{call_plain}
 
--- ---- forms of the lines
+-- ---- the first line of a call
 
-pub named_form : (w : List ℕ) (n : ℕ) (x : List ℕ) → ((w ++ decimal n) ++ line_feed ∷ []) ++ x ≡ w ++ (number n line_feed ++ x)
-named_form w n x = simp append_assoc
+-- those after it
+abbrev lines_after : PlanlessCall → List ℕ
+lines_after (Submit batch) = flat_map line batch
+lines_after c = []
 
-pub peek_form : (w n a x : List ℕ) → (((w ++ n) ++ a) ++ line_feed ∷ []) ++ x ≡ w ++ (n ++ (a ++ line_feed ∷ x))
-peek_form w n a x = simp append_assoc
+text_form : (c : PlanlessCall) (x : List ℕ) → call_text c ++ x ≡ with_feed (call_line c) ++ (lines_after c ++ x)
+text_form (Submit batch) x = simp append_assoc
+text_form c x = refl
 
-pub poke_form : (w n a d x : List ℕ) → ((w ++ (n ++ (a ++ space ∷ d))) ++ line_feed ∷ []) ++ x ≡ w ++ (n ++ (a ++ space ∷ (d ++ line_feed ∷ x)))
-poke_form w n a d x = simp append_assoc
+feed_form : (c : PlanlessCall) (x : List ℕ) → call_text c ++ x ≡ call_line c ++ line_feed ∷ (lines_after c ++ x)
+feed_form c x = text_form c x ∙ append_assoc (call_line c) (line_feed ∷ []) (lines_after c ++ x)
 
--- ---- numbers and words behind words that are the same
+pub its_line : (c : PlanlessCall) (text rest : List ℕ) (end : ℕ) → position (λ b. b == line_feed) text ≡ Some end → text ≡ call_text c ++ rest → take end text ≡ call_line c
+its_line c text rest end at is =
+    let here = byte_at line_feed text end at in
+    (first_at line_feed (take end text) (call_line c) _ _ here.1 (without_feed (call_plain c)) (sym here.2 ∙ is ∙ feed_form c rest)).0
 
-pub one_behind : (w : List ℕ) (m n : ℕ) (x y : List ℕ) → IsNumber m → IsNumber n → w ++ (number m space ++ x) ≡ w ++ (number n space ++ y) → (m ≡ n) × (x ≡ y)
-one_behind w m n x y fm fn same = one_number m n space x y fm fn space_ends (append_cancel_left w _ _ same)
+pub no_line : (text : List ℕ) → position (λ b. b == line_feed) text ≡ None → BeginsWithNoCall text
+no_line text none c rest can is = no_byte line_feed text none (call_line c) _ (without_feed (call_plain c)) (is ∙ feed_form c rest)
 
-pub one_ending : (w : List ℕ) (m n : ℕ) (x y : List ℕ) → IsNumber m → IsNumber n → w ++ (number m line_feed ++ x) ≡ w ++ (number n line_feed ++ y) → (m ≡ n) × (x ≡ y)
-one_ending w m n x y fm fn same = one_number m n line_feed x y fm fn ends_line (append_cancel_left w _ _ same)
+-- ---- one call
 
-pub one_hex_front : (a b e : ℕ) (x y : List ℕ) → IsWord a → IsWord b → hex8 a ++ e ∷ x ≡ hex8 b ++ e ∷ y → (a ≡ b) × (x ≡ y)
-one_hex_front a b e x y fa fb same =
-    let one : a ≡ b = one_hex8 a b fa fb (hex8_in_front a b (e ∷ x) (e ∷ y) same) in
-    (one, ap (drop 1) (append_cancel_left (hex8 b) (e ∷ x) (e ∷ y) (ap (λ (n : ℕ). hex8 n ++ e ∷ x) (sym one) ∙ same)))
+same_number : (w : List ℕ) (m n : ℕ) → IsNumber m → IsNumber n → w ++ decimal m ≡ w ++ decimal n → m ≡ n
+same_number w m n few less e = decimal_injective m n (omega (arith, few)) (omega (arith, less)) (append_cancel_left w (decimal m) (decimal n) e)
 
-pub at_index : (i : ℕ) (x y : List ℕ) → x ≡ y → get_or x i 0 ≡ get_or y i 0
-at_index i x y e = ap (λ (l : List ℕ). get_or l i 0) e
+at_index : (i : ℕ) {x y : List ℕ} → x ≡ y → get_or x i 0 ≡ get_or y i 0
+at_index i e = ap (λ (l : List ℕ). get_or l i 0) e
 
--- ---- the calls
-
-one_named : (w : List ℕ) (m n : ℕ) (x y : List ℕ) → IsNumber m → IsNumber n → ((w ++ decimal m) ++ line_feed ∷ []) ++ x ≡ ((w ++ decimal n) ++ line_feed ∷ []) ++ y → (m ≡ n) × (x ≡ y)
-one_named w m n x y fm fn same = one_ending w m n x y fm fn (sym (named_form w m x) ∙ same ∙ named_form w n y)
-
-one_peek : (m n a b : ℕ) (x y : List ℕ) → CanSay (Peek m a) → CanSay (Peek n b) → call_text (Peek m a) ++ x ≡ call_text (Peek n b) ++ y → (◌≡◌ {A = PlanlessCall} (Peek m a) (Peek n b)) × (x ≡ y)
-one_peek m n a b x y can can_too same =
-    let first = one_behind (codes "peek ") m n _ _ can.0 can_too.0
-    (sym (peek_form (codes "peek ") (number m space) (hex8 a) x) ∙ same ∙ peek_form (codes "peek ") (number n space) (hex8 b) y) in
-    let second = one_hex_front a b line_feed x y can.1 can_too.1 first.1 in
-    (ap (λ (v : ℕ). Peek v a) first.0 ∙ ap (Peek n) second.0, second.1)
-
-one_poke : (m n a b v w : ℕ) (x y : List ℕ) → CanSay (Poke m a v) → CanSay (Poke n b w) → call_text (Poke m a v) ++ x ≡ call_text (Poke n b w) ++ y → (◌≡◌ {A = PlanlessCall} (Poke m a v) (Poke n b w)) × (x ≡ y)
-one_poke m n a b v w x y can can_too same =
-    let first = one_behind (codes "poke ") m n _ _ can.0 can_too.0
-    (sym (poke_form (codes "poke ") (number m space) (hex8 a) (hex8 v) x) ∙ same ∙ poke_form (codes "poke ") (number n space) (hex8 b) (hex8 w) y) in
-    let second = one_hex_front a b space _ _ can.1 can_too.1 first.1 in
-    let third = one_hex_front v w line_feed x y can.2 can_too.2 second.1 in
-    (ap (λ (k : ℕ). Poke k a v) first.0 ∙ ap (λ (k : ℕ). Poke n k v) second.0 ∙ ap (Poke n b) third.0, third.1)
-
--- a call's lines, and what stands behind them
-pub one_call : (a b : PlanlessCall) (x y : List ℕ) → CanSay a → CanSay b → call_text a ++ x ≡ call_text b ++ y → (a ≡ b) × (x ≡ y)
-one_call (Submit c) (Submit d) x y p q same =
-    let one = one_batch_front c d x y p q same in
+one_of : (a b : PlanlessCall) (x y : List ℕ) → CanSay a → CanSay b → (call_line a ≡ call_line b) × (lines_after a ++ x ≡ lines_after b ++ y) → (a ≡ b) × (x ≡ y)
+one_of (Submit c) (Submit d) x y p q e =
+    let few = p.few in
+    let less = q.few in
+    let one = same_lines widest widest_shape c d x y p.within q.within (same_number (codes "batch ") (length c) (length d) (omega arith) (omega arith) e.0) e.1 in
     (ap Submit one.0, one.1)
-one_call (Fetch m) (Fetch n) x y p q same =
-    let one = one_named (codes "fetch ") m n x y p q same in
-    (ap Fetch one.0, one.1)
-one_call (Settle m) (Settle n) x y p q same =
-    let one = one_named (codes "settle ") m n x y p q same in
-    (ap Settle one.0, one.1)
-one_call (Run m) (Run n) x y p q same =
-    let one = one_named (codes "run ") m n x y p q same in
-    (ap Run one.0, one.1)
-one_call (Show m) (Show n) x y p q same =
-    let one = one_named (codes "show ") m n x y p q same in
-    (ap Show one.0, one.1)
-one_call (Discard m) (Discard n) x y p q same =
-    let one = one_named (codes "drop ") m n x y p q same in
-    (ap Discard one.0, one.1)
-one_call (Peek m a) (Peek n b) x y p q same = one_peek m n a b x y p q same
-one_call (Poke m a v) (Poke n b w) x y p q same = one_poke m n a b v w x y p q same
-one_call a b x y p q same = absurd (omega (arith, at_index 0 (call_text a ++ x) (call_text b ++ y) same, at_index 1 (call_text a ++ x) (call_text b ++ y) same))
+one_of (Fetch m) (Fetch n) x y p q e = (ap Fetch (same_number (codes "fetch ") m n p q e.0), e.1)
+one_of (Settle m) (Settle n) x y p q e = (ap Settle (same_number (codes "settle ") m n p q e.0), e.1)
+one_of (Run m) (Run n) x y p q e = (ap Run (same_number (codes "run ") m n p q e.0), e.1)
+one_of (Show m) (Show n) x y p q e = (ap Show (same_number (codes "show ") m n p q e.0), e.1)
+one_of (Discard m) (Discard n) x y p q e = (ap Discard (same_number (codes "drop ") m n p q e.0), e.1)
+one_of (Peek m a) (Peek n b) x y p q e = (let one = means_one _ (Some (command.Peek m a)) (Some (command.Peek n b)) (p, refl) (q, e.0) in cc, e.1)
+one_of (Poke m a v) (Poke n b w) x y p q e = (let one = means_one _ (Some (command.Poke m a v)) (Some (command.Poke n b w)) (p, refl) (q, e.0) in cc, e.1)
+one_of a b x y p q e = absurd (omega (arith, at_index 0 e.0, at_index 1 e.0))
+
+-- a call's lines, and what stands after them
+pub one_call : (a b : PlanlessCall) (x y : List ℕ) → CanSay a → CanSay b → call_text a ++ x ≡ call_text b ++ y → (a ≡ b) × (x ≡ y)
+one_call a b x y p q same = one_of a b x y p q (first_line _ _ (call_plain a) (call_plain b) (sym (text_form a x) ∙ same ∙ text_form b y))
+
+-- ---- the call of a line
+
+pub called : (r : Option PlanlessCall) (line : List ℕ) (by : SessionCommand) → Means line (Some by) → IfSome r (λ call. command_for call ≡ Some by) → IfSome r (IsCallOf line)
+called None line by means is = tt
+called (Some (Submit batch)) line by means is = absurd cc
+called (Some (Fetch id)) line by means is = absurd cc
+called (Some (Settle id)) line by means is = absurd cc
+called (Some call) line by means is = subst (Means line) (sym is) means
+
+-- none, where no word and no command makes one
+pub uncalled : (line : List ℕ) (by : Option SessionCommand) → Means line by → ((n : ℕ) → IsNumber n → line ≢ codes "fetch " ++ decimal n) → ((n : ℕ) → IsNumber n → line ≢ codes "settle " ++ decimal n)
+    → ((call : PlanlessCall) (one : SessionCommand) → command_for call ≡ Some one → by ≢ Some one) → (call : PlanlessCall) → IsCallOf line call → ⊥
+uncalled line by means fetches settles other (Submit batch) is = is
+uncalled line by means fetches settles other (Fetch id) is = fetches id is.0 is.1
+uncalled line by means fetches settles other (Settle id) is = settles id is.0 is.1
+uncalled line by means fetches settles other call is = other call _ refl (means_one line by (command_for call) means is)
+
+pub still_none : {T : Type 0} (o : Option T) (P Q : Type 0) → (P → Q) → IfNone o P → IfNone o Q
+still_none None P Q f p = f p
+still_none (Some x) P Q f p = tt
+
+-- what was read of the first line is the call's text
+pub call_there : (c : PlanlessCall) (text : List ℕ) (end : ℕ) → position (λ b. b == line_feed) text ≡ Some end → IsCallOf (take end text) c → CanSay c × (text ≡ call_text c ++ drop (end + 1) text)
+call_there (Submit batch) text end at is = absurd is
+call_there c text end at is = (is.0, line_there text (call_line c) end at is.1)
+
+-- no call is there whose line isn't: neither a batch, nor one of one line
+pub no_call : (text : List ℕ) (end : ℕ) → position (λ b. b == line_feed) text ≡ Some end → ((n : ℕ) → IsNumber n → take end text ≢ codes "batch " ++ decimal n)
+    → ((c : PlanlessCall) → IsCallOf (take end text) c → ⊥) → BeginsWithNoCall text
+no_call text end at batches none (Submit batch) rest can is =
+    let few = can.few in
+    batches (length batch) (omega arith) (its_line (Submit batch) text rest end at is)
+no_call text end at batches none c rest can is = none c (can, its_line c text rest end at is)
+
+-- where the line of a batch stands there, and not the batch
+pub no_batch : (text : List ℕ) (end count : ℕ) → position (λ b. b == line_feed) text ≡ Some end → IsNumber count → take end text ≡ codes "batch " ++ decimal count → BeginsWithNoBatch text count → BeginsWithNoCall text
+no_batch text end count at fits is none (Submit batch) rest can e =
+    let few = can.few in
+    none batch rest can (same_number (codes "batch ") (length batch) count (omega arith) fits (sym (its_line (Submit batch) text rest end at e) ∙ is)) e
+no_batch text end count at fits is none c rest can e = omega (arith, at_index 0 (sym is ∙ its_line c text rest end at e))
+
+-- ---- entries
+
+pub no_entry : (text after : List ℕ) (n : ℕ) → IsNumber n × (text ≡ number n space ++ after) → BeginsWithNoCall after → (limit : ℕ) → BeginsWithNoEntry limit text
+no_entry text after n read none limit session call rest fits below can e = none call rest can (after_number text n session space after (call_text call ++ rest) ends_space fits read e).1
+
+-- where the number is too great
+pub no_such_session : (text after : List ℕ) (n limit : ℕ) → IsNumber n × (text ≡ number n space ++ after) → limit ≤ n → BeginsWithNoEntry limit text
+no_such_session text after n limit read out session call rest fits below can e =
+    let one = after_number text n session space after (call_text call ++ rest) ends_space fits read e in
+    omega (arith, one.0, out, below)

@@ -4,19 +4,19 @@ use Rattle.std.proofs.Crossing.{crosses}
 use Rattle.std.specs.declared.io.Write as Write
 use Rattle.line_words.proofs.line.Line.TheSendSync as line
 use Rattle.client_session.proofs.reply_line.ReplyLine.TheSendSync as reply_line
-use Rattle.batch_book.specs.contracts.past.PastEntries as PastEntries
+use Rattle.batch_book.specs.contracts.ghost_history.GhostHistory as GhostHistory
 use Rattle.book_record.specs.declared.naming.StreamName as StreamName
 use Rattle.book_record.specs.contracts.streamed.Streamed as Streamed
-use Rattle.book_record.specs.contracts.waiting_text.WaitingText as WaitingText
-use Rattle.book_record.specs.contracts.waiting_text.WaitingText.TheInside as Inside
+use Rattle.book_record.specs.contracts.pending_text.PendingText as PendingText
+use Rattle.book_record.specs.contracts.pending_text.PendingText.TheInside as Inside
 use denote.RattleType.{RattleType}
 use denote.Param.Send.{IsSend, view_send, recorded_send, struct_send, sendable}
 use denote.Struct.Declared.{shape}
 
-past_send : IsSend PastEntries.the_row
+past_send : IsSend GhostHistory.the_row
 past_send = search rules
 
-pub waiting_send : IsSend WaitingText.the_row
+pub waiting_send : IsSend PendingText.the_row
 waiting_send =
     let T = Inside.the_type in
     view_send Inside.the_row _ _ _ _

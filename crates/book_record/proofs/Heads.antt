@@ -1,117 +1,82 @@
 -- The head is read in one way only.
-use Rattle.std.proofs.Common.{◌≡◌, ◌≢◌, ◌↔◌, ◌==◌, ℕ, ◌+◌, ◌-◌, ◌<◌, ◌≤◌, Bool, true, false, IsTrue, Some, get_or, take, length-take-le, AllPairs, List, [], ◌∷◌, ◌++◌, length, All, codes, Result, Ok, Err, refl, sym, ap, ◌∙◌, append_assoc, subst, arith}
-use Rattle.std.specs.Prelude.{IsOk, position}
+use Rattle.std.proofs.Common.{◌≡◌, ◌≢◌, ◌↔◌, ◌==◌, ℕ, ◌+◌, ◌-◌, ◌<◌, ◌≤◌, Bool, true, false, IsTrue, None, Some, get_or, take, drop, length-take-le, AllPairs, List, [], ◌∷◌, ◌++◌, length, All, codes, refl, sym, ap, ◌∙◌, append_assoc, subst, arith}
+use Rattle.std.specs.Prelude.{position}
+use Rattle.std.specs.Fmt.{decimal}
 use Rattle.std.proofs.Math.Seq.{take-append_seam}
 use Rattle.std.specs.List.{flat_map}
-use Rattle.std.proofs.lemmas.Bool.{false≢true}
+use Rattle.std.proofs.lemmas.Fmt.{decimal_injective}
 use Rattle.std.proofs.lemmas.List.{append_cancel_left, get_or_append_left, get_or_at, length-append}
 use Rattle.std.proofs.lemmas.List.Quantifiers.{all_pairs_push}
-use Rattle.std.proofs.lemmas.List.Elements.{All-head, All-nil, All-push, All-tail}
+use Rattle.std.proofs.lemmas.List.Elements.{All-append, All-cons, All-head, All-nil, All-push, All-tail}
 use Rattle.std.proofs.lemmas.Grind.{flat_map-append}
-use Rattle.batch.specs.Extent.{Extent, IsShape, extent}
-use Rattle.batch.specs.Text.{IsNumber, number, space, line_feed}
-use Rattle.batch.proofs.Lines.{Ends, behind_number, ends_line, ends_space}
-use Rattle.batch.proofs.Shapes.{of_shape}
+use Rattle.batch.specs.Extent.{Extent, IsShape}
+use Rattle.batch.specs.ShapeText.{shape_text}
+use Rattle.batch.specs.Text.{IsNumber, space, line_feed}
+use Rattle.batch.proofs.Shapes.{one_shape}
 use Rattle.client_session.specs.Bytes.{HasNoFeed}
 use Rattle.exchange_limits.specs.declared.limits.TheConstants.{MAX_SESSIONS}
-use Rattle.line_words.specs.HexWords.{IsWord, hex8, BeginsWithNoHex8}
-use Rattle.line_words.proofs.Numbers.{behind_word}
-use Rattle.book_record.proofs.CallTexts.{one_hex_front}
-use Rattle.book_record.specs.Heads.{AreClients, AreNames, BeginsWithNoClient, BeginsWithNoHead, BeginsWithNoNames, BeginsWithNoNumbers, BeginsWithNoRackLine, IsName, client_line, head_lines, head_of, letter_x, rack_line}
+use Rattle.line_words.specs.HexWords.{IsWord, hex8}
+use Rattle.line_words.proofs.Numbers.{after_hex8, after_word, hex8_in_front, one_hex8}
+use Rattle.book_record.specs.Heads.{AreClients, AreNames, BeginsWithNoClient, BeginsWithNoHead, BeginsWithNoNames, IsName, IsNoRackLine, client_line, head_lines, head_of, rack_line, rack_words}
 use Rattle.book_record.specs.Sums.{sum_at, sum_line}
-use Rattle.book_record.proofs.Feeds.{first_line}
-use Rattle.book_record.proofs.OneReading.{line_at}
+use Rattle.book_record.proofs.Feeds.{IsNot, IsPlain, both, byte_at, decimal_plain, first_at, first_line, hex8_plain, no_byte, solid_decimal, without_feed, words}
 
-pub ends_x : Ends letter_x
-ends_x = λ digit. omega arith
+-- ---- the first line
 
-form : (r m k w h n x : List ℕ) → (r ++ (m ++ (k ++ (w ++ (h ++ space ∷ n))))) ++ x ≡ r ++ (m ++ (k ++ (w ++ (h ++ space ∷ (n ++ x)))))
-form r m k w h n x = simp append_assoc
+no_space : (n : ℕ) → All (IsNot space) (decimal n)
+no_space n k d less same = let so = (solid_decimal n k d less).0 in omega (arith, so, same)
 
-line_form : (e : Extent) (sum n : ℕ) (x : List ℕ)
-    → rack_line e sum n ++ x ≡ codes "record-2 " ++ (number e.modules letter_x ++ (number e.blocks letter_x ++ (number e.words space ++ (hex8 sum ++ space ∷ (number n line_feed ++ x)))))
-line_form e sum n x = form (codes "record-2 ") (number e.modules letter_x) (number e.blocks letter_x) (number e.words space) (hex8 sum) (number n line_feed) x
+no_space_in_x : All (IsNot space) (codes "x")
+no_space_in_x = All-cons (IsNot space) 120 [] (λ e. omega (arith, e)) (All-nil (IsNot space))
 
--- three numbers are those that were read
-pub record OneNumbers (a b c m k w : ℕ) (x y : List ℕ) : Type 0 where
-  pub first : a ≡ m
-  pub second : b ≡ k
-  pub third : c ≡ w
-  pub rest : x ≡ y
+pub spaceless : (e : Extent) → All (IsNot space) (shape_text e)
+spaceless e =
+    let P = IsNot space in
+    let m = decimal e.modules in
+    let k = decimal e.blocks in
+    All-append P (m ++ codes "x" ++ k ++ codes "x") (decimal e.words)
+    (All-append P (m ++ codes "x" ++ k) (codes "x") (All-append P (m ++ codes "x") k (All-append P m (codes "x") (no_space e.modules) no_space_in_x) (no_space e.blocks)) no_space_in_x) (no_space e.words)
 
-one_numbers : (text x y : List ℕ) (a b c m k w : ℕ) → IsNumber a × IsNumber b × IsNumber c → IsNumber m → IsNumber k → IsNumber w
-    → text ≡ number a letter_x ++ (number b letter_x ++ (number c space ++ x)) → text ≡ number m letter_x ++ (number k letter_x ++ (number w space ++ y)) → OneNumbers a b c m k w x y
-one_numbers text x y a b c m k w read fm fk fw is same =
-    let p = behind_number text a m letter_x _ _ ends_x fm (read.0, is) same in
-    let q = behind_number _ b k letter_x _ _ ends_x fk (read.1, sym p.1) refl in
-    let r = behind_number _ c w space x y ends_space fw (read.2, sym q.1) refl in
-    record { first = p.0; second = q.0; third = r.0; rest = r.1 }
+rack_plain : (e : Extent) (sum n : ℕ) → IsPlain (rack_words e sum n)
+rack_plain e sum n =
+    both (words (codes "record-2 ") refl) (both (both (both (both (both (decimal_plain e.modules) (words (codes "x") refl)) (decimal_plain e.blocks)) (words (codes "x") refl)) (decimal_plain e.words))
+    (both (words (space ∷ []) refl) (both (hex8_plain sum) (both (words (space ∷ []) refl) (decimal_plain n)))))
 
-pub no_blocks : (text after : List ℕ) (a : ℕ) → IsNumber a × (text ≡ number a letter_x ++ after) → ((n : ℕ) (rest : List ℕ) → IsNumber n → after ≢ number n letter_x ++ rest) → BeginsWithNoNumbers text
-no_blocks text after a read none m k w rest fm fk fw same = none k (number w space ++ rest) fk (behind_number text a m letter_x _ _ ends_x fm read same).1
+one_hex_front : (a b : ℕ) (x y : List ℕ) → IsWord a → IsWord b → hex8 a ++ space ∷ x ≡ hex8 b ++ space ∷ y → (a ≡ b) × (x ≡ y)
+one_hex_front a b x y fa fb same = (one_hex8 a b fa fb (hex8_in_front a b (space ∷ x) (space ∷ y) same), after_hex8 _ x y a b refl same)
 
-pub no_words : (text after more : List ℕ) (a b : ℕ) → IsNumber a × (text ≡ number a letter_x ++ after) → IsNumber b × (after ≡ number b letter_x ++ more) → ((n : ℕ) (rest : List ℕ) → IsNumber n → more ≢ number n space ++ rest) → BeginsWithNoNumbers text
-no_words text after more a b read next none m k w rest fm fk fw same =
-    none w rest fw (behind_number after b k letter_x _ _ ends_x fk next (behind_number text a m letter_x _ _ ends_x fm read same).1).1
+-- what stands before the space of a line that is read, and after it
+pub shape_there : (line rest : List ℕ) (end : ℕ) (e : Extent) (sum n : ℕ) → line ≡ codes "record-2 " ++ rest → position (λ b. b == space) rest ≡ Some end → line ≡ rack_words e sum n → (take end rest ≡ shape_text e) × (drop (end + 1) rest ≡ hex8 sum ++ space ∷ decimal n)
+shape_there line rest end e sum n is at same =
+    let here = byte_at space rest end at in
+    first_at space (take end rest) (shape_text e) _ _ here.1 (spaceless e) (sym here.2 ∙ after_word line (codes "record-2 ") rest _ is same)
 
--- ---- what isn't there
+pub no_count : (s sum n : ℕ) (digits there : List ℕ) → IsWord s × (there ≡ hex8 s ++ space ∷ digits) → IsWord sum → there ≡ hex8 sum ++ space ∷ decimal n → digits ≡ decimal n
+no_count s sum n digits there read word same = (one_hex_front s sum digits (decimal n) read.0 word (sym read.1 ∙ same)).1
 
-pub no_front : (text : List ℕ) → ((x : List ℕ) → text ≢ codes "record-2 " ++ x) → BeginsWithNoRackLine text
-no_front text none e sum n rest is word fits same = none _ (same ∙ line_form e sum n rest)
+pub rack_spelled : (line rest digits : List ℕ) (end : ℕ) (e : Extent) (sum n : ℕ) → line ≡ codes "record-2 " ++ rest → position (λ b. b == space) rest ≡ Some end → take end rest ≡ shape_text e → drop (end + 1) rest ≡ hex8 sum ++ space ∷ digits → digits ≡ decimal n
+    → line ≡ rack_words e sum n
+rack_spelled line rest digits end e sum n is at shape hex count =
+    is ∙ ap (λ (l : List ℕ). codes "record-2 " ++ l) ((byte_at space rest end at).2 ∙ ap (λ (l : List ℕ). l ++ space ∷ drop (end + 1) rest) shape
+    ∙ ap (λ (l : List ℕ). shape_text e ++ space ∷ l) (hex ∙ ap (λ (l : List ℕ). hex8 sum ++ space ∷ l) count))
 
-behind_front : (text rest : List ℕ) (e : Extent) (sum n : ℕ) (x : List ℕ) → text ≡ codes "record-2 " ++ rest → text ≡ rack_line e sum n ++ x
-    → rest ≡ number e.modules letter_x ++ (number e.blocks letter_x ++ (number e.words space ++ (hex8 sum ++ space ∷ (number n line_feed ++ x))))
-behind_front text rest e sum n x is same = behind_word text (codes "record-2 ") rest _ is (same ∙ line_form e sum n x)
+record OneRackLine (e f : Extent) (s t n m : ℕ) (x y : List ℕ) : Type 0 where
+  shape : e ≡ f
+  sum : s ≡ t
+  count : n ≡ m
+  rest : x ≡ y
 
-pub no_numbers : (text rest : List ℕ) → text ≡ codes "record-2 " ++ rest → BeginsWithNoNumbers rest → BeginsWithNoRackLine text
-no_numbers text rest is none e sum n x allowed word few same =
-    let fits = of_shape e allowed in
-    none e.modules e.blocks e.words _ fits.modules fits.blocks fits.words (behind_front text rest e sum n x is same)
-
--- what stands behind the numbers of a line that is read
-behind_numbers : (text rest after : List ℕ) (a b c : ℕ) (e : Extent) (sum n : ℕ) (x : List ℕ) → text ≡ codes "record-2 " ++ rest → IsNumber a × IsNumber b × IsNumber c → rest ≡ number a letter_x ++ (number b letter_x ++ (number c space ++ after))
-    → IsShape e → text ≡ rack_line e sum n ++ x → OneNumbers a b c e.modules e.blocks e.words after (hex8 sum ++ space ∷ (number n line_feed ++ x))
-behind_numbers text rest after a b c e sum n x is read are allowed same =
-    let fits = of_shape e allowed in
-    one_numbers rest after (hex8 sum ++ space ∷ (number n line_feed ++ x)) a b c e.modules e.blocks e.words read fits.modules fits.blocks fits.words are (behind_front text rest e sum n x is same)
-
-pub no_sum : (text rest after : List ℕ) (a b c : ℕ) → text ≡ codes "record-2 " ++ rest → IsNumber a × IsNumber b × IsNumber c → rest ≡ number a letter_x ++ (number b letter_x ++ (number c space ++ after)) → BeginsWithNoHex8 after space → BeginsWithNoRackLine text
-no_sum text rest after a b c is read are none e sum n x allowed word fits same =
-    none sum (number n line_feed ++ x) word (behind_numbers text rest after a b c e sum n x is read are allowed same).rest
-
-pub no_count : (text rest after more : List ℕ) (a b c s : ℕ) → text ≡ codes "record-2 " ++ rest → IsNumber a × IsNumber b × IsNumber c → rest ≡ number a letter_x ++ (number b letter_x ++ (number c space ++ after)) → IsWord s × (after ≡ hex8 s ++ space ∷ more)
-    → ((n : ℕ) (y : List ℕ) → IsNumber n → more ≢ number n line_feed ++ y) → BeginsWithNoRackLine text
-no_count text rest after more a b c s is read are sum none e other n x allowed word fits same =
-    none n x fits (one_hex_front s other space more (number n line_feed ++ x) sum.0 word (sym sum.1 ∙ (behind_numbers text rest after a b c e other n x is read are allowed same).rest)).1
-
-pub no_shape : (text rest after : List ℕ) (a b c : ℕ) → text ≡ codes "record-2 " ++ rest → IsNumber a × IsNumber b × IsNumber c → rest ≡ number a letter_x ++ (number b letter_x ++ (number c space ++ after)) → (IsShape (extent a b c) → ⊥) → BeginsWithNoRackLine text
-no_shape text rest after a b c is read are bad e sum n x allowed word fits same =
-    let one = behind_numbers text rest after a b c e sum n x is read are allowed same in
-    bad (subst (λ (k : ℕ). IsShape (extent a b k)) (sym one.third) (subst (λ (k : ℕ). IsShape (extent a k e.words)) (sym one.second) (subst (λ (k : ℕ). IsShape (extent k e.blocks e.words)) (sym one.first) allowed)))
-
-pub no_ok : {T E : Type 0} (r : Result T E) → ((x : T) → r ≡ Ok x → ⊥) → IsOk r → ⊥
-no_ok (Ok x) other is = other x refl
-no_ok (Err e) other is = false≢true is
-
--- ---- one first line
-
-pub record OneRackLine (e f : Extent) (s t n m : ℕ) (x y : List ℕ) : Type 0 where
-  pub shape : e ≡ f
-  pub sum : s ≡ t
-  pub count : n ≡ m
-  pub rest : x ≡ y
-
-same_extent : (e f : Extent) → e.modules ≡ f.modules → e.blocks ≡ f.blocks → e.words ≡ f.words → e ≡ f
-same_extent e f m b w =
-    ap (λ (k : ℕ). extent k e.blocks e.words) m ∙ ap (λ (k : ℕ). extent f.modules k e.words) b ∙ ap (extent f.modules f.blocks) w
-
-pub one_rack_line : (e f : Extent) (s t n m : ℕ) (x y : List ℕ) → IsShape e → IsShape f → IsWord s → IsWord t → IsNumber n → IsNumber m → rack_line e s n ++ x ≡ rack_line f t m ++ y → OneRackLine e f s t n m x y
+one_rack_line : (e f : Extent) (s t n m : ℕ) (x y : List ℕ) → IsShape e → IsShape f → IsWord s → IsWord t → IsNumber n → IsNumber m → rack_line e s n ++ x ≡ rack_line f t m ++ y → OneRackLine e f s t n m x y
 one_rack_line e f s t n m x y p q ws wt fn fm same =
-    let fits = of_shape e p in
-    let numbers = behind_numbers (rack_line e s n ++ x) _ _ e.modules e.blocks e.words f t m y (line_form e s n x) (fits.modules, fits.blocks, fits.words) refl q same in
-    let hex = one_hex_front s t space _ _ ws wt numbers.rest in
-    let count = behind_number _ n m line_feed x y ends_line fm (fn, refl) hex.1 in
-    record { shape = same_extent e f numbers.first numbers.second numbers.third; sum = hex.0; count = count.0; rest = count.1 }
+    let line = first_line x y (rack_plain e s n) (rack_plain f t m) same in
+    let shape = first_at space (shape_text e) (shape_text f) _ _ (spaceless e) (spaceless f) (append_cancel_left (codes "record-2 ") _ _ line.0) in
+    let hex = one_hex_front s t (decimal n) (decimal m) ws wt shape.1 in
+    record {
+      shape = one_shape (shape_text f) e f (record { spelled = sym shape.0; allowed = p }) (record { spelled = refl; allowed = q });
+      sum = hex.0;
+      count = decimal_injective n m (omega (arith, fn)) (omega (arith, fm)) hex.1;
+      rest = line.1;
+    }
 
 -- ---- the names
 
@@ -122,7 +87,7 @@ pub names_form : (name : List ℕ) (names : List (List ℕ)) (x : List ℕ) → 
 names_form name names x = append_assoc (client_line name) (flat_map client_line names) x ∙ client_form (codes "client ") name (flat_map client_line names ++ x)
 
 one_client : (w v x y : List ℕ) → HasNoFeed w → HasNoFeed v → codes "client " ++ (w ++ line_feed ∷ x) ≡ codes "client " ++ (v ++ line_feed ∷ y) → (w ≡ v) × (x ≡ y)
-one_client w v x y p q same = first_line w v x y p q (append_cancel_left (codes "client ") _ _ same)
+one_client w v x y p q same = first_at line_feed w v x y p q (append_cancel_left (codes "client ") _ _ same)
 
 pub one_names : (ns ms : List (List ℕ)) (x y : List ℕ) → length ns ≡ length ms → All IsName ns → All IsName ms → flat_map client_line ns ++ x ≡ flat_map client_line ms ++ y → (ns ≡ ms) × (x ≡ y)
 one_names [] [] x y len p q same = (refl, same)
@@ -146,13 +111,13 @@ few_number n few = let least : n ≤ 16 = few in omega (arith, least)
 -- where a name would be empty, there is none
 pub no_name : (text after : List ℕ) (end : ℕ) → text ≡ codes "client " ++ after → position (λ b. b == line_feed) after ≡ Some end → end ≡ 0 → BeginsWithNoClient text
 no_name text after end is at zero name rest so same =
-    let line = line_at after end at in
+    let line = byte_at line_feed after end at in
     let nothing : take end after ≡ [] = ap (λ (k : ℕ). take k after) zero in
-    so.0 (sym (first_line (take end after) name _ rest line.1 so.1 (sym line.2 ∙ append_cancel_left (codes "client ") _ _ (sym is ∙ same))).0 ∙ nothing)
+    so.0 (sym (first_at line_feed (take end after) name _ rest line.1 so.1 (sym line.2 ∙ append_cancel_left (codes "client ") _ _ (sym is ∙ same))).0 ∙ nothing)
 
 pub is_name : (after : List ℕ) (end : ℕ) → position (λ b. b == line_feed) after ≡ Some end → (end ≡ 0 → ⊥) → IsName (take end after)
 is_name after end at some =
-    let line = line_at after end at in
+    let line = byte_at line_feed after end at in
     ((λ none. some (omega (arith, ap length none, length-take-le end after (omega (arith, line.0))))), line.1)
 
 -- ---- the names that were read
@@ -282,6 +247,20 @@ head_form : (e : Extent) (s : ℕ) (names : List (List ℕ)) (x : List ℕ) → 
 head_form e s names x =
     let sum = sum_line (sum_at 0 (head_lines e s names)) in
     append_assoc (head_lines e s names) sum x ∙ append_assoc (rack_line e s (length names)) (flat_map client_line names) (sum ++ x)
+
+line_form : (e : Extent) (s : ℕ) (names : List (List ℕ)) (x : List ℕ) → head_of e s names ++ x ≡ rack_words e s (length names) ++ line_feed ∷ (flat_map client_line names ++ (sum_line (sum_at 0 (head_lines e s names)) ++ x))
+line_form e s names x = head_form e s names x ∙ append_assoc (rack_words e s (length names)) (line_feed ∷ []) _
+
+-- no head where no line ends, nor where the first is that of none
+pub no_end : (text : List ℕ) → position (λ b. b == line_feed) text ≡ None → BeginsWithNoHead text
+no_end text none e sum n names rest p word are same =
+    no_byte line_feed text none (rack_words e sum (length names)) _ (without_feed (rack_plain e sum (length names))) (same ∙ line_form e sum names rest)
+
+pub no_first : (text : List ℕ) (end : ℕ) → position (λ b. b == line_feed) text ≡ Some end → IsNoRackLine (take end text) → BeginsWithNoHead text
+no_first text end at none e sum n names rest p word are same =
+    let here = byte_at line_feed text end at in
+    none e sum (length names) p word (few_number (length names) (counted names n are).few)
+    (first_at line_feed (take end text) (rack_words e sum (length names)) _ _ here.1 (without_feed (rack_plain e sum (length names))) (sym here.2 ∙ same ∙ line_form e sum names rest)).0
 
 -- the same shape, sum and names, and one rest
 pub record IsSameHead (e f : Extent) (s t : ℕ) (ns ms : List (List ℕ)) (x y : List ℕ) : Type 0 where

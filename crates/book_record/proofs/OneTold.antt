@@ -6,12 +6,11 @@ use Rattle.std.specs.Map.{lookup}
 use Rattle.std.proofs.lemmas.Map.Entries.{All-lookup}
 use Rattle.batch.specs.declared.transfer.Transfer.{Transfer}
 use Rattle.batch.specs.Equal.{same_transfers}
-use Rattle.batch.specs.Extent.{Extent}
 use Rattle.batch.specs.Overlap.{IsApart, IsFirstOverlap}
 use Rattle.batch.proofs.Equal.{same_transfers-Decides}
 use Rattle.batch.proofs.FirstOverlap.{one_first}
 use Rattle.link_graph.specs.Schedules.{IsScheduleOf}
-use Rattle.module_memory.specs.Store.{Store, HasAllBlocks}
+use Rattle.module_memory.specs.Store.{HasAllBlocks}
 use Rattle.module_memory.specs.Address.{fault_of}
 use Rattle.module_memory.specs.Core.{IsPlaced}
 use Rattle.module_memory.proofs.CoreLaw.{one_placed}
@@ -30,7 +29,7 @@ use Rattle.batch_book.specs.Machine.{Machine, owned, batch_of, run_to, Gives, re
 use Rattle.batch_book.specs.History.{HasOwnPlan, HaveOwnPlans}
 use Rattle.batch_book.specs.Told.{told}
 use Rattle.book_record.specs.RecordText.{CanBeReplied}
-use Rattle.book_record.proofs.Alike.{us, uh, um, up, Alike, settle_by, batch_untold, run_to_untold, submit_untold, fetched, settled, shown, discarded, peek_untold, poke_untold}
+use Rattle.book_record.proofs.Alike.{us, uh, um, up, Alike, settle_by, batch_untold, by_batch, discard_untold, fetch_untold, run_to_untold, settle_untold, show_untold, submit_untold, peek_untold, poke_untold}
 
 -- one reply, and machines alike
 abbrev Agree : Reply → Reply → Machine → Machine → Type 0
@@ -56,8 +55,8 @@ pub settle_up : (m n : Machine) (session id : ℕ) (p q : Plan) → Alike m n �
     → up (settle m id p (batch_of m session id)) ≡ up (settle n id q (batch_of n session id))
 settle_up m n session id p q e batch count =
     let by : Machine → List Transfer → ℕ → Reply × Machine = λ z b c. settle_by z id b c (batch_of z session id) in
-    sym (settled session id p m) ∙ ap (λ (z : Machine). by z p.batch (length p.settings)) e ∙ ap (λ (b : List Transfer). by (um n) b (length p.settings)) batch
-    ∙ ap (λ (c : ℕ). by (um n) q.batch c) count ∙ settled session id q n
+    sym (by_batch (λ z. settle_by z id p.batch (length p.settings)) (λ z. settle z id p) (settle_untold p id) session id m) ∙ ap (λ (z : Machine). by z p.batch (length p.settings)) e ∙ ap (λ (b : List Transfer). by (um n) b (length p.settings)) batch
+    ∙ ap (λ (c : ℕ). by (um n) q.batch c) count ∙ by_batch (λ z. settle_by z id q.batch (length q.settings)) (λ z. settle z id q) (settle_untold q id) session id n
 
 settles : (m n : Machine) (session id : ℕ) (p q : Plan) (r s : Reply) (k l : Machine) → Alike m n → p.batch ≡ q.batch → length p.settings ≡ length q.settings
     → Gives (settle m id p (batch_of m session id)) r k → Gives (settle n id q (batch_of n session id)) s l → Agree r s k l
@@ -111,46 +110,34 @@ one_settle m n session id p q r s k l e can may x y =
 
 -- ---- runs
 
--- what the reply tells of a run of this plan that didn't stop, why, and the machine behind it
-data IsTold (m : Machine) (id : ℕ) (plan : Plan) (r : Reply) (k : Machine) : Type 0 where
-  overlaps : (i j : ℕ) → r ≡ reply.RunRefused (run_refusal.Overlap i j) → IsFirstOverlap plan.batch i j → k ≡ m → IsTold m id plan r k
-  misfits : r ≡ reply.RunRefused run_refusal.Shape → IsApart plan.batch → IsMisfit m.store.shape plan.batch → k ≡ m → IsTold m id plan r k
-  ran : r ≡ reply.Ran (m.runs + 1) (length plan.settings) (length plan.batch * m.store.shape.words) → CanMove m.store.shape plan.batch
-      → IsPlaced m.store plan.batch k.store → k ≡ run_to m id stage.Ran k.store → IsTold m id plan r k
+-- what the reply tells of a run of a batch, by a plan of so many settings, that didn't stop; why, and
+-- the machine after it
+data IsTold (m : Machine) (id : ℕ) (batch : List Transfer) (count : ℕ) (r : Reply) (k : Machine) : Type 0 where
+  overlaps : (i j : ℕ) → r ≡ reply.RunRefused (run_refusal.Overlap i j) → IsFirstOverlap batch i j → k ≡ m → IsTold m id batch count r k
+  misfits : r ≡ reply.RunRefused run_refusal.Shape → IsApart batch → IsMisfit m.store.shape batch → k ≡ m → IsTold m id batch count r k
+  ran : r ≡ reply.Ran (m.runs + 1) count (length batch * m.store.shape.words) → CanMove m.store.shape batch → IsPlaced m.store batch k.store → k ≡ run_to m id stage.Ran k.store → IsTold m id batch count r k
 
-tell : (m : Machine) (id : ℕ) (plan : Plan) (r : Reply) (k : Machine) → CanBeReplied r → IsRunOf m id plan r k → IsTold m id plan r k
-tell m id plan (reply.RunRefused (run_refusal.Overlap i j)) k can is = overlaps i j refl is.0 is.1
-tell m id plan (reply.RunRefused run_refusal.Shape) k can is = misfits refl is.0 is.1 is.2
+tell : (m : Machine) (id : ℕ) (plan : Plan) (r : Reply) (k : Machine) → CanBeReplied r → IsRunOf m id plan r k → IsTold (um m) id plan.batch (length plan.settings) r (um k)
+tell m id plan (reply.RunRefused (run_refusal.Overlap i j)) k can is = overlaps i j refl is.0 (ap um is.1)
+tell m id plan (reply.RunRefused run_refusal.Shape) k can is = misfits refl is.0 is.1 (ap um is.2)
 tell m id plan (reply.Ran run settings words) k can is =
     ran (ap (λ (x : ℕ). reply.Ran x settings words) is.0.number ∙ ap (λ (x : ℕ). reply.Ran (m.runs + 1) x words) is.1.all_settings ∙ ap (λ (x : ℕ). reply.Ran (m.runs + 1) (length plan.settings) x) is.1.all_moved)
-    is.0.can_move is.1.placed is.2
+    is.0.can_move is.1.placed (ap um is.2 ∙ run_to_untold m id stage.Ran k.store)
 tell m id plan (reply.Stopped run setting cause moved) k can is = absurd (can.0 run setting cause moved refl)
 tell m id plan r k can is = absurd is
 
-one_run_of : (m n : Machine) (id : ℕ) (p q : Plan) (r s : Reply) (k l : Machine) → Alike m n → HasAllBlocks m.store → p.batch ≡ q.batch → length p.settings ≡ length q.settings
-    → IsTold m id p r k → IsTold n id q s l → Agree r s k l
-one_run_of m n id p q r s k l e all batch count (overlaps i j x f km) (overlaps u v y g ln) =
-    let one = one_first q.batch i j u v (subst (λ (b : List Transfer). IsFirstOverlap b i j) batch f) g in
-    (x ∙ ap (λ (c : ℕ). reply.RunRefused (run_refusal.Overlap c j)) one.0 ∙ ap (λ (c : ℕ). reply.RunRefused (run_refusal.Overlap u c)) one.1 ∙ sym y, ap um km ∙ e ∙ sym (ap um ln))
-one_run_of m n id p q r s k l e all batch count (overlaps i j x f km) (misfits y apart misfit ln) = absurd (subst IsApart (sym batch) apart i j f.overlap)
-one_run_of m n id p q r s k l e all batch count (overlaps i j x f km) (ran y can placed ln) = absurd (subst IsApart (sym batch) can.apart i j f.overlap)
-one_run_of m n id p q r s k l e all batch count (misfits x apart misfit km) (overlaps u v y g ln) = absurd (subst IsApart batch apart u v g.overlap)
-one_run_of m n id p q r s k l e all batch count (misfits x apart misfit km) (misfits y other other_misfit ln) = (x ∙ sym y, ap um km ∙ e ∙ sym (ap um ln))
-one_run_of m n id p q r s k l e all batch count (misfits x apart misfit km) (ran y can placed ln) =
-    absurd (subst (IsMisfit m.store.shape) batch misfit (subst (λ (h : Extent). CanMove h q.batch) (sym (ap (λ (z : Machine). z.store.shape) e)) can).fits)
-one_run_of m n id p q r s k l e all batch count (ran x can placed km) (overlaps u v y g ln) = absurd (subst IsApart batch can.apart u v g.overlap)
-one_run_of m n id p q r s k l e all batch count (ran x can placed km) (misfits y apart misfit ln) =
-    absurd (misfit (subst (λ (h : Extent). CanMove h q.batch) (ap (λ (z : Machine). z.store.shape) e) (subst (CanMove m.store.shape) batch can)).fits)
-one_run_of m n id p q r s k l e all batch count (ran x can placed km) (ran y other other_placed ln) =
-    let store : m.store ≡ n.store = ap (λ (z : Machine). z.store) e in
-    let there : IsPlaced m.store p.batch l.store = subst (λ (z : Store). IsPlaced z p.batch l.store) (sym store) (subst (λ (b : List Transfer). IsPlaced n.store b l.store) (sym batch) other_placed) in
-    let one : k.store ≡ l.store = one_placed m.store k.store l.store p.batch all placed there in (
-      x ∙ ap (λ (z : Machine). reply.Ran (z.runs + 1) (length p.settings) (length p.batch * z.store.shape.words)) e
-          ∙ ap (λ (c : ℕ). reply.Ran (n.runs + 1) c (length p.batch * n.store.shape.words)) count
-          ∙ ap (λ (b : List Transfer). reply.Ran (n.runs + 1) (length q.settings) (length b * n.store.shape.words)) batch ∙ sym y,
-      ap um km ∙ run_to_untold m id stage.Ran k.store ∙ ap (λ (z : Machine). run_to z id stage.Ran k.store) e ∙ ap (run_to (um n) id stage.Ran) one
-          ∙ sym (run_to_untold n id stage.Ran l.store) ∙ sym (ap um ln),
-    )
+one_run_of : (m : Machine) (id : ℕ) (batch : List Transfer) (count : ℕ) (r s : Reply) (k l : Machine) → HasAllBlocks m.store → IsTold m id batch count r k → IsTold m id batch count s l → (r ≡ s) × (k ≡ l)
+one_run_of m id batch count r s k l all (overlaps i j x f km) (overlaps u v y g lm) =
+    let one = one_first batch i j u v f g in
+    (x ∙ ap (λ (c : ℕ). reply.RunRefused (run_refusal.Overlap c j)) one.0 ∙ ap (λ (c : ℕ). reply.RunRefused (run_refusal.Overlap u c)) one.1 ∙ sym y, km ∙ sym lm)
+one_run_of m id batch count r s k l all (overlaps i j x f km) (misfits y apart misfit lm) = absurd (apart i j f.overlap)
+one_run_of m id batch count r s k l all (overlaps i j x f km) (ran y can placed lm) = absurd (can.apart i j f.overlap)
+one_run_of m id batch count r s k l all (misfits x apart misfit km) (overlaps u v y g lm) = absurd (apart u v g.overlap)
+one_run_of m id batch count r s k l all (misfits x apart misfit km) (misfits y other too lm) = (x ∙ sym y, km ∙ sym lm)
+one_run_of m id batch count r s k l all (misfits x apart misfit km) (ran y can placed lm) = absurd (misfit can.fits)
+one_run_of m id batch count r s k l all (ran x can placed km) (overlaps u v y g lm) = absurd (can.apart u v g.overlap)
+one_run_of m id batch count r s k l all (ran x can placed km) (misfits y apart misfit lm) = absurd (misfit can.fits)
+one_run_of m id batch count r s k l all (ran x can placed km) (ran y other too lm) = (x ∙ sym y, km ∙ ap (run_to m id stage.Ran) (one_placed m.store k.store l.store batch all placed too) ∙ sym lm)
 
 refused_alike : (m n : Machine) (r s : Reply) (k l : Machine) (w : Reply) → Alike m n → Gives (w, m) r k → Gives (w, n) s l → Agree r s k l
 refused_alike m n r s k l w e x y = given (w, m) (w, n) r s k l (ap (λ (z : Machine). (w, z)) e) x y
@@ -161,7 +148,9 @@ one_run_at : (m n : Machine) (id : ℕ) (a b : Stage) (r s : Reply) (k l : Machi
 one_run_at m n id stage.Waiting stage.Waiting r s k l same e all plans can may x y = refused_alike m n r s k l (reply.Refused Unplanned) e x y
 one_run_at m n id (stage.Planned p) (stage.Planned q) r s k l same e all plans can may x y =
     let alike = plans p q refl refl in
-    one_run_of m n id p q r s k l e all alike.0 alike.1 (tell m id p r k can x) (tell n id q s l may y)
+    let other = subst (λ (z : Machine). IsTold z id q.batch (length q.settings) s (um l)) (sym e) (tell n id q s l may y) in
+    let too = subst (λ (b : List Transfer). IsTold (um m) id b (length p.settings) s (um l)) (sym alike.0) (subst (λ (c : ℕ). IsTold (um m) id q.batch c s (um l)) (sym alike.1) other) in
+    one_run_of (um m) id p.batch (length p.settings) r s (um k) (um l) all (tell m id p r k can x) too
 one_run_at m n id stage.Ran stage.Ran r s k l same e all plans can may x y = refused_alike m n r s k l (reply.Refused Already) e x y
 one_run_at m n id stage.Stopped stage.Stopped r s k l same e all plans can may x y = refused_alike m n r s k l (reply.Refused Already) e x y
 one_run_at m n id a b r s k l same e all plans can may x y = absurd cc
@@ -187,12 +176,12 @@ one_run_step m n id (Some h) (Some g) r s k l same e all own_m own_n can may x y
 one_same : (m n : Machine) (session : ℕ) (c : Call) (r s : Reply) (k l : Machine) → Alike m n → HasAllBlocks m.store → HaveOwnPlans m → HaveOwnPlans n → CanBeReplied r → CanBeReplied s
     → IsMachineStep m session c r k → IsMachineStep n session c s l → Agree r s k l
 one_same m n session (Submit batch) r s k l e all pm pn can may x y = simple (λ z. submit z session batch) (λ z. submit_untold z session batch) m n r s k l e x y
-one_same m n session (Fetch id) r s k l e all pm pn can may x y = simple (λ z. fetch z (batch_of z session id)) (fetched session id) m n r s k l e x y
+one_same m n session (Fetch id) r s k l e all pm pn can may x y = simple (λ z. fetch z (batch_of z session id)) (by_batch fetch fetch fetch_untold session id) m n r s k l e x y
 one_same m n session (Settle id p) r s k l e all pm pn can may x y = one_settle m n session id p p r s k l e can may x y
 one_same m n session (Run id) r s k l e all pm pn can may x y =
     one_run_step m n id (batch_of m session id) (batch_of n session id) r s k l (holds_alike m n session id e) e all (own_found m session id pm) (own_found n session id pn) can may x y
-one_same m n session (Show id) r s k l e all pm pn can may x y = simple (λ z. show z (batch_of z session id)) (shown session id) m n r s k l e x y
-one_same m n session (Discard id) r s k l e all pm pn can may x y = simple (λ z. discard z id (batch_of z session id)) (discarded session id) m n r s k l e x y
+one_same m n session (Show id) r s k l e all pm pn can may x y = simple (λ z. show z (batch_of z session id)) (by_batch show show show_untold session id) m n r s k l e x y
+one_same m n session (Discard id) r s k l e all pm pn can may x y = simple (λ z. discard z id (batch_of z session id)) (by_batch (λ z. discard z id) (λ z. discard z id) (discard_untold id) session id) m n r s k l e x y
 one_same m n session (Peek mo ad) r s k l e all pm pn can may x y = simple (λ z. peek z mo ad) (λ z. peek_untold z mo ad (fault_of z.store.shape mo ad)) m n r s k l e x y
 one_same m n session (Poke mo ad w) r s k l e all pm pn can may x y = simple (λ z. poke z mo ad w) (λ z. poke_untold z mo ad w (fault_of z.store.shape mo ad)) m n r s k l e x y
 

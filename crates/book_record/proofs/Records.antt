@@ -2,6 +2,7 @@
 use Rattle.std.proofs.Common.{◌≡◌, ℕ, suc, ◌+◌, ◌*◌, ◌≤◌, List, [], ◌∷◌, ◌++◌, length, map, All, refl, sym, ap, ◌∙◌, append_assoc, subst, arith}
 use Rattle.std.proofs.lemmas.List.Elements.{All-head, All-tail}
 use Rattle.batch.specs.Extent.{Extent, IsShape}
+use Rattle.batch.proofs.Lines.{ends_space, one_number}
 use Rattle.batch.specs.Text.{number, space}
 use Rattle.module_memory.specs.Store.{Store, HasAllBlocks}
 use Rattle.batch_book.specs.declared.entry.Entry.{Entry}
@@ -16,7 +17,7 @@ use Rattle.book_record.specs.RecordText.{id_of, call_text, reply_text, entry_tex
 use Rattle.book_record.specs.Untold.{ToldEntry, told_entry}
 use Rattle.book_record.proofs.Alike.{um, Alike}
 use Rattle.book_record.proofs.OneTold.{one_told}
-use Rattle.book_record.proofs.CallTexts.{one_behind, one_call}
+use Rattle.book_record.proofs.CallTexts.{one_call}
 use Rattle.book_record.proofs.Fronts.{one_entry_text}
 
 -- what holds of each machine that a history leads to
@@ -51,12 +52,12 @@ same_entry e f s c r =
     let make : ℕ → PlanlessCall → Reply → ToldEntry = λ t d q. record { session = t; call = d; reply = q } in
     ap (λ (t : ℕ). make t (told e.call) e.reply) s ∙ ap (λ (d : PlanlessCall). make f.session d e.reply) c ∙ ap (make f.session (told f.call)) r
 
--- a call's lines, and what stands behind them
+-- a call's lines, and what stands after them
 pub one_asked : (m n : Machine) (e f : Entry) (k l : Machine) (x y : List ℕ) → Alike m n → IsFit m → IsFit n → CanTell e → CanTell f
     → IsMachineStep m e.session e.call e.reply k → IsMachineStep n f.session f.call f.reply l
     → number e.session space ++ (call_text (told e.call) ++ x) ≡ number f.session space ++ (call_text (told f.call) ++ y) → OneEntry e f k l x y
 one_asked m n e f k l x y alike fm fn p q step other same =
-    let session = one_behind [] e.session f.session _ _ p.session q.session same in
+    let session = one_number e.session f.session space _ _ p.session q.session ends_space same in
     let call = one_call (told e.call) (told f.call) x y p.call q.call session.1 in
     let its : IsMachineStep n e.session f.call f.reply l = subst (λ (s : ℕ). IsMachineStep n s f.call f.reply l) (sym session.0) other in
     let both = one_told m n e.session e.call f.call e.reply f.reply k l call.0 alike fm.blocks fm.plans fn.plans p.reply q.reply step its in
@@ -66,7 +67,7 @@ one_asked m n e f k l x y alike fm fn p q step other same =
 abbrev pub due_of : ToldEntry → List ℕ
 due_of t = reply_text (id_of t.call) t.reply
 
--- an entry's text, and what stands behind it
+-- an entry's text, and what stands after it
 one_entry : (i : ℕ) (m n : Machine) (e f : Entry) (k l : Machine) (x y : List ℕ) → Alike m n → IsFit m → IsFit n → CanTell e → CanTell f
     → IsMachineStep m e.session e.call e.reply k → IsMachineStep n f.session f.call f.reply l → entry_text i e ++ x ≡ entry_text i f ++ y → OneEntry e f k l x y
 one_entry i m n e f k l x y alike fm fn p q step other same =
@@ -82,8 +83,8 @@ same_more e f es fs first rest = ap (λ (t : ToldEntry). t ∷ map told_entry es
 at_first : (i : ℕ) → i ≡ i + 0
 at_first i = omega arith
 
-one_behind_it : (i : ℕ) (es : List Entry) → suc i + length es ≡ i + suc (length es)
-one_behind_it i es = omega arith
+one_after_it : (i : ℕ) (es : List Entry) → suc i + length es ≡ i + suc (length es)
+one_after_it i es = omega arith
 
 -- the one list of more entries goes on from the other, from machines that are alike
 pub record GoesOn (i : ℕ) (n : Machine) (es fs : List Entry) (x y : List ℕ) (a b : Machine) : Type 0 where
@@ -118,5 +119,5 @@ goes_on i m n (e ∷ es) (f ∷ fs) x y a b alike fm fn p q led too few same =
       fit = go.fit;
       replay = go.replay;
       each = go.each;
-      rest = go.rest ∙ ap (λ (k : ℕ). texts k go.more ++ y) (one_behind_it i es);
+      rest = go.rest ∙ ap (λ (k : ℕ). texts k go.more ++ y) (one_after_it i es);
     }

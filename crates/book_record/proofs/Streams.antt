@@ -17,7 +17,7 @@ use Rattle.book_record.specs.Sums.{sum_at, numbered, sum_line}
 use Rattle.book_record.specs.Streams.{IsWritten, StandsAtWriter, text_behind}
 use Rattle.book_record.proofs.Sums.{sum_wraps}
 
--- entries behind others
+-- entries after others
 pub texts_append : (n : ℕ) (a b : List Entry) → texts n (a ++ b) ≡ texts n a ++ texts (n + length a) b
 texts_append n [] b = let e : n ≡ n + 0 = omega arith in ap (λ (k : ℕ). texts k b) e
 texts_append n (e ∷ a) b =
@@ -34,12 +34,12 @@ texts_more all k e is less =
     let last : texts (0 + length (take k all)) (e ∷ []) ≡ entry_text k e = ap (λ (i : ℕ). texts i (e ∷ [])) count ∙ append-nil (entry_text k e) in
     ap (λ (l : List ℕ). texts 0 (take k all) ++ l) (sym last) ∙ sym (texts_append 0 (take k all) (e ∷ [])) ∙ ap (λ (x : Entry). texts 0 (take k all ++ x ∷ [])) is ∙ ap (texts 0) (sym (take_more all k e less))
 
--- behind those that are the first of others
+-- after those that are the first of others
 count_of : (xs ys zs : List Entry) → zs ≡ xs ++ ys → length xs + length ys ≡ length zs
 count_of xs ys zs is = omega (arith, ap length is, length-append xs ys)
 
-behind_are : (taken more all : List Entry) → all ≡ taken ++ more → text_behind taken all ≡ texts (length taken) more
-behind_are taken more all is = ap (texts (length taken)) (ap (drop (length taken)) is ∙ drop-append_seam taken more)
+after_are : (taken more all : List Entry) → all ≡ taken ++ more → text_behind taken all ≡ texts (length taken) more
+after_are taken more all is = ap (texts (length taken)) (ap (drop (length taken)) is ∙ drop-append_seam taken more)
 
 -- ---- what waits
 
@@ -90,7 +90,7 @@ none_held handed all count bytes is zero = (
 length_front : (count : ℕ) (bytes : List ℕ) → count ≤ length bytes → length (take count bytes) ≡ count
 length_front count bytes few = let e = length-take count bytes in omega (arith, e, few)
 
--- whatever stands behind their text
+-- whatever stands after their text
 pub still_held : (handed all : List Entry) (count : ℕ) (bytes begun more now : List ℕ) → IsHeld handed all count bytes → begun ≡ take count bytes → now ≡ begun ++ more
     → IsHeld handed all count now × (drop count now ≡ more)
 still_held handed all count bytes begun more now b is grown =
@@ -100,7 +100,7 @@ still_held handed all count bytes begun more now b is grown =
     let all_long : length now ≡ length begun + length more = ap length grown ∙ length-append begun more in
     ((subst (IsText handed all) (sym (first ∙ is)) b.0, omega (arith, long, all_long)), rest)
 
--- one entry more, whose text stood behind theirs but for its last line
+-- one entry more, whose text stood after theirs but for its last line
 pub more_held : (handed all : List Entry) (e : Entry) (more : List Entry) (count now : ℕ) (bytes line longer : List ℕ)
     → IsHeld handed all count bytes → more ≡ all ++ e ∷ [] → longer ≡ bytes ++ line → drop count bytes ++ line ≡ entry_text (length all) e → now ≡ length longer → IsHeld handed more now longer
 more_held handed all e more count now bytes line longer b grown put is long =
@@ -109,17 +109,17 @@ more_held handed all e more count now bytes line longer b grown put is long =
     let whole : take now longer ≡ longer = take_all now longer (omega (arith, long)) in
     (one_more handed all e more (take count bytes) (take now longer) b.0 grown (whole ∙ parted), omega (arith, long))
 
--- the text of those behind what was taken over, and of those behind what was handed on, are together
--- that of all behind what was taken over
-pub behind_both : (taken handed all : List Entry) → Starts taken handed → Starts handed all → text_behind taken handed ++ text_behind handed all ≡ text_behind taken all
-behind_both taken handed all first next =
+-- the text of those after what was taken over, and of those after what was handed on, are together
+-- that of all after what was taken over
+pub after_both : (taken handed all : List Entry) → Starts taken handed → Starts handed all → text_behind taken handed ++ text_behind handed all ≡ text_behind taken all
+after_both taken handed all first next =
     let f = front taken handed first in
     let m = front handed all next in
     let whole : all ≡ taken ++ (f.0 ++ m.0) = m.1 ∙ ap (λ (l : List Entry). l ++ m.0) f.1 ∙ append_assoc taken f.0 m.0 in
-    ap (λ (l : List ℕ). l ++ text_behind handed all) (behind_are taken f.0 handed f.1)
-    ∙ ap (λ (l : List ℕ). texts (length taken) f.0 ++ l) (behind_are handed m.0 all m.1)
+    ap (λ (l : List ℕ). l ++ text_behind handed all) (after_are taken f.0 handed f.1)
+    ∙ ap (λ (l : List ℕ). texts (length taken) f.0 ++ l) (after_are handed m.0 all m.1)
     ∙ ap (λ (k : ℕ). texts (length taken) f.0 ++ texts k m.0) (sym (count_of taken f.0 handed f.1))
-    ∙ sym (texts_append (length taken) f.0 m.0) ∙ sym (behind_are taken (f.0 ++ m.0) all whole)
+    ∙ sym (texts_append (length taken) f.0 m.0) ∙ sym (after_are taken (f.0 ++ m.0) all whole)
 
 -- ---- what was written
 
@@ -214,7 +214,7 @@ pub drafted_text : (text : List ℕ) (session : ℕ) (call : Call) (r : Reply) �
     → text ++ reply_text (id_of (told call)) r ≡ entry_lines (entry session call r)
 drafted_text text session call r is = ap (λ (l : List ℕ). l ++ reply_text (id_of (told call)) r) is ∙ append_assoc (number session space) (call_text (told call)) (reply_text (id_of (told call)) r)
 
--- the same, with the line of its sum behind it
+-- the same, with the line of its sum after it
 pub summed_text : (n m : ℕ) (bytes reply : List ℕ) (count : ℕ) (session : ℕ) (call : Call) (r : Reply) → m ≡ numbered n → count ≤ length bytes
     → drop count bytes ++ reply ≡ entry_lines (entry session call r)
     → drop count bytes ++ (reply ++ sum_line (sum_at m (drop count (bytes ++ reply)))) ≡ entry_text n (entry session call r)

@@ -1,14 +1,17 @@
 -- The head of a record: its first line, and the names of the clients. Its form is this project's
 -- choice.
-use Rattle.std.specs.Prelude.{◌≡◌, ◌≢◌, ℕ, zero, suc, ◌+◌, ◌^◌, ◌≤◌, List, [], ◌∷◌, ◌++◌, length, All, AllPairs, codes}
+use Rattle.std.specs.Prelude.{◌≡◌, ◌≢◌, ℕ, zero, suc, ◌^◌, ◌≤◌, List, [], ◌∷◌, ◌++◌, length, All, AllPairs, codes}
+use Rattle.std.specs.Fmt.{decimal}
 use Rattle.std.specs.List.{flat_map}
 use Rattle.batch.specs.Extent.{Extent, IsShape}
-use Rattle.batch.specs.Text.{IsNumber, number, space, line_feed}
+use Rattle.batch.specs.ShapeText.{shape_text}
+use Rattle.batch.specs.Text.{IsNumber, space, line_feed}
 use Rattle.batch.specs.declared.limits.TheConstants.{MAX_DIGITS}
 use Rattle.batch_book.specs.declared.entry.Entry.{Entry}
 use Rattle.book_record.specs.RecordText.{texts}
 use Rattle.book_record.specs.Sums.{adler, summed}
 use Rattle.client_session.specs.Bytes.{HasNoFeed}
+use Rattle.client_session.specs.Replies.{with_feed}
 use Rattle.exchange_limits.specs.declared.limits.TheConstants.{MAX_SESSIONS}
 use Rattle.line_words.specs.HexWords.{IsWord, hex8}
 use Rattle.module_memory.specs.Images.{image_of}
@@ -17,17 +20,14 @@ use Rattle.book_record.specs.Fronts.{last_lines}
 
 -- ---- the head
 
--- the byte between the numbers of a shape
-abbrev pub letter_x : ℕ
-letter_x = 120
-
 -- `record-2 MxKxW SUM N`: the form, the shape of the rack, the sum of the image of its opening
 -- words, and the number of clients that have names
+abbrev pub rack_words : Extent → ℕ → ℕ → List ℕ
+rack_words shape sum n =
+    codes "record-2 " ++ (shape_text shape ++ space ∷ (hex8 sum ++ space ∷ decimal n))
+
 abbrev pub rack_line : Extent → ℕ → ℕ → List ℕ
-rack_line shape sum n =
-    codes "record-2 "
-    ++ (number shape.modules letter_x ++ (number shape.blocks letter_x
-    ++ (number shape.words space ++ (hex8 sum ++ space ∷ number n line_feed))))
+rack_line shape sum n = with_feed (rack_words shape sum n)
 
 -- `client NAME`
 abbrev pub client_line : List ℕ → List ℕ
@@ -74,11 +74,11 @@ BeginsWithNoHead text =
     (shape : Extent) (sum n : ℕ) (names : List (List ℕ)) (rest : List ℕ) → IsShape shape
     → IsWord sum → AreNames names n → text ≢ head_of shape sum names ++ rest
 
--- the text begins with no first line of a head
-abbrev pub BeginsWithNoRackLine : List ℕ → Type 0
-BeginsWithNoRackLine text =
-    (shape : Extent) (sum n : ℕ) (rest : List ℕ) → IsShape shape → IsWord sum → IsNumber n
-    → text ≢ rack_line shape sum n ++ rest
+-- the line is the first of no head
+abbrev pub IsNoRackLine : List ℕ → Type 0
+IsNoRackLine line =
+    (shape : Extent) (sum n : ℕ) → IsShape shape → IsWord sum → IsNumber n
+    → line ≢ rack_words shape sum n
 
 -- the text doesn't begin with the lines of n clients
 abbrev pub BeginsWithNoNames : List ℕ → ℕ → Type 0
@@ -91,12 +91,6 @@ BeginsWithNoNames text n =
 abbrev pub IsHeadOf : Store → List (List ℕ) → List ℕ → List ℕ → Type 0
 IsHeadOf opening names text rest =
     text ≡ head_of opening.shape (adler (image_of opening)) names ++ rest
-
--- the text begins with no three numbers, as a shape has them, and a space
-abbrev pub BeginsWithNoNumbers : List ℕ → Type 0
-BeginsWithNoNumbers text =
-    (m k w : ℕ) (rest : List ℕ) → IsNumber m → IsNumber k → IsNumber w
-    → text ≢ number m letter_x ++ (number k letter_x ++ (number w space ++ rest))
 
 -- ---- a record
 

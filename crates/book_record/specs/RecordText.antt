@@ -2,14 +2,14 @@
 -- the words of a session's line, and its reply line. Each entry ends with the line of its sum.
 -- Plans are left out: a call that settles one has the number of its batch. The form is this
 -- project's choice.
-use Rattle.std.specs.Prelude.{◌≢◌, ℕ, suc, List, [], ◌∷◌, ◌++◌, codes}
+use Rattle.std.specs.Prelude.{◌≢◌, ℕ, suc, List, [], ◌∷◌, ◌++◌, codes, length}
 use Rattle.std.specs.Fmt.{decimal}
 use Rattle.batch.specs.Batches.{IsBatch}
 use Rattle.batch.specs.Text.{IsNumber, number, batch_text, space}
 use Rattle.line_words.specs.HexWords.{IsWord}
 use Rattle.batch_book.specs.declared.entry.Entry.{Entry}
-use Rattle.batch_book.specs.declared.told_call.ToldCall.{ToldCall}
-use Rattle.batch_book.specs.declared.told_call.ToldCall.TheVariants as told_call
+use Rattle.batch_book.specs.declared.recorded_call.RecordedCall.{RecordedCall}
+use Rattle.batch_book.specs.declared.recorded_call.RecordedCall.TheVariants as recorded_call
 use Rattle.batch_book.specs.Told.{PlanlessCall, told}
 use Rattle.batch_book.specs.declared.refusal.BookRefusal.TheVariants.{Stranger}
 use Rattle.batch_book.specs.declared.reply.Reply.{Reply}
@@ -24,25 +24,31 @@ use Rattle.book_record.specs.Sums.{summed}
 -- ---- the texts
 
 -- the batch that a call names, or 0
-abbrev pub id_of : {B : Type 0} → ToldCall B → ℕ
-id_of (told_call.Fetch id) = id
-id_of (told_call.Settle id) = id
-id_of (told_call.Run id) = id
-id_of (told_call.Show id) = id
-id_of (told_call.Discard id) = id
+abbrev pub id_of : {B : Type 0} → RecordedCall B → ℕ
+id_of (recorded_call.Fetch id) = id
+id_of (recorded_call.Settle id) = id
+id_of (recorded_call.Run id) = id
+id_of (recorded_call.Show id) = id
+id_of (recorded_call.Discard id) = id
 id_of call = 0
 
--- the lines of a call: a batch text, or the line of the session's command; `plan ID` is two calls
+-- the line of a call, without its line feed: that of the session's command, or the first of a batch
+-- text; `plan ID` is two calls
+abbrev pub call_line : PlanlessCall → List ℕ
+call_line (recorded_call.Submit batch) = line_of (command.Batch (length batch))
+call_line (recorded_call.Fetch id) = codes "fetch " ++ decimal id
+call_line (recorded_call.Settle id) = codes "settle " ++ decimal id
+call_line (recorded_call.Run id) = line_of (command.Run id)
+call_line (recorded_call.Show id) = line_of (command.Show id)
+call_line (recorded_call.Discard id) = line_of (command.Drop id)
+call_line (recorded_call.Peek «module» address) = line_of (command.Peek «module» address)
+call_line (recorded_call.Poke «module» address word) =
+    line_of (command.Poke «module» address word)
+
+-- the lines of a call: a batch text, or that line
 abbrev pub call_text : PlanlessCall → List ℕ
-call_text (told_call.Submit batch) = batch_text batch
-call_text (told_call.Fetch id) = with_feed (codes "fetch " ++ decimal id)
-call_text (told_call.Settle id) = with_feed (codes "settle " ++ decimal id)
-call_text (told_call.Run id) = with_feed (line_of (command.Run id))
-call_text (told_call.Show id) = with_feed (line_of (command.Show id))
-call_text (told_call.Discard id) = with_feed (line_of (command.Drop id))
-call_text (told_call.Peek «module» address) = with_feed (line_of (command.Peek «module» address))
-call_text (told_call.Poke «module» address word) =
-    with_feed (line_of (command.Poke «module» address word))
+call_text (recorded_call.Submit batch) = batch_text batch
+call_text call = with_feed (call_line call)
 
 -- the line of a reply to a call that names this batch; a batch that was fetched isn't there again
 abbrev pub reply_text : ℕ → Reply → List ℕ
@@ -73,14 +79,14 @@ CanBePut reply = CanBeTold reply
 
 -- its numbers are such as a line can hold
 abbrev pub CanSay : PlanlessCall → Type 0
-CanSay (told_call.Submit batch) = IsBatch batch
-CanSay (told_call.Fetch id) = IsNumber id
-CanSay (told_call.Settle id) = IsNumber id
-CanSay (told_call.Run id) = IsNumber id
-CanSay (told_call.Show id) = IsNumber id
-CanSay (told_call.Discard id) = IsNumber id
-CanSay (told_call.Peek «module» address) = IsNumber «module» × IsWord address
-CanSay (told_call.Poke «module» address word) = IsNumber «module» × IsWord address × IsWord word
+CanSay (recorded_call.Submit batch) = IsBatch batch
+CanSay (recorded_call.Fetch id) = IsNumber id
+CanSay (recorded_call.Settle id) = IsNumber id
+CanSay (recorded_call.Run id) = IsNumber id
+CanSay (recorded_call.Show id) = IsNumber id
+CanSay (recorded_call.Discard id) = IsNumber id
+CanSay (recorded_call.Peek «module» address) = IsNumber «module» × IsWord address
+CanSay (recorded_call.Poke «module» address word) = IsNumber «module» × IsWord address × IsWord word
 
 -- The reply is of no run that stopped, since over a port and wires that never fail none does; and
 -- of no plan of another batch, since plans are left out.

@@ -3,13 +3,13 @@
 ghost use Rattle.std.specs.Prelude.{◌≡◌, ◌≢◌, ◌↔◌, ◌++◌, ◌∷◌, All, List, ℕ, codes, length, map, IfOk, IfSome, IfNone, IsTrue, OnOk};
 ghost use Rattle.std.specs.List.{flat_map};
 ghost use Rattle.batch.specs.Extent.{IsShape};
-ghost use Rattle.batch.specs.Text.{IsNumber, number, space, line_feed};
-ghost use Rattle.line_words.specs.HexWords.{IsWord, hex8, BeginsWithNoHex8};
-ghost use Rattle.book_record.specs.Heads.{AreClients, AreNames, BeginsWithNoClient, BeginsWithNoRackLine, BeginsWithNoHead, BeginsWithNoNames, BeginsWithNoNumbers, IsName, client_line, rack_line, head_of, letter_x, session_limit};
+ghost use Rattle.batch.specs.Text.{IsNumber, line_feed};
+ghost use Rattle.line_words.specs.HexWords.{IsWord};
+ghost use Rattle.book_record.specs.Heads.{AreClients, AreNames, BeginsWithNoClient, BeginsWithNoHead, BeginsWithNoNames, IsName, IsNoRackLine, client_line, rack_line, rack_words, head_of, session_limit};
 
 use crate::sum::{after_sum, sum_at};
 use crate::writing::push_sum_of;
-use batch::{Shape, number_before, position_of};
+use batch::{Shape, number_from_digits, position_of};
 use exchange_limits::MAX_SESSIONS;
 use line_words::{Line, behind, hex8_and_rest};
 use std::alloc::{AllocError, Global};
@@ -66,34 +66,21 @@ pub fn head_text(
     Ok(text)
 }
 
-/// The three numbers of a shape before a space, and the rest.
-fn numbers_and_rest(text: &[u8]) -> Option<(usize, usize, usize, &[u8])>
-    ensures numbers { IfSome result (λ x. IsNumber x.0 × IsNumber x.1 × IsNumber x.2) }
-    ensures some { IfSome result (λ x. text.now
-        ≡ number x.0 letter_x ++ (number x.1 letter_x ++ (number x.2 space ++ x.3.now))) }
-    ensures none { IfNone result (BeginsWithNoNumbers text.now) }
+/// The shape, the sum and the number of names of the first line of a record.
+fn read_rack_line(line: &[u8]) -> Option<(Shape, u32, usize)>
+    ensures fits { IfSome result (λ x. IsShape x.0 × IsWord x.1 × IsNumber x.2) }
+    ensures some { IfSome result (λ x. line.now ≡ rack_words x.0 x.1 x.2) }
+    ensures none { IfNone result (IsNoRackLine line.now) }
 {
-    let (modules, rest) = number_before(text, b'x')?;
-    let (blocks, rest) = number_before(rest, b'x')?;
-    let (words, rest) = number_before(rest, b' ')?;
-    Some((modules, blocks, words, rest))
-}
-
-/// The shape, the sum and the number of names of the first line of a record, and the rest.
-fn read_rack_line(text: &[u8]) -> Option<(Shape, u32, usize, &[u8])>
-    ensures shape { IfSome result (λ x. IsShape x.0) }
-    ensures words { IfSome result (λ x. IsWord x.1 × IsNumber x.2) }
-    ensures some { IfSome result (λ x. text.now ≡ rack_line x.0 x.1 x.2 ++ x.3.now) }
-    ensures none { IfNone result (BeginsWithNoRackLine text.now) }
-{
-    let rest = behind(text, b"record-2 ")?;
-    let (modules, blocks, words, rest) = numbers_and_rest(rest)?;
-    let (sum, rest) = hex8_and_rest(rest)?;
-    let (names, rest) = number_before(rest, b'\n')?;
-    let Ok(shape) = Shape::new(modules, blocks, words) else {
-        return None;
+    let rest = behind(line, b"record-2 ")?;
+    let end = position_of(rest, b' ')?;
+    let shape = match Shape::read(&rest[..end]) {
+        Ok(shape) => shape,
+        Err(_) => return None,
     };
-    Some((shape, sum, names, rest))
+    let (sum, digits) = hex8_and_rest(&rest[end + 1..])?;
+    let names = number_from_digits(digits)?;
+    Some((shape, sum, names))
 }
 
 /// The name of the client with whose line the text begins, and the rest.
@@ -130,7 +117,7 @@ fn is_new(text: &[u8], clients: usize, name: &[u8]) -> bool
 }
 
 /// What follows the lines of this many clients.
-fn behind_clients(text: &[u8], names: usize) -> Option<&[u8]>
+fn after_clients(text: &[u8], names: usize) -> Option<&[u8]>
     ensures some { IfSome result (λ rest. (all : List (List ℕ)) × AreNames all names
         × (text.now ≡ flat_map client_line all ++ rest.now)) }
     ensures none { IfNone result (BeginsWithNoNames text.now names) }
@@ -167,7 +154,7 @@ fn whole_head<'a>(
         × (text.now ≡ head_of x.0 x.1 names ++ x.3.now))) }
     ensures none { IfNone result (BeginsWithNoHead text.now) }
 {
-    let after = behind_clients(rest, names)?;
+    let after = after_clients(rest, names)?;
     let lines = &text[..text.len().saturating_sub(after.len())];
     let body = after_sum(after, sum_at(0, lines))?;
     Some((shape, sum, names, body))
@@ -180,10 +167,9 @@ pub fn read_head(text: &[u8]) -> Option<(Shape, u32, usize, &[u8])>
         × (text.now ≡ head_of x.0 x.1 names ++ x.3.now))) }
     ensures none { IfNone result (BeginsWithNoHead text.now) }
 {
-    match read_rack_line(text) {
-        Some((shape, sum, names, rest)) => whole_head(text, shape, sum, names, rest),
-        None => None,
-    }
+    let end = position_of(text, b'\n')?;
+    let (shape, sum, names) = read_rack_line(&text[..end])?;
+    whole_head(text, shape, sum, names, &text[end + 1..])
 }
 
 /// The number below which all sessions of a record are whose head names this many clients.

@@ -1,26 +1,26 @@
 //! A history that is a text at a writer, which gets many entries at a time.
 
-ghost use Rattle.std.specs.Prelude.{◌≡◌, true, false, OnOk, OnErr, length};
+ghost use Rattle.std.specs.Prelude.{◌≡◌, true, false, length};
 ghost use Rattle.batch_book.specs.History.{Starts};
 ghost use Rattle.book_record.specs.Streams.{IsWritten};
 ghost use Rattle.book_record.specs.Sums.{numbered};
 
 use crate::naming::StreamName;
-use crate::waiting_text::WaitingText;
+use crate::pending_text::PendingText;
 use crate::written::Written;
-use batch_book::{Call, Entry, History, PastEntries, Recorder, Unrecorded, WaitingEntries};
+use batch_book::{Call, Entry, EntryLog, GhostHistory, History, PendingEntries, Recorder};
 use std::alloc::{AllocError, Global};
 use std::io::Write;
 use std::snapshot::Snapshot;
 
-/// Entries that go to a writer as texts, as many at a time as wait when it is flushed. It keeps
-/// none of them, so there may be any number: of those that wait it has the text, in memory.
+/// Entries that go to a writer as texts, many at a time. It keeps none of them, so there may be any
+/// number: of those that wait it has the text, in memory. It lends its writer, so that entries are
+/// written while calls are made.
 ///
-/// Once a flush has failed, no later one writes anything: the writer holds what it held. It lends
-/// its writer, so that entries are written while calls are made.
+/// Once a writing has failed, no later one writes anything: the writer holds what it held.
 pub struct Streamed<W: Write, N: StreamName> {
     written: Written<W, N>,
-    waiting: WaitingText,
+    waiting: PendingText,
     ghost first: { Starts written.tried waiting.handed },
     ghost all: { written.whole ≡ true → written.tried ≡ waiting.handed },
 }
@@ -41,7 +41,7 @@ impl<W: Write, N: StreamName> Streamed<W, N> {
     /// for more entries first.
     pub fn behind(
         alloc: Global,
-        past: PastEntries,
+        past: GhostHistory,
         entries: u64,
         writer: W,
         gathers: bool,
@@ -57,7 +57,7 @@ impl<W: Write, N: StreamName> Streamed<W, N> {
         let written = Written::behind(&past, writer, gathers);
         Streamed {
             written,
-            waiting: WaitingText::behind(alloc, past, entries),
+            waiting: PendingText::behind(alloc, past, entries),
         }
     }
 
@@ -76,11 +76,7 @@ impl<W: Write, N: StreamName> Streamed<W, N> {
     }
 }
 
-impl<W: Write + Send, N: StreamName + Send> History for Streamed<W, N> {
-    type Waiting = WaitingText;
-
-    type Recorder = Written<W, N>;
-
+impl<W: Write + Send, N: StreamName + Send> EntryLog for Streamed<W, N> {
     ghost use Rattle.book_record.specs.Streams.{IsDrafted};
 
     ghost pushed = { λ s. s.waiting.all };
@@ -93,22 +89,10 @@ impl<W: Write + Send, N: StreamName + Send> History for Streamed<W, N> {
 
     ghost loses = { true };
 
-    ghost waits = { true };
-
-    ghost lends = { true };
-
     ghost drafted = { λ s session call. IsDrafted s.waiting session call };
 
     fn is_whole(&self) -> bool {
         self.written.is_whole()
-    }
-
-    fn groups() -> bool {
-        true
-    }
-
-    fn may_wait(&self) -> bool {
-        true
     }
 
     fn has_room(&self) -> bool {
@@ -122,33 +106,37 @@ impl<W: Write + Send, N: StreamName + Send> History for Streamed<W, N> {
     fn push(&mut self, entry: Entry) {
         self.waiting.push(entry);
     }
+}
 
-    fn flush(&mut self) -> Result<(), Unrecorded>
-        ensures pushed { self.new.waiting.all ≡ self.old.waiting.all }
-        ensures was { OnOk result (self.old.written.whole ≡ true) }
-        ensures all { OnOk result (self.new.written.stands ≡ self.old.waiting.all) }
-        ensures whole { OnOk result (self.new.written.whole ≡ true) }
-        ensures none { OnErr result (self.new.written.stands ≡ self.old.written.stands) }
-        ensures lost { OnErr result (self.new.written.whole ≡ false) }
-        ensures still { self.old.written.whole ≡ false
-            → self.new.written.holds ≡ self.old.written.holds }
-    {
-        if !self.written.is_whole() {
-            return Err(Unrecorded);
-        }
-        let all = Snapshot::of(&self.waiting.past());
-        let sent = self.written.append(&all, self.waiting.text());
-        self.waiting.clear();
-        sent
-    }
+impl<W: Write + Send, N: StreamName + Send> History for Streamed<W, N> {
+    type Pending = PendingText;
 
-    fn lend(self) -> Result<(WaitingText, Written<W, N>), Streamed<W, N>> {
+    type Recorder = Written<W, N>;
+
+    fn lend(self) -> Result<(PendingText, Written<W, N>), Streamed<W, N>> {
         let Streamed { written, waiting } = self;
         written.all_stand();
         Ok((waiting, written))
     }
 
-    fn take_back(waiting: WaitingText, written: Written<W, N>) -> Option<Streamed<W, N>> {
+    fn take_back(
+        pending: PendingText,
+        recorder: Written<W, N>,
+        text: &[u8],
+    ) -> Option<Streamed<W, N>> {
+        let mut waiting = pending;
+        let mut written = recorder;
+        if !written.is_whole() {
+            return Some(Streamed { written, waiting });
+        }
+        match written.append(&waiting.handed(), text) {
+            Ok(()) => {}
+            Err(_) => return Some(Streamed { written, waiting }),
+        }
+        let all = Snapshot::of(&waiting.past());
+        // Where this fails the history isn't whole.
+        let _ = written.append(&all, waiting.text());
+        waiting.clear();
         Some(Streamed { written, waiting })
     }
 }

@@ -11,7 +11,7 @@ ghost use Rattle.book_record.specs.declared.sum.TheConstants.{SUM_ROOM};
 
 use crate::sum::{SUM_ROOM, sum_at, sum_line};
 use batch::Batch;
-use batch_book::{Book, Call, Entry, LoggedReply, Reply, SharedBatch, ToldCall};
+use batch_book::{Book, Call, Entry, LoggedReply, RecordedCall, Reply, SharedBatch};
 use client_session::SessionCommand;
 use client_session::reply_line::ReplyLine;
 use line_words::{LINE_ROOM, Line};
@@ -30,23 +30,23 @@ fn push_line(text: &mut Vec<u8>, words: &[u8]) -> Result<(), AllocError>
 }
 
 /// Puts the lines of a call.
-fn push_call(text: &mut Vec<u8>, call: &ToldCall<SharedBatch>) -> Result<(), AllocError>
+fn push_call(text: &mut Vec<u8>, call: &RecordedCall<SharedBatch>) -> Result<(), AllocError>
     ensures { OnOk result (text.new.items ≡ text.old.items ++ call_text call.now) }
 {
     let mut line = Line::new();
     match call {
-        ToldCall::Submit(shared) => {
+        RecordedCall::Submit(shared) => {
             return text.extend_from_slice(shared.batch().write()?.as_slice());
         }
-        ToldCall::Fetch(id) => line.put_numbered(b"fetch ", *id),
-        ToldCall::Settle(id) => line.put_numbered(b"settle ", *id),
-        ToldCall::Run(id) => SessionCommand::Run(*id).put(&mut line),
-        ToldCall::Show(id) => SessionCommand::Show(*id).put(&mut line),
-        ToldCall::Discard(id) => SessionCommand::Drop(*id).put(&mut line),
-        ToldCall::Peek(module, address) => {
+        RecordedCall::Fetch(id) => line.put_numbered(b"fetch ", *id),
+        RecordedCall::Settle(id) => line.put_numbered(b"settle ", *id),
+        RecordedCall::Run(id) => SessionCommand::Run(*id).put(&mut line),
+        RecordedCall::Show(id) => SessionCommand::Show(*id).put(&mut line),
+        RecordedCall::Discard(id) => SessionCommand::Drop(*id).put(&mut line),
+        RecordedCall::Peek(module, address) => {
             SessionCommand::Peek(*module, *address).put(&mut line);
         }
-        ToldCall::Poke(module, address, word) => {
+        RecordedCall::Poke(module, address, word) => {
             SessionCommand::Poke(*module, *address, *word).put(&mut line);
         }
     }
@@ -114,13 +114,13 @@ pub fn push_asked(
 }
 
 /// The batch that a call names, or 0.
-pub fn id_of<B: Drop>(call: &ToldCall<B>) -> usize
+pub fn id_of<B: Drop>(call: &RecordedCall<B>) -> usize
     ensures { result ≡ id_of call.now }
 {
     match call {
-        ToldCall::Fetch(id) | ToldCall::Settle(id) | ToldCall::Run(id) => *id,
-        ToldCall::Show(id) | ToldCall::Discard(id) => *id,
-        ToldCall::Submit(_) | ToldCall::Peek(..) | ToldCall::Poke(..) => 0,
+        RecordedCall::Fetch(id) | RecordedCall::Settle(id) | RecordedCall::Run(id) => *id,
+        RecordedCall::Show(id) | RecordedCall::Discard(id) => *id,
+        RecordedCall::Submit(_) | RecordedCall::Peek(..) | RecordedCall::Poke(..) => 0,
     }
 }
 

@@ -6,7 +6,7 @@ ghost use Rattle.byte_streams.specs.Writing.{IsCutShort};
 ghost use Rattle.book_record.specs.Streams.{IsWritten};
 
 use crate::naming::StreamName;
-use batch_book::{PastEntries, Recorder, SeenEntries, Unrecorded};
+use batch_book::{GhostHistory, HistorySnapshot, Recorder, Unrecorded};
 use byte_streams::write_bytes;
 use std::io::Write;
 use std::marker::{Model, PhantomData};
@@ -18,8 +18,8 @@ pub struct Written<W: Write, N: StreamName> {
     writer: W,
     gathers: bool,
     whole: bool,
-    stands: Snapshot<SeenEntries>,
-    tried: Snapshot<SeenEntries>,
+    stands: Snapshot<HistorySnapshot>,
+    tried: Snapshot<HistorySnapshot>,
     named: PhantomData<N>,
 }
 
@@ -56,7 +56,7 @@ impl<W: Write, N: StreamName> Model for Written<W, N> {
 impl<W: Write, N: StreamName> Written<W, N> {
     /// The writer of a stream of these entries: they, and what the writer holds, are those that the
     /// stream's name has.
-    pub(crate) fn behind(past: &PastEntries, writer: W, gathers: bool) -> Written<W, N>
+    pub(crate) fn behind(past: &GhostHistory, writer: W, gathers: bool) -> Written<W, N>
         requires held { W.contents writer ≡ N.held }
         requires earlier { past.now ≡ N.earlier }
         ensures holds { result.holds ≡ W.contents writer }
@@ -135,7 +135,7 @@ impl<W: Write, N: StreamName> Recorder for Written<W, N> {
         self.gathers
     }
 
-    fn append(&mut self, all: &SeenEntries, text: &[u8]) -> Result<(), Unrecorded> {
+    fn append(&mut self, all: &HistorySnapshot, text: &[u8]) -> Result<(), Unrecorded> {
         self.tried = Snapshot::of(all);
         match send(&mut self.writer, text) {
             Ok(()) => {

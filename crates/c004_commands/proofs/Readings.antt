@@ -7,7 +7,7 @@ use Rattle.c004_commands.specs.Reader.{Reads}
 use Rattle.c004_commands.specs.declared.command.Command.{Command}
 use Rattle.c004_commands.proofs.Rows.{same_row, no_row}
 
--- the commands of a text begin those of each longer text, and the others are spelt behind them
+-- the commands of a text begin those of each longer text, and the others are spelt after them
 pub record GoesOn (commands others : List Command) (bytes left : List ℕ) : Type 0 where
   pub later : List Command
   pub others_are : others ≡ commands ++ later

@@ -4,18 +4,18 @@ use Rattle.c004_commands.specs.Commands.{row, IsCommandFront}
 use Rattle.c004_commands.specs.declared.command.Command.{Command}
 use Rattle.c004_commands.specs.declared.command.Command.TheVariants.{Connect, Join, Enquire, Settle, Reset, Cut, CutPair}
 
--- a command of one port, and the bytes behind it
+-- a command of one port, and the bytes after it
 with_one : (ℕ → Command) → List ℕ → Option (Command × List ℕ)
 with_one make [] = None
 with_one make (a ∷ bytes) = Some (make a, bytes)
 
--- a command of two ports, and the bytes behind it
+-- a command of two ports, and the bytes after it
 with_two : (ℕ → ℕ → Command) → List ℕ → Option (Command × List ℕ)
 with_two make [] = None
 with_two make (a ∷ []) = None
 with_two make (a ∷ b ∷ bytes) = Some (make a b, bytes)
 
--- the command that the bytes begin with, and the bytes behind it
+-- the command that the bytes begin with, and the bytes after it
 first_row : List ℕ → Option (Command × List ℕ)
 first_row [] = None
 first_row (byte ∷ bytes) =

@@ -43,7 +43,7 @@ pub enum Command {
 }
 
 /// Writes the command's bytes (INMOS IMS C004 data sheet, configuration messages) to the front of
-/// `out`, and gives their number, 1 to [`LONGEST_COMMAND`]. That zeros stand behind them is this
+/// `out`, and gives their number, 1 to [`LONGEST_COMMAND`]. That zeros stand after them is this
 /// project's choice.
 pub fn write(command: Command, out: &mut [u8; LONGEST_COMMAND]) -> usize
     ensures number { result ≡ length (row command) }

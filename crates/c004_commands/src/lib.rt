@@ -1,7 +1,7 @@
 //! The commands of an IMS C004's configuration link: written as bytes, read byte by byte, and the
 //! answer to an enquiry.
 //!
-//! [`write`] puts the row that the data sheet's table has for a command, with zeros behind it
+//! [`write`] puts the row that the data sheet's table has for a command, with zeros after it
 //! (`row` of `specs/Commands.antt`). A [`PortNo`] is below 32. Bytes spell one list of commands,
 //! and one rest (`laws::one_reading`). [`CommandReader::feed`] gives the commands of the text since
 //! the last fault, and no others (`GoesOn` of `specs/Reader.antt`). It refuses just a byte that

@@ -62,24 +62,14 @@ asked_at_end (Ok found) a b m n h s ok err = rw ok.0 s
 asked_at_end (Err e) a b m n h s ok err = rw err.0 (stops_cut s)
 
 few_reads : (end : Option ServeFault) (reads : ℕ) → IsWithinLimit end reads → reads ≤ MAX_READS
-few_reads None reads is = is
 few_reads (Some fault.Turns) reads is = omega (arith, is)
-few_reads (Some fault.Read) reads is = is
-few_reads (Some fault.Write) reads is = is
-few_reads (Some fault.LineTooLong) reads is = is
-few_reads (Some fault.Cut) reads is = is
-few_reads (Some fault.NoMemory) reads is = is
-few_reads (Some fault.Record) reads is = is
+few_reads end reads is = is
 
 -- nor where lines couldn't be told
 within_untold : (e : ServeFault) (old new : SeatView) (w v : Option (List ℕ)) (lines : List ℕ) (reads : ℕ) → AreUntold e old new w v lines → reads ≤ MAX_READS → IsWithinLimit (Some e) reads
 within_untold fault.Write old new w v lines reads is few = few
 within_untold fault.Record old new w v lines reads is few = few
-within_untold fault.Read old new w v lines reads is few = absurd is
-within_untold fault.LineTooLong old new w v lines reads is few = absurd is
-within_untold fault.Cut old new w v lines reads is few = absurd is
-within_untold fault.Turns old new w v lines reads is few = absurd is
-within_untold fault.NoMemory old new w v lines reads is few = absurd is
+within_untold e old new w v lines reads is few = absurd is
 
 pub asks_no_more : {a b : Option ℕ} {n : ℕ} (e : ServeFault) (old new : SeatView) (w v : Option (List ℕ)) (lines : List ℕ) → AreUntold e old new w v lines → GivesEachTime a b 0 n → AsksWithinLimit a b (Some e)
 asks_no_more e old new w v lines is s = record { asks = s.asks; counted = s.counted; within = within_untold e old new w v lines s.asks is (omega (arith, s.all, s.few)) }

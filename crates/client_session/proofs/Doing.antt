@@ -3,7 +3,7 @@ use Rattle.std.proofs.Common.{◌≡◌, ◌≢◌, ℕ, ◌≤◌, List, [], �
 use Rattle.std.specs.List.{AllByRecursion}
 use Rattle.std.proofs.lemmas.List.{map-append}
 use Rattle.batch.specs.declared.fault.BatchFault.{BatchFault}
-use Rattle.batch.specs.declared.fault.BatchFault.TheVariants.{Line, TooMany, NoModule, NoBlock, Count, NoMemory}
+use Rattle.batch.specs.declared.fault.BatchFault.TheVariants.{NoMemory}
 use Rattle.batch.specs.Faults.{IsFirstFault, NeedsMemory}
 use Rattle.batch.specs.declared.transfer.Transfer.{Transfer}
 use Rattle.batch.specs.Extent.{Extent}
@@ -12,7 +12,7 @@ use Rattle.batch_book.specs.declared.entry.Entry.{Entry}
 use Rattle.batch_book.specs.declared.call.Call.{Call}
 use Rattle.batch_book.specs.declared.call.Call.TheVariants as call
 use Rattle.batch_book.specs.declared.reply.Reply.{Reply}
-use Rattle.batch_book.specs.declared.reply.Reply.TheVariants.{Accepted, Fetched, Settled, Ran, Stopped, RunRefused, Shown, Discarded, Word, Poked, Refused}
+use Rattle.batch_book.specs.declared.reply.Reply.TheVariants.{Fetched, Ran, Refused}
 use Rattle.batch_book.specs.Replies.{is_logged}
 use Rattle.batch_book.specs.Answering.{IsReplyTo}
 use Rattle.batch_book.specs.History.{entry}
@@ -29,7 +29,8 @@ use Rattle.client_session.specs.Replies.{reply_line, progress_line}
 use Rattle.client_session.specs.Seats.{SeatView, logged, GoesOnFrom, IsCalled, IsUncalled, IsProgressRead}
 use Rattle.client_session.specs.Turns.{Answer, plain_answer, tells, settles, TellsReply, Submits, Settles, Plans, ReadsProgress, IsFetching}
 use Rattle.client_session.specs.Steps.{CanBeTold, IsNoFetch, Did, Acts, Breaks, Does}
-use Rattle.client_session.proofs.Lists.{every_weaker, every_append}
+use Rattle.link_graph.proofs.Sums.{each}
+use Rattle.client_session.proofs.Lists.{every_append}
 
 pub stays : (p : SeatView) → GoesOnFrom false p p
 stays p = record { exchange = refl; shape = refl; loses = refl; session = refl; parts = refl; log = starts_same p.log p.log refl; seen = omega arith; broken = refl }
@@ -50,28 +51,9 @@ goes_on breaks a b c p q = record {
 pub can_be_told : (c : Call) (r : Reply) → IsNoFetch c → IsReplyTo c r → CanBeTold r
 can_be_told (call.Fetch id) r other is = absurd other
 can_be_told (call.Run id) (Ran run settings words) other is = is.few_words
-can_be_told (call.Submit b) (Ran run settings words) other is = absurd is
-can_be_told (call.Settle id p) (Ran run settings words) other is = absurd is
-can_be_told (call.Show id) (Ran run settings words) other is = absurd is
-can_be_told (call.Discard id) (Ran run settings words) other is = absurd is
-can_be_told (call.Peek m a) (Ran run settings words) other is = absurd is
-can_be_told (call.Poke m a w) (Ran run settings words) other is = absurd is
-can_be_told (call.Run id) (Fetched b) other is = absurd is
-can_be_told (call.Submit b) (Fetched x) other is = absurd is
-can_be_told (call.Settle id p) (Fetched b) other is = absurd is
-can_be_told (call.Show id) (Fetched b) other is = absurd is
-can_be_told (call.Discard id) (Fetched b) other is = absurd is
-can_be_told (call.Peek m a) (Fetched b) other is = absurd is
-can_be_told (call.Poke m a w) (Fetched b) other is = absurd is
-can_be_told c (Accepted n) other is = tt
-can_be_told c (Settled n) other is = tt
-can_be_told c (Stopped r s why m) other is = tt
-can_be_told c (RunRefused why) other is = tt
-can_be_told c (Shown n s) other is = tt
-can_be_told c Discarded other is = tt
-can_be_told c (Word w) other is = tt
-can_be_told c Poked other is = tt
-can_be_told c (Refused why) other is = tt
+can_be_told c (Ran run settings words) other is = absurd is
+can_be_told c (Fetched b) other is = absurd is
+can_be_told c r other is = tt
 
 -- nothing was done but to answer
 did_nothing : (p : SeatView) (line : List ℕ) → Did p p (plain_answer [] line)
@@ -104,7 +86,7 @@ did_more old mid new a b x y line p q = record {
   goes_on = goes_on false old mid new p.goes_on q.goes_on;
   asked = q.asked ∙ ap (λ l. l ++ b) p.asked ∙ append_assoc old.asked a b;
   low = tt;
-  high = rw (map-append (λ (e : Entry). value_of e.reply) a b) (every_append (λ v. v ≤ new.seen) _ _ (every_weaker (λ v. v ≤ mid.seen) (λ v. v ≤ new.seen) _ (λ v le. omega (arith, le, q.goes_on.seen)) p.high) q.high);
+  high = rw (map-append (λ (e : Entry). value_of e.reply) a b) (every_append (λ v. v ≤ new.seen) _ _ (each (λ v. v ≤ mid.seen) (λ v. v ≤ new.seen) (λ v le. omega (arith, le, q.goes_on.seen)) _ p.high) q.high);
 }
 
 -- ---- planning
@@ -175,11 +157,7 @@ tells_fault p shape text fault line same other first e =
 -- the first fault of a batch text is told, or want of memory
 pub faulty : (p : SeatView) (shape : Extent) (text : List ℕ) (fault : BatchFault) (line : List ℕ) → shape ≡ p.shape → (fault ≢ NoMemory → IsFirstFault shape text fault) → (fault ≡ NoMemory → NeedsMemory shape text) → line ≡ refusal_line (of_batch fault) → Acts p p (Submits p.shape p.session text) line
 faulty p shape text NoMemory line same first needs e = says p (Submits p.shape p.session text) (refusal_line refusal.NoMemory) line (inr (inr (subst (λ (x : Extent). NeedsMemory x text) same (needs refl), refl))) e
-faulty p shape text (Line n) line same first needs e = tells_fault p shape text (Line n) line same (λ x. cc) first e
-faulty p shape text TooMany line same first needs e = tells_fault p shape text TooMany line same (λ x. cc) first e
-faulty p shape text (NoModule t) line same first needs e = tells_fault p shape text (NoModule t) line same (λ x. cc) first e
-faulty p shape text (NoBlock t) line same first needs e = tells_fault p shape text (NoBlock t) line same (λ x. cc) first e
-faulty p shape text Count line same first needs e = tells_fault p shape text Count line same (λ x. cc) first e
+faulty p shape text fault line same first needs e = tells_fault p shape text fault line same (λ x. cc) first e
 
 -- the command that there is
 pub which : (o : Option SessionCommand) (x y : SessionCommand) → o ≡ Some x → x ≡ y → o ≡ Some y

@@ -6,15 +6,15 @@ use Rattle.std.proofs.lemmas.List.{append_cancel_left}
 use Rattle.batch.specs.Text.{IsNumber, number, space}
 use Rattle.batch.proofs.Lines.{one_number}
 use Rattle.line_words.specs.HexWords.{hex8}
-use Rattle.line_words.proofs.Numbers.{space_ends, one_hex8, behind_hex8, hex8_in_front}
+use Rattle.line_words.proofs.Numbers.{space_ends, one_hex8, after_hex8, hex8_in_front}
 use Rattle.client_session.specs.declared.command.SessionCommand.{SessionCommand}
 use Rattle.client_session.specs.declared.command.SessionCommand.TheVariants.{Batch, Plan, Run, Show, Drop, Peek, Poke, Progress, Bye}
 use Rattle.client_session.specs.Commands.{line_of, CanBeSpelled}
 use Rattle.client_session.specs.Laws.{OneMeaning}
 
--- one number behind one word
-one_behind : (word : List ℕ) (m n : ℕ) → IsNumber m → IsNumber n → word ++ decimal m ≡ word ++ decimal n → m ≡ n
-one_behind word m n few less e = decimal_injective m n (omega (arith, few)) (omega (arith, less)) (append_cancel_left word (decimal m) (decimal n) e)
+-- one number after one word
+one_after : (word : List ℕ) (m n : ℕ) → IsNumber m → IsNumber n → word ++ decimal m ≡ word ++ decimal n → m ≡ n
+one_after word m n few less e = decimal_injective m n (omega (arith, few)) (omega (arith, less)) (append_cancel_left word (decimal m) (decimal n) e)
 
 one_peek : (m n a b : ℕ) → CanBeSpelled (Peek m a) → CanBeSpelled (Peek n b) → line_of (Peek m a) ≡ line_of (Peek n b) → Peek m a ≡ Peek n b
 one_peek m n a b p q e =
@@ -26,7 +26,7 @@ one_poke m n a b v w p q e =
     let parts = one_number m n space (hex8 a ++ space ∷ hex8 v) (hex8 b ++ space ∷ hex8 w) p.0 q.0 space_ends
     (append_cancel_left (codes "poke ") (number m space ++ (hex8 a ++ space ∷ hex8 v)) (number n space ++ (hex8 b ++ space ∷ hex8 w)) e) in
     let address : a ≡ b = one_hex8 a b p.1 q.1 (hex8_in_front a b (space ∷ hex8 v) (space ∷ hex8 w) parts.1) in
-    let word : v ≡ w = one_hex8 v w p.2 q.2 (behind_hex8 _ (hex8 v) (hex8 w) a b refl parts.1) in
+    let word : v ≡ w = one_hex8 v w p.2 q.2 (after_hex8 _ (hex8 v) (hex8 w) a b refl parts.1) in
     ap (λ x. Poke x a v) parts.0 ∙ ap (λ x. Poke n x v) address ∙ ap (Poke n b) word
 
 -- the first two bytes of a line tell which command it is
@@ -34,11 +34,11 @@ first_two : (x y : List ℕ) → x ≡ y → (get_or x 0 0 ≡ get_or y 0 0) × 
 first_two x y e = (ap (λ l. get_or l 0 0) e, ap (λ l. get_or l 1 0) e)
 
 same_command : (a b : SessionCommand) → CanBeSpelled a → CanBeSpelled b → line_of a ≡ line_of b → a ≡ b
-same_command (Batch m) (Batch n) p q e = ap Batch (one_behind (codes "batch ") m n p q e)
-same_command (Plan m) (Plan n) p q e = ap Plan (one_behind (codes "plan ") m n p q e)
-same_command (Run m) (Run n) p q e = ap Run (one_behind (codes "run ") m n p q e)
-same_command (Show m) (Show n) p q e = ap Show (one_behind (codes "show ") m n p q e)
-same_command (Drop m) (Drop n) p q e = ap Drop (one_behind (codes "drop ") m n p q e)
+same_command (Batch m) (Batch n) p q e = ap Batch (one_after (codes "batch ") m n p q e)
+same_command (Plan m) (Plan n) p q e = ap Plan (one_after (codes "plan ") m n p q e)
+same_command (Run m) (Run n) p q e = ap Run (one_after (codes "run ") m n p q e)
+same_command (Show m) (Show n) p q e = ap Show (one_after (codes "show ") m n p q e)
+same_command (Drop m) (Drop n) p q e = ap Drop (one_after (codes "drop ") m n p q e)
 same_command (Peek m a) (Peek n b) p q e = one_peek m n a b p q e
 same_command (Poke m a v) (Poke n b w) p q e = one_poke m n a b v w p q e
 same_command Progress Progress p q e = refl

@@ -9,7 +9,7 @@ use Rattle.byte_streams.proofs.Carrying.{appends_none, appends_then, consumes_no
 use Rattle.client_session.specs.declared.input.InputFault.{InputFault}
 use Rattle.client_session.specs.declared.input.InputFault.TheVariants as input
 use Rattle.client_session.specs.declared.fault.ServeFault.{ServeFault}
-use Rattle.client_session.specs.declared.fault.ServeFault.TheVariants.{Read, Write, LineTooLong, Cut, Turns, NoMemory, Record}
+use Rattle.client_session.specs.declared.fault.ServeFault.TheVariants.{Read, Write, LineTooLong, Cut, Turns, Record}
 use Rattle.batch.specs.Extent.{Extent}
 use Rattle.batch_book.specs.Seats.{SeatState, IsSameSeat}
 use Rattle.batch_book.proofs.Fronts.{starts, starts_same, starts_then}
@@ -24,7 +24,7 @@ use Rattle.client_session.proofs.Lists.{every-push}
 use Rattle.client_session.proofs.Doing.{stays, goes_on}
 use Rattle.client_session.proofs.Readings.{HaveShown, readings_later, readings_none, readings_push, shown_push}
 
--- The commands so far, and what is pending behind them. Where no entry can be lost, at most so many
+-- The commands so far, and what is pending after them. Where no entry can be lost, at most so many
 -- reply lines are held.
 pub record Going (most : ℕ) (from to : SeatView) (h : PendingInput) (held bytes : List ℕ) (entries : List Entry) (written : List ℕ) : Type 0 where
   pub holding : IsHolding from to bytes h.pending entries written held
@@ -43,6 +43,18 @@ Ends a b w v from to fault = GoesThrough a b w v from to (HasEnded fault b from 
 -- the same, but for the lines that are held
 abbrev pub Holds : (a b w v : Option (List ℕ)) (from to : SeatView) → List ℕ → Option ServeFault → Type 0
 Holds a b w v from to held fault = GoesThrough a b w v from to (HoldsAtEnd fault b held from to)
+
+-- the same has passed, and more is known of it
+so : {a b w v : Option (List ℕ)} {from to : SeatView} {P Q : List ℕ → List Entry → List ℕ → Type 0} (p : GoesThrough a b w v from to P) → Q p.bytes p.entries p.written → GoesThrough a b w v from to Q
+so p q = record {
+  bytes = p.bytes;
+  entries = p.entries;
+  written = p.written;
+  consumed = p.consumed;
+  asked = p.asked;
+  appended = p.appended;
+  is_so = q;
+}
 
 pub Serving-none : (a w : Option (List ℕ)) (p : SeatView) (h : PendingInput) (held : List ℕ) → h.pending ≡ [] → h.reads ≡ 0 → held ≡ [] → Serving 1 a a w w p p h held
 Serving-none a w p h held e zero none = subst (Serving 1 a a w w p p h) (sym none) record {
@@ -92,7 +104,7 @@ holding_read from to bytes more pending grown entries written held h e = record 
   one = h.one;
 }
 
-pub Serving-read : (most : ℕ) (a b c w v : Option (List ℕ)) (from to : SeatView) (old new : PendingInput) (held : List ℕ) → Serving most a b w v from to old held → TakesIn b c old new → Serving most a c w v from to new held
+Serving-read : (most : ℕ) (a b c w v : Option (List ℕ)) (from to : SeatView) (old new : PendingInput) (held : List ℕ) → Serving most a b w v from to old held → TakesIn b c old new → Serving most a c w v from to new held
 Serving-read most a b c w v from to old new held p more = record {
   bytes = p.bytes ++ more.bytes;
   entries = p.entries;
@@ -170,28 +182,19 @@ Serving-told a b w v u from to next h held was p t = subst (λ (q : SeatView). S
 
 -- they are held still, where an entry can be lost
 Serving-held : (a b w v : Option (List ℕ)) (from to : SeatView) (h : PendingInput) (held : List ℕ) → Serving 1 a b w v from to h held → to.loses ≡ true → Serving 0 a b w v from to h held
-Serving-held a b w v from to h held p loses = record {
-  bytes = p.bytes;
-  entries = p.entries;
-  written = p.written;
-  consumed = p.consumed;
-  asked = p.asked;
-  appended = p.appended;
-  is_so = let s = p.is_so in record {
-    holding = s.holding;
-    few = λ none. absurd (true≢false (sym loses ∙ s.holding.session.seat.loses ∙ none));
-    go_on = s.go_on;
-    have_shown = s.have_shown;
-    reads = s.reads;
-  };
-}
+Serving-held a b w v from to h held p loses =
+    let s = p.is_so in
+    so p (record { holding = s.holding; few = λ none. absurd (true≢false (sym loses ∙ s.holding.session.seat.loses ∙ none)); go_on = s.go_on; have_shown = s.have_shown; reads = s.reads })
 
-pub Serving-first : (a b w v u : Option (List ℕ)) (from to next : SeatView) (h : PendingInput) (held still : List ℕ) → IsAllRecorded from → Serving 1 a b w v from to h held → MayTell to next v u held still → Serving 0 a b w u from next h still
+Serving-first : (a b w v u : Option (List ℕ)) (from to next : SeatView) (h : PendingInput) (held still : List ℕ) → IsAllRecorded from → Serving 1 a b w v from to h held → MayTell to next v u held still → Serving 0 a b w u from next h still
 Serving-first a b w v u from to next h held still was p (inl t) = subst (Serving 0 a b w u from next h) (sym t.1) (Serving-told a b w v u from to next h held was p t.0)
 Serving-first a b w v u from to next h held still was p (inr t) =
     subst (Serving 0 a b w u from next h) (sym t.3) (subst (λ (o : Option (List ℕ)). Serving 0 a b w o from next h held) (sym t.2) (subst (λ (q : SeatView). Serving 0 a b w v from q h held) (sym t.1) (Serving-held a b w v from to h held p t.0)))
 
--- ---- one more turn behind the others
+pub Serving-next : {a b c w v u : Option (List ℕ)} {from to next : SeatView} {old new : PendingInput} {held still : List ℕ} → IsAllRecorded from → Serving 1 a b w v from to old held → MayTell to next v u held still → TakesIn b c old new → Serving 0 a c w u from next new still
+Serving-next was p t more = Serving-read 0 _ _ _ _ _ _ _ _ _ _ (Serving-first _ _ _ _ _ _ _ _ _ _ _ was p t) more
+
+-- ---- one more turn after the others
 
 more_text : (turns : List Turn) (t : Turn) (bytes pending more rest : List ℕ) → bytes ≡ flat_map turn_text turns ++ pending → pending ++ more ≡ turn_text t ++ rest → bytes ++ more ≡ flat_map turn_text (turns ++ t ∷ []) ++ rest
 more_text turns t bytes pending more rest e f =
@@ -256,15 +259,7 @@ Serving-turn a b c w v from to next old new held line longer p t put =
 -- ---- the ends, but for what is held
 
 pub held_at_end : (most : ℕ) (a b w v : Option (List ℕ)) (from to : SeatView) (h : PendingInput) (held : List ℕ) → Serving most a b w v from to h held → h.pending ≡ [] → IsAtEnd b → Holds a b w v from to held None
-held_at_end most a b w v from to h held p e end = record {
-  bytes = p.bytes;
-  entries = p.entries;
-  written = p.written;
-  consumed = p.consumed;
-  asked = p.asked;
-  appended = p.appended;
-  is_so = (h.pending, p.is_so.holding, inl (p.is_so.go_on, e, end));
-}
+held_at_end most a b w v from to h held p e end = so p (h.pending, p.is_so.holding, inl (p.is_so.go_on, e, end))
 
 pub held_by_bye : (a b c w v : Option (List ℕ)) (from to next : SeatView) (old new : PendingInput) (held line longer : List ℕ) → Serving 0 a b w v from to old held → TurnTaken b c old new to next line true → longer ≡ held ++ line → Holds a c w v from next longer None
 held_by_bye a b c w v from to next old new held line longer p t put =
@@ -275,13 +270,9 @@ held_by_bye a b c w v from to next old new held line longer p t put =
 
 -- what a fault says, where it isn't one of writing
 stopped_as : (e : ServeFault) (known : Option (List ℕ)) (from to : SeatView) (bytes rest : List ℕ) (entries : List Entry) (written held : List ℕ) (h : IsHolding from to bytes rest entries written held) → GoOn h.all → RestAt e known (length bytes) rest → HoldsAtEnd (Some e) known held from to bytes entries written
-stopped_as Read known from to bytes rest entries written held h go at = (rest, h, go, at)
-stopped_as LineTooLong known from to bytes rest entries written held h go at = (rest, h, go, at)
-stopped_as Cut known from to bytes rest entries written held h go at = (rest, h, go, at)
-stopped_as Turns known from to bytes rest entries written held h go at = (rest, h, go, at)
-stopped_as NoMemory known from to bytes rest entries written held h go at = (rest, h, go, at)
 stopped_as Write known from to bytes rest entries written held h go at = absurd at
 stopped_as Record known from to bytes rest entries written held h go at = absurd at
+stopped_as e known from to bytes rest entries written held h go at = (rest, h, go, at)
 
 rest_at : (f : InputFault) (known : Option (List ℕ)) (h : PendingInput) (read : ℕ) → h.reads ≤ read → IsFaultAt f known h → RestAt (of_input f) known read h.pending
 rest_at f known h read fewer at = left f at where
@@ -295,24 +286,11 @@ rest_at f known h read fewer at = left f at where
   left input.Turns at = (part, at.0, omega (arith, at.1, fewer))
 
 pub stopped_reading : (most : ℕ) (f : InputFault) (a b w v : Option (List ℕ)) (from to : SeatView) (h : PendingInput) (held : List ℕ) → Serving most a b w v from to h held → IsFaultAt f b h → Holds a b w v from to held (Some (of_input f))
-stopped_reading most f a b w v from to h held p at = record {
-  bytes = p.bytes;
-  entries = p.entries;
-  written = p.written;
-  consumed = p.consumed;
-  asked = p.asked;
-  appended = p.appended;
-  is_so = stopped_as (of_input f) b from to p.bytes h.pending p.entries p.written held p.is_so.holding p.is_so.go_on (rest_at f b h (length p.bytes) p.is_so.reads at);
-}
+stopped_reading most f a b w v from to h held p at = so p (stopped_as (of_input f) b from to p.bytes h.pending p.entries p.written held p.is_so.holding p.is_so.go_on (rest_at f b h (length p.bytes) p.is_so.reads at))
 
 more_read : (e : ServeFault) (known : Option (List ℕ)) (few many : ℕ) (rest : List ℕ) → few ≤ many → RestAt e known few rest → RestAt e known many rest
-more_read Read known few many rest le at = at
-more_read LineTooLong known few many rest le at = at
-more_read Cut known few many rest le at = at
 more_read Turns known few many rest le at = (at.0, at.1, omega (arith, at.2, le))
-more_read NoMemory known few many rest le at = at
-more_read Write known few many rest le at = at
-more_read Record known few many rest le at = at
+more_read e known few many rest le at = at
 
 stopped_turn : (most : ℕ) (e : ServeFault) (a b c w v : Option (List ℕ)) (from to next : SeatView) (h : PendingInput) (held : List ℕ) → Serving most a b w v from to h held → TurnStopped e b c h to next → Holds a c w v from next held (Some e)
 stopped_turn most e a b c w v from to next h held p t = subst (λ (q : SeatView). Holds a c w v from q held (Some e)) (sym t.same) record {
@@ -332,7 +310,7 @@ held_lines : (turns waiting all : List Turn) (written held : List ℕ) → all �
 held_lines turns waiting all written held are told text =
     append_cancel_left written held (lines_of waiting) (text ∙ ap lines_of are ∙ flat_map-append (λ (t : Turn). t.did.line) turns waiting ∙ ap (λ l. l ++ lines_of waiting) (sym told))
 
--- the record is broken, and so are these commands behind those that were told
+-- the record is broken, and so are these commands after those that were told
 broken : (from to next : SeatView) (bytes rest held : List ℕ) (entries : List Entry) (written : List ℕ) (lost : List LostTurn) (h : IsHolding from to bytes (lost_texts lost ++ rest) entries written held)
     → MayEnd h.all → length held ≤ HELD_BYTES → GoesOnFrom true to next → AllByRecursion (IsLostTurn from.session) lost → length lost ≤ 1 → IsBroken from next bytes (entries ++ lost_entries lost) written
 broken from to next bytes rest held entries written lost h may few goes are one =
@@ -380,19 +358,12 @@ lost_turn most a b c w v from to next h held p few t =
 
 pub failed_turn : (most : ℕ) (e : ServeFault) (a b c w v : Option (List ℕ)) (from to next : SeatView) (h : PendingInput) (held : List ℕ) → Serving most a b w v from to h held → length held ≤ HELD_BYTES → TurnFails e b c h to next → Holds a c w v from next held (Some e)
 failed_turn most Record a b c w v from to next h held p few t = lost_turn most a b c w v from to next h held p few t
-failed_turn most Read a b c w v from to next h held p few t = stopped_turn most Read a b c w v from to next h held p t
-failed_turn most Write a b c w v from to next h held p few t = stopped_turn most Write a b c w v from to next h held p t
-failed_turn most LineTooLong a b c w v from to next h held p few t = stopped_turn most LineTooLong a b c w v from to next h held p t
-failed_turn most Cut a b c w v from to next h held p few t = stopped_turn most Cut a b c w v from to next h held p t
-failed_turn most Turns a b c w v from to next h held p few t = stopped_turn most Turns a b c w v from to next h held p t
-failed_turn most NoMemory a b c w v from to next h held p few t = stopped_turn most NoMemory a b c w v from to next h held p t
+failed_turn most e a b c w v from to next h held p few t = stopped_turn most e a b c w v from to next h held p t
 
 -- the input has other faults than that
 pub no_input : (f : InputFault) → Some (of_input f) ≡ Some Record → ⊥
 no_input input.Read is = absurd (cc)
-no_input input.LineTooLong is = absurd (cc)
-no_input input.Cut is = absurd (cc)
-no_input input.Turns is = absurd (cc)
+no_input f is = absurd (cc)
 
 pub the_fault : (e f : ServeFault) → Some e ≡ Some f → e ≡ f
 the_fault e f is = cc
@@ -420,9 +391,12 @@ cut_off from to bytes rest entries written held front missing was asked cut some
   last = λ all. last_line h.turns h.waiting h.all written held front missing h.are h.told h.session.text_is (h.one all) some cut;
 }
 
+-- a session that holds lines
+abbrev HoldingAll : (a b w v : Option (List ℕ)) (from to : SeatView) → List ℕ → Type 0
+HoldingAll a b w v from to held = GoesThrough a b w v from to (λ bytes entries written. (rest : List ℕ) × (h : IsHolding from to bytes rest entries written held) × MayEnd h.all)
+
 -- what is held where the session goes on, or has ended
-pub untold : (e : ServeFault) (a b w v u : Option (List ℕ)) (from to next : SeatView) (held : List ℕ) (p : GoesThrough a b w v from to (λ bytes entries written. (rest : List ℕ) × (h : IsHolding from to bytes rest entries written held) × MayEnd h.all))
-    → IsAllRecorded from → AreUntold e to next v u held → GoesThrough a b w u from next (HasEnded (Some e) b from next)
+untold : (e : ServeFault) (a b w v u : Option (List ℕ)) (from to next : SeatView) (held : List ℕ) → HoldingAll a b w v from to held → IsAllRecorded from → AreUntold e to next v u held → GoesThrough a b w u from next (HasEnded (Some e) b from next)
 untold Write a b w v u from to next held p was t =
     let cut = t.2 in
     let h = p.is_so.1 in
@@ -446,48 +420,23 @@ untold Record a b w v u from to next held p was t =
       appended = p.appended;
       is_so = broken from to (record to { broken = true }) p.bytes p.is_so.0 held p.entries p.written [] p.is_so.1 p.is_so.2 t.2 goes tt (omega arith);
     })
-untold Read a b w v u from to next held p was t = absurd t
-untold LineTooLong a b w v u from to next held p was t = absurd t
-untold Cut a b w v u from to next held p was t = absurd t
-untold Turns a b w v u from to next held p was t = absurd t
-untold NoMemory a b w v u from to next held p was t = absurd t
-
--- a session that holds lines
-abbrev HoldingAll : (a b w v : Option (List ℕ)) (from to : SeatView) → List ℕ → Type 0
-HoldingAll a b w v from to held = GoesThrough a b w v from to (λ bytes entries written. (rest : List ℕ) × (h : IsHolding from to bytes rest entries written held) × MayEnd h.all)
+untold e a b w v u from to next held p was t = absurd t
 
 serving_holds : (most : ℕ) (a b w v : Option (List ℕ)) (from to : SeatView) (h : PendingInput) (held : List ℕ) → Serving most a b w v from to h held → HoldingAll a b w v from to held
-serving_holds most a b w v from to h held p = record {
-  bytes = p.bytes;
-  entries = p.entries;
-  written = p.written;
-  consumed = p.consumed;
-  asked = p.asked;
-  appended = p.appended;
-  is_so = (h.pending, p.is_so.holding, inl p.is_so.go_on);
-}
+serving_holds most a b w v from to h held p = so p (h.pending, p.is_so.holding, inl p.is_so.go_on)
 
 -- they couldn't be told before more is done
 pub untold_first : (e : ServeFault) (a b w v u : Option (List ℕ)) (from to next : SeatView) (h : PendingInput) (held still : List ℕ) → IsAllRecorded from → Serving 1 a b w v from to h held → AreUntold e to next v u held → Holds a b w u from next still (Some e)
 untold_first Write a b w v u from to next h held still was p t = untold Write a b w v u from to next held (serving_holds 1 a b w v from to h held p) was t
 untold_first Record a b w v u from to next h held still was p t = untold Record a b w v u from to next held (serving_holds 1 a b w v from to h held p) was t
-untold_first Read a b w v u from to next h held still was p t = absurd t
-untold_first LineTooLong a b w v u from to next h held still was p t = absurd t
-untold_first Cut a b w v u from to next h held still was p t = absurd t
-untold_first Turns a b w v u from to next h held still was p t = absurd t
-untold_first NoMemory a b w v u from to next h held still was p t = absurd t
+untold_first e a b w v u from to next h held still was p t = absurd t
 
 -- ---- the ends
 
 pub cut_before : (fault : Option ServeFault) (a b w v : Option (List ℕ)) (from to : SeatView) (held : List ℕ) → cuts_off fault ≡ true → Holds a b w v from to held fault → Ends a b w v from to fault
 cut_before (Some Write) a b w v from to held is p = p
 cut_before (Some Record) a b w v from to held is p = p
-cut_before None a b w v from to held is p = absurd (true≢false (sym is))
-cut_before (Some Read) a b w v from to held is p = absurd (true≢false (sym is))
-cut_before (Some LineTooLong) a b w v from to held is p = absurd (true≢false (sym is))
-cut_before (Some Cut) a b w v from to held is p = absurd (true≢false (sym is))
-cut_before (Some Turns) a b w v from to held is p = absurd (true≢false (sym is))
-cut_before (Some NoMemory) a b w v from to held is p = absurd (true≢false (sym is))
+cut_before fault a b w v from to held is p = absurd (true≢false (sym is))
 
 may_end : (turns : List Turn) (known : Option (List ℕ)) (rest : List ℕ) → IsWholeSession turns known rest → MayEnd turns
 may_end turns known rest (inl is) = inl is.0
@@ -496,35 +445,19 @@ may_end turns known rest (inr is) = inr is
 -- what is held where no more was cut off
 ends_holding : (fault : Option ServeFault) (known : Option (List ℕ)) (from to : SeatView) (held bytes : List ℕ) (entries : List Entry) (written : List ℕ) → cuts_off fault ≡ false → HoldsAtEnd fault known held from to bytes entries written → (rest : List ℕ) × (h : IsHolding from to bytes rest entries written held) × MayEnd h.all
 ends_holding None known from to held bytes entries written is e = (e.0, e.1, may_end e.1.all known e.0 e.2)
-ends_holding (Some Read) known from to held bytes entries written is e = (e.0, e.1, inl e.2)
-ends_holding (Some LineTooLong) known from to held bytes entries written is e = (e.0, e.1, inl e.2)
-ends_holding (Some Cut) known from to held bytes entries written is e = (e.0, e.1, inl e.2)
-ends_holding (Some Turns) known from to held bytes entries written is e = (e.0, e.1, inl e.2)
-ends_holding (Some NoMemory) known from to held bytes entries written is e = (e.0, e.1, inl e.2)
 ends_holding (Some Write) known from to held bytes entries written is e = absurd (true≢false is)
 ends_holding (Some Record) known from to held bytes entries written is e = absurd (true≢false is)
+ends_holding (Some fault) known from to held bytes entries written is e = (e.0, e.1, inl e.2)
 
 pub untold_last : (fault : Option ServeFault) (e : ServeFault) (a b w v u : Option (List ℕ)) (from to next : SeatView) (held : List ℕ) → cuts_off fault ≡ false → IsAllRecorded from → Holds a b w v from to held fault → AreUntold e to next v u held → Ends a b w u from next (Some e)
-untold_last fault e a b w v u from to next held is was p t = untold e a b w v u from to next held record {
-  bytes = p.bytes;
-  entries = p.entries;
-  written = p.written;
-  consumed = p.consumed;
-  asked = p.asked;
-  appended = p.appended;
-  is_so = ends_holding fault b from to held p.bytes p.entries p.written is p.is_so;
-} was t
+untold_last fault e a b w v u from to next held is was p t = untold e a b w v u from to next held (so p (ends_holding fault b from to held p.bytes p.entries p.written is p.is_so)) was t
 
 -- all was told
 ended_so : (fault : Option ServeFault) (known : Option (List ℕ)) (from to : SeatView) (held bytes : List ℕ) (entries : List Entry) (written : List ℕ) → cuts_off fault ≡ false → IsAllRecorded from → to.asked ≡ from.asked ++ entries → HoldsAtEnd fault known held from to bytes entries written → HasEnded fault known from (told_seat to) bytes entries (written ++ held)
 ended_so None known from to held bytes entries written is was asked e = (e.1.all, e.0, session_told from to e.1.all bytes e.0 entries (written ++ held) was asked e.1.session, e.2, refl)
-ended_so (Some Read) known from to held bytes entries written is was asked e = (e.1.all, e.0, session_told from to e.1.all bytes e.0 entries (written ++ held) was asked e.1.session, e.2, e.3, refl)
-ended_so (Some LineTooLong) known from to held bytes entries written is was asked e = (e.1.all, e.0, session_told from to e.1.all bytes e.0 entries (written ++ held) was asked e.1.session, e.2, e.3, refl)
-ended_so (Some Cut) known from to held bytes entries written is was asked e = (e.1.all, e.0, session_told from to e.1.all bytes e.0 entries (written ++ held) was asked e.1.session, e.2, e.3, refl)
-ended_so (Some Turns) known from to held bytes entries written is was asked e = (e.1.all, e.0, session_told from to e.1.all bytes e.0 entries (written ++ held) was asked e.1.session, e.2, e.3, refl)
-ended_so (Some NoMemory) known from to held bytes entries written is was asked e = (e.1.all, e.0, session_told from to e.1.all bytes e.0 entries (written ++ held) was asked e.1.session, e.2, e.3, refl)
 ended_so (Some Write) known from to held bytes entries written is was asked e = absurd (true≢false is)
 ended_so (Some Record) known from to held bytes entries written is was asked e = absurd (true≢false is)
+ended_so (Some fault) known from to held bytes entries written is was asked e = (e.1.all, e.0, session_told from to e.1.all bytes e.0 entries (written ++ held) was asked e.1.session, e.2, e.3, refl)
 
 pub told_last : (fault : Option ServeFault) (a b w v u : Option (List ℕ)) (from to next : SeatView) (held : List ℕ) → cuts_off fault ≡ false → IsAllRecorded from → Holds a b w v from to held fault → AreTold to next v u held → Ends a b w u from next fault
 told_last fault a b w v u from to next held is was p t = subst (λ (q : SeatView). Ends a b w u from q fault) (sym t.seat) record {
@@ -545,14 +478,9 @@ breaks_by (Some Record) = true
 breaks_by fault = false
 
 same_seat : (fault : Option ServeFault) (known : Option (List ℕ)) (from to : SeatView) (bytes : List ℕ) (entries : List Entry) (written : List ℕ) → HasEnded fault known from to bytes entries written → GoesOnFrom (breaks_by fault) from to
-same_seat None known from to bytes entries written h = h.2.seat
 same_seat (Some Write) known from to bytes entries written h = h.session.seat
 same_seat (Some Record) known from to bytes entries written h = h.session.seat
-same_seat (Some Read) known from to bytes entries written h = h.2.seat
-same_seat (Some LineTooLong) known from to bytes entries written h = h.2.seat
-same_seat (Some Cut) known from to bytes entries written h = h.2.seat
-same_seat (Some Turns) known from to bytes entries written h = h.2.seat
-same_seat (Some NoMemory) known from to bytes entries written h = h.2.seat
+same_seat fault known from to bytes entries written h = h.2.seat
 
 pub seat_kept : (a b w v : Option (List ℕ)) (loses : Bool) (shape : Extent) (seat back : SeatState) (from to : SeatView) (fault : Option ServeFault) → from ≡ seat_view loses shape seat → seat_view to.loses to.shape back ≡ to → Ends a b w v from to fault → IsSameSeat seat back
 seat_kept a b w v loses shape seat back from to fault was is ends =
@@ -574,14 +502,10 @@ all_told : (fault : Option ServeFault) (known : Option (List ℕ)) (from to : Se
 all_told None known from to bytes entries written whole h = h.4
 all_told (Some Write) known from to bytes entries written whole h = h.recorded
 all_told (Some Record) known from to bytes entries written whole h = absurd (whole refl)
-all_told (Some Read) known from to bytes entries written whole h = h.5
-all_told (Some LineTooLong) known from to bytes entries written whole h = h.5
-all_told (Some Cut) known from to bytes entries written whole h = h.5
-all_told (Some Turns) known from to bytes entries written whole h = h.5
-all_told (Some NoMemory) known from to bytes entries written whole h = h.5
+all_told (Some fault) known from to bytes entries written whole h = h.5
 
-pub told_behind : (a b w v : Option (List ℕ)) (loses : Bool) (back : SeatState) (from to : SeatView) (fault : Option ServeFault) → seat_view to.loses to.shape back ≡ to → (fault ≡ Some Record → loses ≡ true) → loses ≡ false → Ends a b w v from to fault → back.log ≡ back.asked
-told_behind a b w v loses back from to fault is lost none ends =
+pub told_after : (a b w v : Option (List ℕ)) (loses : Bool) (back : SeatState) (from to : SeatView) (fault : Option ServeFault) → seat_view to.loses to.shape back ≡ to → (fault ≡ Some Record → loses ≡ true) → loses ≡ false → Ends a b w v from to fault → back.log ≡ back.asked
+told_after a b w v loses back from to fault is lost none ends =
     let whole : fault ≡ Some Record → ⊥ = λ broken. true≢false (sym (lost broken) ∙ none) in
     subst IsAllRecorded (sym is) (all_told fault b from to ends.bytes ends.entries ends.written whole ends.is_so)
 

@@ -65,19 +65,5 @@ LinesTaken-line a b old mid new before after text n k t has short grows rest sam
     }
 
 pub pending_at : (e : InputFault) (known : Option (List ℕ)) (h : PendingInput) → IsFaultAt e known h → PendingAt (of_input e) known h
-pending_at input.Read known h at = at
-pending_at input.Turns known h at = at
-pending_at input.LineTooLong known h at = at
 pending_at input.Cut known h at = (at.0, at.2)
-
-pub LinesTaken-same : (a b : Option (List ℕ)) (old new : PendingInput) (before after text : List ℕ) (n : ℕ) → LinesTaken a b old new before after n → text ≡ after → LinesTaken a b old new before text n
-LinesTaken-same a b old new before after text n t e = record {
-  bytes = t.bytes;
-  consumed = t.consumed;
-  lines = t.lines;
-  each = t.each;
-  count = t.count;
-  text = e ∙ t.text;
-  kept = t.kept;
-  reads = t.reads;
-}
+pending_at e known h at = at

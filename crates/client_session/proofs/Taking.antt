@@ -1,13 +1,15 @@
 -- How one read follows another.
-use Rattle.std.proofs.Common.{◌≡◌, ◌+◌, ◌<◌, ◌≤◌, ℕ, zero, suc, List, [], ◌++◌, length, Option, Some, None, Result, Ok, Err, IfOk, IfErr, MatchOption, subst, refl, sym, ap, ◌∙◌, append_assoc, append-nil, arith}
+use Rattle.std.proofs.Common.{◌≡◌, ◌+◌, ◌<◌, ◌≤◌, ℕ, zero, suc, List, [], ◌++◌, length, Option, Some, None, Result, Ok, Err, IfOk, IfErr, IfSome, MatchOption, subst, refl, sym, ap, ◌∙◌, append_assoc, append-nil, arith}
 use Rattle.std.proofs.lemmas.List.{length-append, nil_from_length}
 use Rattle.byte_streams.proofs.Carrying.{consumes_none, consumes_then}
 use Rattle.client_session.specs.declared.limits.TheConstants.{INPUT_BYTES, LINE_BYTES, MAX_READS}
 use Rattle.std.specs.Io.KnownBytes.{IsAtEnd}
 use Rattle.client_session.specs.declared.input.InputFault.{InputFault}
-use Rattle.client_session.specs.declared.input.InputFault.TheVariants.{Read, LineTooLong, Cut, Turns}
+use Rattle.client_session.specs.declared.input.InputFault.TheVariants.{Read, Cut, Turns}
 use Rattle.client_session.specs.Bytes.{PendingInput, TakesIn, HasLine, IsSessionLine, fuel}
 use Rattle.client_session.specs.Faults.{HasBroughtNothing, IsFaultAt}
+use Rattle.client_session.specs.declared.front.Front.{Front}
+use Rattle.client_session.specs.Steps.{IsFront}
 
 pub TakesIn-none : (a : Option (List ℕ)) (h : PendingInput) → TakesIn a a h h
 TakesIn-none a h = record { bytes = []; consumed = consumes_none a; kept = append-nil h.pending; reads = omega arith }
@@ -52,5 +54,9 @@ cut_at_end (Err e) old new t same end line err = rw err.0 (subst IsSessionLine (
 pub fault_before : (e : InputFault) (known : Option (List ℕ)) (old new : PendingInput) → IsSessionLine old.pending → HasBroughtNothing e old new → IsFaultAt e known new
 fault_before Read known old new line none = subst IsSessionLine (sym none.0) line
 fault_before Turns known old new line none = (subst IsSessionLine (sym none.0) line, none.1)
-fault_before LineTooLong known old new line none = absurd none.1
-fault_before Cut known old new line none = absurd none.1
+fault_before e known old new line none = absurd none.1
+
+-- the line in front stands where it was
+pub front_still : (found : Option Front) (old new : PendingInput) → IfSome found (IsFront old.pending) → IfSome found (λ _. new ≡ old) → IfSome found (IsFront new.pending)
+front_still None old new is same = tt
+front_still (Some front) old new is same = rw same is

@@ -1,14 +1,14 @@
 -- One command taken from the input, and what a fault leaves.
-use Rattle.std.proofs.Common.{◌≡◌, ℕ, ◌+◌, ◌<◌, ◌≤◌, List, [], ◌∷◌, ◌++◌, length, take, drop, flat_map, Option, Some, None, Bool, false, MatchBool, sym, ap, ◌∙◌, append_assoc, append-nil, refl, subst, arith, inr}
+use Rattle.std.proofs.Common.{◌≡◌, ℕ, ◌+◌, ◌<◌, ◌≤◌, List, [], ◌∷◌, ◌++◌, length, take, drop, flat_map, Option, Some, Bool, false, MatchBool, sym, ap, ◌∙◌, append_assoc, append-nil, refl, subst, arith, inr}
 use Rattle.std.proofs.lemmas.List.{take-append-drop, length-append, length-drop}
 use Rattle.std.proofs.lemmas.Bool.{lt-ltb, le-ltb}
 use Rattle.batch.specs.declared.limits.TheConstants.{MAX_TRANSFERS}
 use Rattle.byte_streams.proofs.Carrying.{consumes_none}
 use Rattle.client_session.specs.declared.limits.TheConstants.{INPUT_BYTES, LINE_BYTES}
 use Rattle.client_session.specs.declared.command.SessionCommand.{SessionCommand}
-use Rattle.client_session.specs.declared.command.SessionCommand.TheVariants.{Batch, Plan, Run, Show, Drop, Peek, Poke, Progress, Bye}
+use Rattle.client_session.specs.declared.command.SessionCommand.TheVariants.{Batch, Bye}
 use Rattle.client_session.specs.declared.fault.ServeFault.{ServeFault}
-use Rattle.client_session.specs.declared.fault.ServeFault.TheVariants.{Read, Write, LineTooLong, Cut, Turns, NoMemory, Record}
+use Rattle.client_session.specs.declared.fault.ServeFault.TheVariants.{Read, LineTooLong, Cut, Turns, NoMemory, Record}
 use Rattle.client_session.specs.Bytes.{PendingInput, HasLine, fuel}
 use Rattle.client_session.specs.Commands.{Means}
 use Rattle.client_session.specs.Seats.{SeatView}
@@ -22,7 +22,7 @@ use Rattle.client_session.proofs.Taken.{line_front, line_is}
 pub fuel_skip : (old new : PendingInput) (k : ℕ) → new.pending ≡ drop (k + 1) old.pending → new.reads ≡ old.reads → k < length old.pending → fuel new < fuel old
 fuel_skip old new k e r h = omega (arith, ap length e, length-drop (k + 1) old.pending, r)
 
--- the line in front, and what stands behind it
+-- the line in front, and what stands after it
 pub front_is : (bytes : List ℕ) (n : ℕ) → HasLine bytes n → bytes ≡ with_feed (take n bytes) ++ drop (n + 1) bytes
 front_is bytes n has = sym (take-append-drop (n + 1) bytes) ∙ ap (λ l. l ++ drop (n + 1) bytes) (sym (line_front bytes n has))
 
@@ -45,7 +45,7 @@ stopped_at_once a old seat n count has short room begins = record {
   };
 }
 
--- all that is left behind the first lines of a batch
+-- all that is left after the first lines of a batch
 lines_are : (a b : Option (List ℕ)) (old mid new : PendingInput) (n k : ℕ) (before after : List ℕ) → HasLine old.pending n → mid.pending ≡ drop (n + 1) old.pending → (t : LinesTaken a b mid new before after k)
     → old.pending ++ t.bytes ≡ (with_feed (take n old.pending) ++ flat_map with_feed t.lines) ++ new.pending
 lines_are a b old mid new n k before after has rest t =
@@ -93,8 +93,7 @@ stopped_in_lines e a b old mid new seat n count before after has short begins re
     room = h;
     whole = whole;
   }
-  left Write h = h
-  left Record h = h
+  left e h = absurd h
 
 -- so it is none of recording
 pub lines_unlost : (e : ServeFault) (a b : Option (List ℕ)) (old new : PendingInput) (before after : List ℕ) (wanted : ℕ) → e ≡ Record → LinesStopped e a b old new before after wanted → ⊥
@@ -102,13 +101,8 @@ lines_unlost e a b old new before after wanted is s = subst (λ (x : ServeFault)
 
 -- a fault came first
 pub fails : (e : ServeFault) (a b : Option (List ℕ)) (old : PendingInput) (from to : SeatView) → TurnStopped e a b old from to → TurnFails e a b old from to
-fails Read a b old from to s = s
-fails Write a b old from to s = s
-fails LineTooLong a b old from to s = s
-fails Cut a b old from to s = s
-fails Turns a b old from to s = s
-fails NoMemory a b old from to s = s
 fails Record a b old from to s = absurd s.rest
+fails e a b old from to s = s
 
 -- a call wasn't made
 lost_as : (e : ServeFault) (a b : Option (List ℕ)) (old : PendingInput) (from to : SeatView) → e ≡ Record → TurnLost a b old from to → TurnFails e a b old from to
@@ -161,18 +155,10 @@ batch_lost e a b old mid new from to n count before after has short begins rest 
 }
 
 none_after : (command : Option SessionCommand) → StandsAlone command → lines_after command ≡ 0
-none_after None h = refl
 none_after (Some (Batch count)) h = many_after count h
-none_after (Some (Plan id)) h = refl
-none_after (Some (Run id)) h = refl
-none_after (Some (Show id)) h = refl
-none_after (Some (Drop id)) h = refl
-none_after (Some (Peek m a)) h = refl
-none_after (Some (Poke m a w)) h = refl
-none_after (Some Progress) h = refl
-none_after (Some Bye) h = refl
+none_after command h = refl
 
--- a command with no lines behind its own was taken, and done
+-- a command with no lines after its own was taken, and done
 pub alone_taken : (a : Option (List ℕ)) (old new : PendingInput) (from to : SeatView) (n : ℕ) (command : Option SessionCommand) (line : List ℕ) (ends : Bool) → HasLine old.pending n → n ≤ LINE_BYTES
     → Means (take n old.pending) command → StandsAlone command → new.pending ≡ drop (n + 1) old.pending → new.reads ≡ old.reads
     → ((text : List ℕ) → Acts from to (DoesCommand from.shape from.session command text) line) → MatchBool ends (command ≡ Some Bye) (SessionGoesOn command) → TurnTaken a a old new from to line ends

@@ -21,7 +21,7 @@ pub record AsksWithinLimit (before after : Option ℕ) (fault : Option ServeFaul
   pub counted : RisesBy before after asks
   pub within : IsWithinLimit fault asks
 
--- the same of the rest of a session, behind so many reads
+-- the same of the rest of a session, after so many reads
 pub record StopsAsking (before after : Option ℕ) (reads : ℕ)
     (fault : Option ServeFault) : Type 0 where
   pub asks : ℕ

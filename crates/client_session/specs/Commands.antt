@@ -1,5 +1,5 @@
 -- The lines that are commands. The grammar is this project's choice.
-use Rattle.std.specs.Prelude.{◌≡◌, ◌≢◌, ℕ, List, ◌∷◌, ◌++◌, codes, Option, Some, None}
+use Rattle.std.specs.Prelude.{◌≡◌, ◌≢◌, ℕ, List, ◌∷◌, ◌++◌, codes, Bool, true, false, Option, Some, None}
 use Rattle.std.specs.Fmt.{decimal}
 use Rattle.batch.specs.Text.{IsNumber, number, space}
 use Rattle.line_words.specs.HexWords.{IsWord, hex8}
@@ -19,6 +19,12 @@ line_of (Poke «module» address word) =
 line_of Progress = codes "progress"
 line_of Bye = codes "bye"
 
+-- it waits for nobody long: nothing is planned, and no run is made
+abbrev pub is_quick : SessionCommand → Bool
+is_quick (Plan id) = false
+is_quick (Run id) = false
+is_quick command = true
+
 -- the numbers of a command are such as a line can hold
 abbrev pub CanBeSpelled : SessionCommand → Type 0
 CanBeSpelled (Batch count) = IsNumber count
@@ -28,8 +34,7 @@ CanBeSpelled (Show id) = IsNumber id
 CanBeSpelled (Drop id) = IsNumber id
 CanBeSpelled (Peek «module» address) = IsNumber «module» × IsWord address
 CanBeSpelled (Poke «module» address word) = IsNumber «module» × IsWord address × IsWord word
-CanBeSpelled Progress = Unit {0}
-CanBeSpelled Bye = Unit {0}
+CanBeSpelled command = Unit {0}
 
 -- what a line means: the command whose line it is, or none where it is no command's line
 abbrev pub Means : List ℕ → Option SessionCommand → Type 0

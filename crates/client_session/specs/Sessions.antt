@@ -23,9 +23,9 @@ lines_of turns = flat_map (λ (t : Turn). t.did.line) turns
 abbrev pub added_entries : List Turn → List Entry
 added_entries turns = flat_map (λ (t : Turn). t.did.entries) turns
 
--- These commands stand in the bytes, one after another, and the rest behind them. Just the entries
+-- These commands stand in the bytes, one after another, and the rest after them. Just the entries
 -- of what they did are new in what the seat asked, which is the same one, and the text is their
--- reply lines. The record of the seat's calls broke behind them, or it didn't.
+-- reply lines. The record of the seat's calls broke after them, or it didn't.
 pub record IsSession (breaks : Bool) (old new : SeatView) (turns : List Turn)
     (bytes rest : List ℕ) (entries : List Entry) (text : List ℕ) : Type 0 where
   pub each : AllByRecursion (IsTurn old.shape old.session) turns
@@ -51,7 +51,7 @@ EndByBye turns =
 abbrev pub MayEnd : List Turn → Type 0
 MayEnd turns = GoOn turns ⊎ EndByBye turns
 
--- what is left to read where a session has ended by itself: nothing behind a whole command; behind
+-- what is left to read where a session has ended by itself: nothing after a whole command; after
 -- `bye` it isn't looked at
 abbrev pub IsWholeSession : List Turn → Option (List ℕ) → List ℕ → Type 0
 IsWholeSession turns known rest = (GoOn turns × (rest ≡ []) × IsAtEnd known) ⊎ EndByBye turns
@@ -65,7 +65,7 @@ abbrev pub IsShort : List (List ℕ) → Type 0
 IsShort [] = Unit {0}
 IsShort (head ∷ body) = (count : ℕ) × BeginsBatch head count × (length body < count)
 
--- less than a whole command: such lines, and what stands behind them
+-- less than a whole command: such lines, and what stands after them
 pub record IsPartialCommand (rest : List ℕ) : Type 0 where
   pub lines : List (List ℕ)
   pub part : List ℕ
@@ -73,7 +73,7 @@ pub record IsPartialCommand (rest : List ℕ) : Type 0 where
   pub short : IsShort lines
   pub whole : rest ≡ lines_text lines ++ part
 
--- the line of a batch and some that belong to it, whose text couldn't be kept, and no more behind
+-- the line of a batch and some that belong to it, whose text couldn't be kept, and no more after
 -- them than was read with the last of them
 pub record IsUnkept (rest : List ℕ) : Type 0 where
   pub head : List ℕ
@@ -86,7 +86,7 @@ pub record IsUnkept (rest : List ℕ) : Type 0 where
   pub room : length part ≤ INPUT_BYTES
   pub whole : rest ≡ lines_text (head ∷ body) ++ part
 
--- what stands behind the commands that were served where a fault ends the session, of whose bytes
+-- what stands after the commands that were served where a fault ends the session, of whose bytes
 -- so many were read
 abbrev pub RestAt : ServeFault → Option (List ℕ) → ℕ → List ℕ → Type 0
 RestAt Read known read rest = (p : IsPartialCommand rest) × IsSessionLine p.part
@@ -98,8 +98,7 @@ RestAt Cut known read rest =
 RestAt Turns known read rest =
     (p : IsPartialCommand rest) × IsSessionLine p.part × (MAX_READS ≤ read)
 RestAt NoMemory known read rest = IsUnkept rest
-RestAt Write known read rest = ⊥
-RestAt Record known read rest = ⊥
+RestAt fault known read rest = ⊥
 
 -- all that the session asked could be told to it
 abbrev pub IsAllRecorded : SeatView → Type 0
@@ -132,7 +131,7 @@ abbrev pub lost_entries : List LostTurn → List Entry
 lost_entries lost = flat_map (λ (t : LostTurn). t.entries) lost
 
 -- A session whose record is broken: the replies to these commands were told. Some were read whole
--- behind them, and done, and their replies are held, which are no more than a session holds. And
+-- after them, and done, and their replies are held, which are no more than a session holds. And
 -- maybe a call of one more wasn't made.
 pub record IsBroken (old new : SeatView) (bytes : List ℕ) (entries : List Entry)
     (written : List ℕ) : Type 0 where
@@ -192,7 +191,7 @@ HoldsAtEnd (Some fault) known held old new bytes entries written =
     (rest : List ℕ) × (h : IsHolding old new bytes rest entries written held)
     × GoOn h.all × RestAt fault known (length bytes) rest
 
--- no more can be told behind it
+-- no more can be told after it
 abbrev pub cuts_off : Option ServeFault → Bool
 cuts_off (Some Write) = true
 cuts_off (Some Record) = true

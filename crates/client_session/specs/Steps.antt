@@ -16,7 +16,9 @@ use Rattle.client_session.specs.declared.command.SessionCommand.{SessionCommand}
 use Rattle.client_session.specs.declared.command.SessionCommand.TheVariants.{Batch, Bye}
 use Rattle.client_session.specs.declared.fault.ServeFault.{ServeFault}
 use Rattle.client_session.specs.declared.fault.ServeFault.TheVariants.{Read, Write, LineTooLong, Cut, Turns, NoMemory, Record}
-use Rattle.client_session.specs.Bytes.{PendingInput, HasNoFeed, IsSessionLine}
+use Rattle.client_session.specs.Bytes.{PendingInput, HasLine, HasNoFeed, IsSessionLine}
+use Rattle.client_session.specs.declared.front.Front.{Front}
+use Rattle.client_session.specs.Commands.{Means}
 use Rattle.client_session.specs.Seats.{SeatView, GoesOnFrom}
 use Rattle.client_session.specs.Turns.{Turn, IsTurn, LostTurn, IsLostTurn, SessionGoesOn, Answer, turn_text, lost_text, lines_text, readings_of, shown}
 use Rattle.client_session.specs.Sessions.{RestAt}
@@ -38,7 +40,13 @@ CanBeTold (Fetched batch) = ⊥
 CanBeTold (Ran run settings words) = words ≤ MAX_TRANSFERS * MAX_WORDS
 CanBeTold reply = Unit {0}
 
--- no lines belong to the command behind its own
+-- the line in front of these bytes, and what it commands
+abbrev pub IsFront : List ℕ → Front → Type 0
+IsFront bytes front =
+    HasLine bytes front.length × (front.length ≤ LINE_BYTES)
+    × Means (take front.length bytes) front.command
+
+-- no lines belong to the command after its own
 abbrev pub StandsAlone : Option SessionCommand → Type 0
 StandsAlone (Some (Batch count)) = MAX_TRANSFERS < count
 StandsAlone command = Unit {0}
@@ -72,7 +80,7 @@ abbrev pub Does : {T : Type 0} → SeatView → SeatView → (Answer → Type 0)
 Does old new IsSo HasBegun line (Ok done) = Acts old new IsSo line
 Does old new IsSo HasBegun line (Err fault) = Breaks fault old new HasBegun
 
--- n lines were taken from the input, and stand behind the text
+-- n lines were taken from the input, and stand after the text
 pub record LinesTaken (before after : Option (List ℕ)) (old new : PendingInput)
     (text_before text_after : List ℕ) (n : ℕ) : Type 0 where
   pub bytes : List ℕ
@@ -92,8 +100,7 @@ PendingAt LineTooLong known h =
 PendingAt Cut known h = IsSessionLine h.pending × IsAtEnd known
 PendingAt Turns known h = IsSessionLine h.pending × (h.reads ≡ MAX_READS)
 PendingAt NoMemory known h = length h.pending ≤ INPUT_BYTES
-PendingAt Write known h = ⊥
-PendingAt Record known h = ⊥
+PendingAt fault known h = ⊥
 
 -- some lines were taken, fewer than wanted, and then a fault came
 pub record LinesStopped (fault : ServeFault) (before after : Option (List ℕ))

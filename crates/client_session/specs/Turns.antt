@@ -111,7 +111,7 @@ DoesCommand shape by (Some Bye) text a = a ≡ plain_answer [] (with_feed (codes
 
 -- ---- a turn
 
--- the line of a command, those behind it that belong to it, what it means, and what the command did
+-- the line of a command, those after it that belong to it, what it means, and what the command did
 pub record Turn : Type 0 where
   pub head : List ℕ
   pub body : List (List ℕ)
@@ -124,7 +124,7 @@ lines_text lines = flat_map with_feed lines
 abbrev pub turn_text : Turn → List ℕ
 turn_text t = with_feed t.head ++ lines_text t.body
 
--- how many lines belong to a command behind its own
+-- how many lines belong to a command after its own
 abbrev pub lines_after : Option SessionCommand → ℕ
 lines_after (Some (Batch count)) = if nat_lt MAX_TRANSFERS count then 0 else count
 lines_after command = 0
@@ -149,7 +149,7 @@ abbrev pub IsBegun : ℕ → Option SessionCommand → List Entry → Type 0
 IsBegun by (Some (PlanOf id)) entries = IsFetching by id entries
 IsBegun by command entries = entries ≡ []
 
--- the line of the command, those behind it that belong to it, what it means, and what it added
+-- the line of the command, those after it that belong to it, what it means, and what it added
 pub record LostTurn : Type 0 where
   pub head : List ℕ
   pub body : List (List ℕ)
@@ -183,7 +183,7 @@ readings_of (Some r) = reading_value r ∷ []
 abbrev pub shown : Answer → List ℕ
 shown a = readings_of a.reading ++ map (λ (e : Entry). value_of e.reply) a.entries
 
--- no reading of these turns is behind the value
+-- no reading of these turns is after the value
 abbrev pub IsBelowReadings : List Turn → ℕ → Type 0
 IsBelowReadings turns v =
     AllByRecursion (λ t. AllByRecursion (λ r. v ≤ r) (readings_of t.did.reading)) turns
@@ -193,12 +193,12 @@ abbrev pub IsAboveReadings : List Turn → ℕ → Type 0
 IsAboveReadings turns v =
     AllByRecursion (λ t. AllByRecursion (λ r. r ≤ v) (readings_of t.did.reading)) turns
 
--- no reading is behind what an earlier turn has shown
+-- no reading is after what an earlier turn has shown
 abbrev pub AreRising : List Turn → Type 0
 AreRising [] = Unit {0}
 AreRising (t ∷ turns) = AllByRecursion (IsBelowReadings turns) (shown t.did) × AreRising turns
 
--- and all are between what was seen before the turns and behind them
+-- and all are between what was seen before the turns and after them
 pub record AreReadings (before after : ℕ) (turns : List Turn) : Type 0 where
   pub low : IsBelowReadings turns before
   pub high : IsAboveReadings turns after

@@ -94,7 +94,7 @@ fn plan<R: Threads + Wait + Sync, X: Setup>(
     }
 }
 
-/// Does what a line commands that has no lines behind it, and puts the reply line. The fault is
+/// Does what a line commands that has no lines after it, and puts the reply line. The fault is
 /// that a call wasn't made, since the record is broken.
 pub(crate) fn answer<R: Threads + Wait + Sync, X: Setup>(
     rt: &R,

@@ -4,7 +4,7 @@ ghost use Rattle.std.specs.Prelude.{◌≡◌, ◌≢◌, ℕ, ◌∷◌, ◌++�
 ghost use Rattle.std.specs.Fmt.{decimal};
 ghost use Rattle.batch.specs.Text.{IsNumber, number, space};
 ghost use Rattle.line_words.specs.HexWords.{IsWord, hex8};
-ghost use Rattle.client_session.specs.Commands.{Means, line_of};
+ghost use Rattle.client_session.specs.Commands.{Means, is_quick, line_of};
 
 use crate::limits::COMMAND_ROOM;
 use batch::number_from_digits;
@@ -34,7 +34,7 @@ pub enum SessionCommand {
     Bye,
 }
 
-/// The number behind a word that the line begins with.
+/// The number after a word that the line begins with.
 fn number_behind(line: &[u8], word: &[u8]) -> Option<usize>
     ensures some { IfSome result (λ n. IsNumber n × (line.now ≡ word.now ++ decimal n)) }
     ensures none { IfNone result ((n : ℕ) → IsNumber n → line.now ≢ word.now ++ decimal n) }
@@ -95,7 +95,20 @@ fn put_poke(line: &mut Line, module: usize, address: u32, word: u32)
 }
 
 impl SessionCommand {
-    /// Puts its line, without a line feed, behind what stands there. Takes no memory.
+    /// Whether it waits for nobody long, so that replies to earlier commands may be held until this
+    /// one is answered: nothing is planned, and no run is made.
+    pub(crate) fn is_quick(self) -> bool
+        ensures { result ≡ is_quick self }
+    {
+        match self {
+            SessionCommand::Plan(_) | SessionCommand::Run(_) => false,
+            SessionCommand::Batch(_) | SessionCommand::Show(_) | SessionCommand::Drop(_) => true,
+            SessionCommand::Peek(..) | SessionCommand::Poke(..) => true,
+            SessionCommand::Progress | SessionCommand::Bye => true,
+        }
+    }
+
+    /// Puts its line, without a line feed, after what stands there. Takes no memory.
     pub fn put(self, line: &mut Line)
         requires { length line.old + COMMAND_ROOM ≤ LINE_ROOM }
         ensures text { line.new ≡ line.old ++ line_of self }

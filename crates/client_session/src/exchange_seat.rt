@@ -61,7 +61,7 @@ impl<'a, X: Setup> ExchangeSeat<'a, X> {
     pub fn waits(&self) -> bool
         ensures { result ≡ true → self.now.loses ≡ true }
     {
-        X::Entries::groups() && self.seat.waits()
+        self.shared.waits(&self.seat)
     }
 
     /// Reads the progress word.

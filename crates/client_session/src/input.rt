@@ -5,9 +5,10 @@ ghost use Rattle.std.specs.Io.KnownBytes.{IsAtEnd};
 ghost use Rattle.client_session.specs.Bytes.{PendingInput, TakesIn, HasLine, HasNoFeed, fuel};
 ghost use Rattle.client_session.specs.Asking.{GivesEachTime, StopsAsking};
 ghost use Rattle.client_session.specs.Faults.{HasBroughtNothing, IsFaultAt};
-ghost use Rattle.client_session.specs.Steps.{of_input};
+ghost use Rattle.client_session.specs.Steps.{IsFront, of_input};
 
-use crate::asked_reader::AskedReader;
+use crate::counted_read::CountedRead;
+use crate::front::Front;
 use crate::limits::{INPUT_BYTES, LINE_BYTES, MAX_READS};
 use std::marker::Model;
 
@@ -81,11 +82,11 @@ impl Input {
         ensures none { IfNone result (HasNoFeed (take (LINE_BYTES + 1) self.now.pending)) }
         ensures room { (length self.now.pending ≤ INPUT_BYTES) × (self.now.reads ≤ MAX_READS) }
     {
-        let pending = &self.buffer[self.start..self.end];
+        let pending = self.pending();
         first_feed(&pending[..(LINE_BYTES + 1).min(pending.len())])
     }
 
-    /// Whether so many lines are there behind the line in front. Takes time by their length.
+    /// Whether so many lines are there after the line in front. Takes time by their length.
     pub(crate) fn has_lines(&self, count: usize) -> bool {
         let mut feeds = self.pending().iter().filter(|b| **b == b'\n');
         feeds.nth(count).is_some()
@@ -101,7 +102,7 @@ impl Input {
     }
 
     /// Asks the reader once. What is pending is moved to the front first.
-    fn fill<R: AskedReader>(&mut self, reader: &mut R) -> Result<usize, InputFault>
+    fn fill<R: CountedRead>(&mut self, reader: &mut R) -> Result<usize, InputFault>
         requires { length self.old.pending ≤ LINE_BYTES }
         ensures takes { TakesIn (R.remaining reader.old) (R.remaining reader.new) self.old
             self.new }
@@ -149,15 +150,17 @@ impl Input {
     }
 
     /// The length of the line in front, without its line feed, or nothing at the end of the input.
-    /// Where it was found before, it isn't looked for again. Else it takes time by the length of
-    /// the line times the reads that it came in.
-    pub(crate) fn next_line<R: AskedReader>(
+    /// Where it was found before, it isn't looked for again, and nothing changes. Else it takes
+    /// time by the length of the line times the reads that it came in.
+    #[inline(always)]
+    pub(crate) fn next_line<R: CountedRead>(
         &mut self,
         reader: &mut R,
-        found: Option<usize>,
+        found: Option<Front>,
     ) -> Result<Option<usize>, InputFault>
         requires reads { self.old.reads ≤ MAX_READS }
-        requires found { IfSome found (λ n. HasLine self.old.pending n × (n ≤ LINE_BYTES)) }
+        requires found { IfSome found (IsFront self.old.pending) }
+        ensures found { IfSome found (λ _. self.new ≡ self.old) }
         ensures takes { TakesIn (R.remaining reader.old) (R.remaining reader.new) self.old
             self.new }
         ensures line { IfOk result (λ found. MatchOption found
@@ -176,8 +179,8 @@ impl Input {
     {
         // Its contract has the bounds of what is pending.
         self.pending();
-        if found.is_some() {
-            return Ok(found);
+        if let Some(front) = found {
+            return Ok(Some(front.length));
         }
         loop {
             if let Some(n) = self.line_length() {

@@ -5,7 +5,7 @@
 //! in what the seat asked, the progress that the seat has seen, and the bytes that were written
 //! (`HasEnded` of `specs/Sessions.antt`). A line means one command at most (`laws::one_meaning`).
 //! Each command did what the table of commands says (`DoesCommand` of `specs/Turns.antt`), and what
-//! was written are their reply lines, in order. No reading of the progress is behind an earlier one
+//! was written are their reply lines, in order. No reading of the progress is after an earlier one
 //! (`AreReadings`). Where entries may wait to be recorded, replies are held until theirs are, and
 //! told together. Where a fault ends the session, the commands before it were served. Where the
 //! writer fails or the record is broken, at most [`HELD_BYTES`] bytes of their replies aren't told
@@ -17,23 +17,24 @@
 #![tactic(auto)]
 
 mod answering;
-mod asked_reader;
 mod command;
+mod counted_read;
 mod exchange_seat;
 mod fault;
-mod held_lines;
+mod front;
 mod input;
 pub mod laws;
 mod limits;
 mod listener;
+mod reply_buffer;
 pub mod reply_line;
 mod serving;
 mod setup;
 mod sources;
 mod turns;
 
-pub use asked_reader::{AskedReader, CountedReader};
 pub use command::SessionCommand;
+pub use counted_read::{CountedRead, CountedReader};
 pub use fault::ServeFault;
 pub use limits::{COMMAND_ROOM, HELD_BYTES, INPUT_BYTES, LINE_BYTES, MAX_READS};
 pub use listener::{Listener, NoListener};

@@ -46,7 +46,7 @@ fn put_cause(line: &mut Line, cause: StopCause)
     }
 }
 
-/// Puts transfers behind the line, each with the words that it has moved.
+/// Puts transfers after the line, each with the words that it has moved.
 fn put_moved(line: &mut Line, moved: &[(u16, u16)])
     requires room { length line.old + 1400 ≤ LINE_ROOM }
     requires few { length moved.now ≤ MAX_MODULES }

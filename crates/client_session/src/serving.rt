@@ -10,16 +10,18 @@ ghost use Rattle.client_session.specs.Bytes.{HasLine};
 ghost use Rattle.client_session.specs.Listening.{TellsOfRefusals};
 ghost use Rattle.client_session.specs.Seats.{seat_view};
 ghost use Rattle.client_session.specs.Sessions.{HasEnded, HoldsAtEnd, GoesThrough, IsAllRecorded, IsServed, cuts_off, fault_in, seat_back, fault_back};
-ghost use Rattle.client_session.specs.Steps.{AreTold, AreUntold, MayTell};
+ghost use Rattle.client_session.specs.Commands.{is_quick};
+ghost use Rattle.client_session.specs.Steps.{IsFront, AreTold, AreUntold, MayTell};
 ghost use Rattle.client_session.specs.declared.limits.TheConstants.{HELD_BYTES, LINE_BYTES};
 
-use crate::asked_reader::AskedReader;
 use crate::command::SessionCommand;
+use crate::counted_read::CountedRead;
 use crate::exchange_seat::ExchangeSeat;
 use crate::fault::ServeFault;
-use crate::held_lines::HeldLines;
+use crate::front::Front;
 use crate::input::Input;
 use crate::listener::Listener;
+use crate::reply_buffer::ReplyBuffer;
 use crate::reply_line::ReplyLine;
 use crate::setup::{Parts, Setup};
 use crate::turns::turn;
@@ -69,7 +71,7 @@ fn tell<R: Wait + Clock, X: Setup, O: Write, H: Listener>(
     seat: &mut ExchangeSeat<'_, X>,
     writer: &mut O,
     listener: &mut H,
-    held: &mut HeldLines,
+    held: &mut ReplyBuffer,
 ) -> Result<(), ServeFault>
     ensures ok { OnOk result (AreTold seat.old seat.new (O.contents writer.old)
         (O.contents writer.new) held.old) }
@@ -86,54 +88,68 @@ fn tell<R: Wait + Clock, X: Setup, O: Write, H: Listener>(
     Ok(())
 }
 
-/// Whether the command whose line of this length is in front is done at once: its lines are there,
-/// and it plans and runs nothing.
-fn is_quick(input: &Input, n: usize) -> bool
-    requires { n ≤ length input.now.pending }
+/// Whether what the line in front commands is answered at once: it is quick, and the lines of a
+/// batch are there.
+fn is_at_once(input: &Input, command: Option<SessionCommand>) -> bool
+    ensures { result ≡ true → IfSome command (λ c. is_quick c ≡ true) }
 {
-    let line = &input.pending()[..n];
-    match line {
-        [b'r', ..] | [b'p', b'l', ..] => return false,
-        [b'b', b'a', ..] => {}
-        _ => return true,
-    }
-    match SessionCommand::read(line) {
+    match command {
         Some(SessionCommand::Batch(count)) => input.has_lines(count),
-        _ => true,
+        Some(command) => command.is_quick(),
+        None => true,
     }
 }
 
-/// The length of the line in front, where its command is done at once.
-fn quick_line(input: &Input) -> Option<usize>
-    ensures { IfSome result (λ n. HasLine input.now.pending n × (n ≤ LINE_BYTES)) }
+/// The line in front, where what it commands is answered at once.
+fn quick_front(input: &Input) -> Option<Front>
+    ensures front { IfSome result (IsFront input.now.pending) }
+    ensures quick { IfSome result (λ front. IfSome front.command (λ c. is_quick c ≡ true)) }
 {
-    let n = input.line_length()?;
-    if is_quick(input, n) { Some(n) } else { None }
+    let length = input.line_length()?;
+    let command = SessionCommand::read(&input.pending()[..length]);
+    if !is_at_once(input, command) {
+        return None;
+    }
+    Some(Front { length, command })
 }
 
-/// Tells what is held, where no more is to be held before the next command. Else it gives the
-/// length of that one's line.
+/// The line in front, which has this length. What it commands is read where it wasn't found before.
+fn front_of(input: &Input, length: usize, found: Option<Front>) -> Front
+    requires line { HasLine input.now.pending length × (length ≤ LINE_BYTES) }
+    requires found { IfSome found (IsFront input.now.pending) }
+    ensures { IsFront input.now.pending result }
+{
+    if let Some(front) = found {
+        return front;
+    }
+    Front {
+        length,
+        command: SessionCommand::read(&input.pending()[..length]),
+    }
+}
+
+/// Tells what is held, where no more is to be held before the next command. Else it gives that
+/// one's line.
 fn tell_first<R: Wait + Clock, X: Setup, O: Write, H: Listener>(
     rt: &R,
     seat: &mut ExchangeSeat<'_, X>,
     input: &Input,
     writer: &mut O,
     listener: &mut H,
-    held: &mut HeldLines,
-) -> Result<Option<usize>, ServeFault>
+    held: &mut ReplyBuffer,
+) -> Result<Option<Front>, ServeFault>
     ensures ok { OnOk result (MayTell seat.old seat.new (O.contents writer.old)
         (O.contents writer.new) held.old held.new) }
     ensures room { OnOk result (length held.new + LINE_ROOM ≤ HELD_BYTES) }
-    ensures found { IfOk result (λ found.
-        IfSome found (λ n. HasLine input.now.pending n × (n ≤ LINE_BYTES))) }
+    ensures found { IfOk result (λ found. IfSome found (IsFront input.now.pending)) }
     ensures err { IfErr result (λ e. AreUntold e seat.old seat.new (O.contents writer.old)
         (O.contents writer.new) held.old) }
     ensures loses { IfErr result (λ e. e ≡ ServeFault.Record → X.Entries.loses ≡ true) }
     ensures beside { TellsOfRefusals H.may_tell (H.told listener.old) (H.told listener.new) }
 {
     if held.has_room() && seat.waits() && !held.refuses() {
-        if let Some(n) = quick_line(input) {
-            return Ok(Some(n));
+        if let Some(front) = quick_front(input) {
+            return Ok(Some(front));
         }
     }
     tell(rt, seat, writer, listener, held)?;
@@ -141,7 +157,7 @@ fn tell_first<R: Wait + Clock, X: Setup, O: Write, H: Listener>(
 }
 
 /// Serves the session of a seat at its exchange, but for its last reply lines, which are held.
-fn serve_lines<R: Clock + Threads + Wait + Sync, X: Setup, I: AskedReader, O: Write, H: Listener>(
+fn serve_lines<R: Clock + Threads + Wait + Sync, X: Setup, I: CountedRead, O: Write, H: Listener>(
     rt: &R,
     alloc: Global,
     seat: &mut ExchangeSeat<'_, X>,
@@ -149,7 +165,7 @@ fn serve_lines<R: Clock + Threads + Wait + Sync, X: Setup, I: AskedReader, O: Wr
     writer: &mut O,
     listener: &mut H,
     workers: WorkerCount,
-    held: &mut HeldLines,
+    held: &mut ReplyBuffer,
 ) -> Result<(), ServeFault>
     requires { held.old ≡ [] }
     ensures session { IsAllRecorded seat.old → GoesThrough (I.remaining reader.old)
@@ -166,9 +182,10 @@ fn serve_lines<R: Clock + Threads + Wait + Sync, X: Setup, I: AskedReader, O: Wr
         let Some(n) = input.next_line(reader, found)? else {
             return Ok(());
         };
+        let front = front_of(&input, n, found);
         line.clear();
         let ends = turn(
-            rt, alloc, seat, &mut input, reader, listener, &mut line, n, workers,
+            rt, alloc, seat, &mut input, reader, listener, &mut line, front, workers,
         )?;
         held.put(&line);
         if ends {
@@ -188,7 +205,7 @@ fn is_cut_off(ended: &Result<(), ServeFault>) -> bool
 }
 
 /// Serves the session of a seat at its exchange.
-fn serve_seat<R: Clock + Threads + Wait + Sync, X: Setup, I: AskedReader, O: Write, H: Listener>(
+fn serve_seat<R: Clock + Threads + Wait + Sync, X: Setup, I: CountedRead, O: Write, H: Listener>(
     rt: &R,
     alloc: Global,
     seat: &mut ExchangeSeat<'_, X>,
@@ -204,7 +221,7 @@ fn serve_seat<R: Clock + Threads + Wait + Sync, X: Setup, I: AskedReader, O: Wri
     ensures loses { fault_in result ≡ Some ServeFault.Record → X.Entries.loses ≡ true }
     ensures beside { TellsOfRefusals H.may_tell (H.told listener.old) (H.told listener.new) }
 {
-    let mut held = HeldLines::new();
+    let mut held = ReplyBuffer::new();
     let ended = serve_lines(
         rt, alloc, seat, reader, writer, listener, workers, &mut held,
     );
@@ -216,13 +233,13 @@ fn serve_seat<R: Clock + Threads + Wait + Sync, X: Setup, I: AskedReader, O: Wri
 }
 
 /// Serves the session of one client from a seat: reads its commands, and writes a reply line to
-/// each. The seat comes back, whether the session ended by itself, behind a whole command or by
+/// each. The seat comes back, whether the session ended by itself, after a whole command or by
 /// `bye`, or by a fault.
 ///
 /// Each line is written before the next command is looked at. But where entries may wait to be
 /// recorded, the commands that are there are done at once, and their lines are held until all are
 /// recorded, and written together: before more is read, before a plan, a run, or a batch that isn't
-/// all there, and behind a refusal.
+/// all there, and after a refusal.
 ///
 /// A client that asks for a plan has it made by so many workers, outside the exchange's lock. A
 /// reply takes no memory, so none is lost for want of it whose call was made; want of memory is a
@@ -230,7 +247,7 @@ fn serve_seat<R: Clock + Threads + Wait + Sync, X: Setup, I: AskedReader, O: Wri
 /// reply is written that isn't recorded.
 ///
 /// The listener hears each command, and each line that is none, before it is done, and each refusal
-/// behind its reply line. What it tells stands behind what it had told, and is told of such
+/// after its reply line. What it tells stands after what it had told, and is told of such
 /// refusals alone.
 ///
 /// The reader is asked at most [`MAX_READS`](crate::MAX_READS) times. Where it has been, and would
@@ -244,7 +261,7 @@ pub fn serve<
     W: WireMaker + Sync,
     G: Gate + Sync,
     K: History,
-    I: AskedReader,
+    I: CountedRead,
     O: Write,
     H: Listener,
 >(

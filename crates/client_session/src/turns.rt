@@ -5,13 +5,14 @@ ghost use Rattle.client_session.specs.Asking.{GivesOrStops};
 ghost use Rattle.client_session.specs.Bytes.{HasLine, fuel};
 ghost use Rattle.client_session.specs.Turns.{SessionGoesOn};
 ghost use Rattle.client_session.specs.Sessions.{BeginsBatch};
-ghost use Rattle.client_session.specs.Steps.{StandsAlone, LinesTaken, LinesStopped, TurnTaken, TurnFails};
+ghost use Rattle.client_session.specs.Steps.{IsFront, StandsAlone, LinesTaken, LinesStopped, TurnTaken, TurnFails};
 
 use crate::answering::{answer, submit};
-use crate::asked_reader::AskedReader;
 use crate::command::SessionCommand;
+use crate::counted_read::CountedRead;
 use crate::exchange_seat::ExchangeSeat;
 use crate::fault::ServeFault;
+use crate::front::Front;
 use crate::input::Input;
 use crate::limits::{INPUT_BYTES, LINE_BYTES, MAX_READS};
 use crate::listener::Listener;
@@ -23,8 +24,8 @@ use std::alloc::Global;
 use std::sync::Wait;
 use std::thread::Threads;
 
-/// Takes so many lines, and puts them behind the text.
-fn take_lines<I: AskedReader>(
+/// Takes so many lines, and puts them after the text.
+fn take_lines<I: CountedRead>(
     input: &mut Input,
     reader: &mut I,
     text: &mut Vec<u8>,
@@ -50,7 +51,7 @@ fn take_lines<I: AskedReader>(
 }
 
 /// Takes the line in front and those of its batch, submits it, and puts the reply line.
-fn batch<R: Threads + Wait + Sync, X: Setup, I: AskedReader, H: Listener>(
+fn batch<R: Threads + Wait + Sync, X: Setup, I: CountedRead, H: Listener>(
     rt: &R,
     alloc: Global,
     seat: &mut ExchangeSeat<'_, X>,
@@ -108,7 +109,7 @@ fn ends(command: Option<SessionCommand>) -> bool
 
 /// Takes the command in front with its lines, does it, and puts its reply line into an empty one.
 /// Gives whether the session ends with it.
-pub(crate) fn turn<R: Threads + Wait + Sync, X: Setup, I: AskedReader, H: Listener>(
+pub(crate) fn turn<R: Threads + Wait + Sync, X: Setup, I: CountedRead, H: Listener>(
     rt: &R,
     alloc: Global,
     seat: &mut ExchangeSeat<'_, X>,
@@ -116,11 +117,11 @@ pub(crate) fn turn<R: Threads + Wait + Sync, X: Setup, I: AskedReader, H: Listen
     reader: &mut I,
     listener: &mut H,
     line: &mut ReplyLine,
-    n: usize,
+    front: Front,
     workers: WorkerCount,
 ) -> Result<bool, ServeFault>
     requires empty { line.old ≡ [] }
-    requires found { HasLine input.old.pending n × (n ≤ LINE_BYTES) }
+    requires found { IsFront input.old.pending front }
     requires room { length input.old.pending ≤ INPUT_BYTES }
     requires reads { input.old.reads ≤ MAX_READS }
     ensures ok { IfOk result (λ ends. TurnTaken (I.remaining reader.old) (I.remaining reader.new)
@@ -133,7 +134,7 @@ pub(crate) fn turn<R: Threads + Wait + Sync, X: Setup, I: AskedReader, H: Listen
     ensures beside { H.told listener.new ≡ H.told listener.old }
     ensures fuel { OnOk result (fuel input.new < fuel input.old) }
 {
-    let command = SessionCommand::read(&input.pending()[..n]);
+    let Front { length: n, command } = front;
     match lines_behind(command) {
         Some(count) => {
             batch(rt, alloc, seat, input, reader, listener, line, n, count)?;

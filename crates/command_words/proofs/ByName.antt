@@ -13,7 +13,7 @@ use Rattle.clap.specs.declared.parser.matches.ArgMatches.{ArgMatches}
 use Rattle.clap.proofs.WalkLemmas.{both, walk_stopped}
 use Rattle.clap.proofs.FaultLemmas.{stopped_fault}
 use Rattle.command_words.specs.declared.commands.CommandName.{CommandName}
-use Rattle.command_words.specs.declared.commands.CommandName.TheVariants.{Plan, Check, Draw, Switch, Orders, Drive, C004, Direct, Apply, Run, Serve, Host, Talk, Replay}
+use Rattle.command_words.specs.declared.commands.CommandName.TheVariants.{Plan}
 use Rattle.command_words.specs.Jobs.{IsTaken, faults_of, texts_of}
 use Rattle.command_words.specs.Program.{command_word, program, top, with_command}
 
@@ -39,15 +39,15 @@ faultless s names word words met other =
 abbrev below : App → Text → Option Shape
 below a word = find (λ s. answers_to word (label_of s)) a.subs
 
--- what is at fault behind such a word, by the command and by its subcommand
-abbrev faults_behind : Shape → Option Shape → List Text → Kinds
-faults_behind s sub words =
+-- what is at fault after such a word, by the command and by its subcommand
+abbrev faults_after : Shape → Option Shape → List Text → Kinds
+faults_after s sub words =
     or_else (option_map_or (λ s. level_fault s [] nothing_held words false []) sub [])
     (or_else (defaults_fault [] s.rules) (check_fault s (finished s.rules nothing_held) (is_some (option_map (λ s. rows_at s words) sub))))
 
 -- what a command finds, where the first word names its subcommand
 reached : (a : App) (word : Text) (words given : List Text) → given ≡ word ∷ words → subcommand_met (names_of a) idle word ≡ Some word → bytes_eq word (codes "help") ≡ false
-    → (built_fault a nothing_held given ≡ faults_behind a.top (below a word) words)
+    → (built_fault a nothing_held given ≡ faults_after a.top (below a word) words)
     × (entered a (stop_after a.top.rules (names_of a) given) ≡ option_map (λ s. rows_at s words) (below a word))
 reached a word words given is met other =
     let end = entering a.top.rules (names_of a) word words met in
@@ -70,21 +70,9 @@ Agree name =
 
 agree : (name : CommandName) → Agree name
 agree Plan = (refl, refl, refl, refl, refl)
-agree Check = (refl, refl, refl, refl, refl)
-agree Draw = (refl, refl, refl, refl, refl)
-agree Switch = (refl, refl, refl, refl, refl)
-agree Orders = (refl, refl, refl, refl, refl)
-agree Drive = (refl, refl, refl, refl, refl)
-agree C004 = (refl, refl, refl, refl, refl)
-agree Direct = (refl, refl, refl, refl, refl)
-agree Apply = (refl, refl, refl, refl, refl)
-agree Run = (refl, refl, refl, refl, refl)
-agree Serve = (refl, refl, refl, refl, refl)
-agree Host = (refl, refl, refl, refl, refl)
-agree Talk = (refl, refl, refl, refl, refl)
-agree Replay = (refl, refl, refl, refl, refl)
+agree name = (refl, refl, refl, refl, refl)
 
--- so both find the same, where that word stands behind the program's name
+-- so both find the same, where that word stands after the program's name
 alike : (name : CommandName) (arguments : List Text) → drop 1 arguments ≡ command_word name ∷ drop 2 arguments
     → (fault_of (alone name) arguments ≡ fault_of program arguments) × (subcommand_of (alone name) arguments ≡ subcommand_of program arguments)
 alike name arguments is =
@@ -92,7 +80,7 @@ alike name arguments is =
     let (free, other, met, met_too, same) = agree name in
     let one = reached (built (alone name)) (command_word name) words (drop 1 arguments) is met other in
     let all = reached (built program) (command_word name) words (drop 1 arguments) is met_too other in
-    (one.0 ∙ ap (λ (sub : Option Shape). faults_behind (built program).top sub words) same ∙ sym all.0, one.1 ∙ ap (option_map (λ s. rows_at s words)) same ∙ sym all.1)
+    (one.0 ∙ ap (λ (sub : Option Shape). faults_after (built program).top sub words) same ∙ sym all.0, one.1 ∙ ap (option_map (λ s. rows_at s words)) same ∙ sym all.1)
 
 -- and what the one matches, the whole program does
 pub by_name : (a : App) (name : CommandName) (arguments : List Text) (r : Result ArgMatches Error) → a ≡ alone name → drop 1 arguments ≡ command_word name ∷ drop 2 arguments
@@ -105,9 +93,9 @@ by_name a name arguments (Ok found) is behind has fails =
     let same = alike name arguments behind in
     ((has (both _ _ free).0).1 ∙ ap (λ (x : App). subcommand_of x arguments) is ∙ same.1, sym (ap (λ (x : App). fault_of x arguments) is ∙ same.0) ∙ fails free)
 
--- the word of a command behind the program's name
-pub word_behind : {Z : Type 0} (arguments : List (String Z)) (word : String Z) (name : CommandName) → 1 < length arguments → ((d : String Z) → word ≡ get_or arguments 1 d) → command_word name ≡ string_bytes word
+-- the word of a command after the program's name
+pub word_after : {Z : Type 0} (arguments : List (String Z)) (word : String Z) (name : CommandName) → 1 < length arguments → ((d : String Z) → word ≡ get_or arguments 1 d) → command_word name ≡ string_bytes word
     → drop 1 (texts_of arguments) ≡ command_word name ∷ drop 2 (texts_of arguments)
-word_behind [] word name long at calls = absurd (omega arith)
-word_behind (x ∷ []) word name long at calls = absurd (omega arith)
-word_behind (x ∷ y ∷ rest) word name long at calls = ap (λ (t : Text). t ∷ texts_of rest) (ap (λ s. string_bytes s) (sym (at x)) ∙ sym calls)
+word_after [] word name long at calls = absurd (omega arith)
+word_after (x ∷ []) word name long at calls = absurd (omega arith)
+word_after (x ∷ y ∷ rest) word name long at calls = ap (λ (t : Text). t ∷ texts_of rest) (ap (λ s. string_bytes s) (sym (at x)) ∙ sym calls)

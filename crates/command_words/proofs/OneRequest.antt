@@ -17,25 +17,20 @@ use Rattle.plan_answers.specs.declared.source.Source.TheVariants as source
 use Rattle.command_words.specs.declared.jobs.ArgumentsFault.TheVariants.{Clap}
 use Rattle.command_words.specs.declared.jobs.Job.{Job}
 use Rattle.command_words.specs.declared.jobs.Job.TheVariants.{Texts, Ports, Sessions}
-use Rattle.command_words.specs.declared.jobs.TextJob.{TextJob}
 use Rattle.command_words.specs.declared.jobs.TextJob.TheVariants.{Plan, Check, Draw, Prices, Switch, Orders, Direct, Apply, Run, Replay}
-use Rattle.command_words.specs.declared.jobs.PortJob.{PortJob}
 use Rattle.command_words.specs.declared.jobs.PortJob.TheVariants.{Drive, C004}
-use Rattle.command_words.specs.declared.jobs.SessionJob.{SessionJob}
 use Rattle.command_words.specs.declared.jobs.SessionJob.TheVariants.{Serve, Host, Talk}
-use Rattle.command_words.specs.declared.commands.CommandName.{CommandName}
-use Rattle.command_words.specs.declared.commands.CommandName.TheVariants as name
 use Rattle.command_words.specs.declared.jobs.RecordFile.{RecordFile}
 use Rattle.command_words.specs.declared.jobs.Request.{Request}
 use Rattle.command_words.specs.declared.jobs.SharedRack.{SharedRack}
-use Rattle.command_words.specs.Jobs.{AskFor, HasJob, HasNumeral, HasPlanning, HasRack, HasRecord, HasServed, HasSource, HasTwo, HasWorkers, IsFaultIn, IsRequest, faults_of, name_of}
+use Rattle.command_words.specs.Jobs.{AskFor, HasJob, HasNumeral, HasPlanning, HasRack, HasRecord, HasSource, HasTwo, HasWorkers, IsFaultIn, IsRequest, faults_of, name_of}
 use Rattle.command_words.specs.Program.{program}
 use Rattle.command_words.proofs.CommandNames.{same_word}
 
 -- ---- options
 
-text : (o : Option Text) (a b : Text) → o ≡ Some a → o ≡ Some b → a ≡ b
-text o a b x y = let e : Some a ≡ Some b = sym x ∙ y in cc
+text : {A : Type 0} (o : Option A) (a b : A) → o ≡ Some a → o ≡ Some b → a ≡ b
+text o a b x y = same_Some a b (sym x ∙ y)
 
 -- a value isn't there where no value is
 no_value : (o : Option Row) → option_and_then (λ r. slice_get r.values 0) o ≡ None → option_and_then row_text o ≡ None
@@ -101,70 +96,38 @@ same_rack s t i j o p r q shapes images records outs = rw (shapes, images, recor
 racked : (rows : List Row) (a b : SharedRack) → HasRack rows a → HasRack rows b → a ≡ b
 racked rows a b x y = same_rack a.shape b.shape a.image b.image a.image_out b.image_out a.record_out b.record_out (text _ a.shape b.shape x.shape y.shape) (sym x.image ∙ y.image) (recorded rows a.record_out b.record_out x.recorded y.recorded) (sym x.out ∙ y.out)
 
-served : (id : Text) (rows : List Row) (a b : List Text) → HasServed id rows a → HasServed id rows b → a ≡ b
-served id rows a b x y = let e : Some a ≡ Some b = sym x.0 ∙ y.0 in cc
-
 -- ---- jobs
 
-text_job : (rows : List Row) (a b : TextJob) → name_of (Texts a) ≡ name_of (Texts b) → HasJob rows (Texts a) → HasJob rows (Texts b) → a ≡ b
-text_job rows (Plan f p w) (Plan g q v) same x y = rw (text _ f g x.0 y.0, planned rows p q x.1 y.1, workers rows w v x.2 y.2) refl
-text_job rows (Check f s) (Check g t) same x y = rw (text _ f g x.0 y.0, text _ s t x.1 y.1) refl
-text_job rows (Draw f s r) (Draw g t q) same x y = rw (text _ f g x.0 y.0, text _ s t x.1 y.1, sym x.2 ∙ y.2) refl
-text_job rows (Draw f s r) (Prices g t) same x y = absurd (x.3 y.3)
-text_job rows (Prices f s) (Prices g t) same x y = rw (text _ f g x.0 y.0, text _ s t x.1 y.1) refl
-text_job rows (Prices f s) (Draw g t q) same x y = absurd (y.3 x.3)
-text_job rows (Switch f s i d w) (Switch g t j e v) same x y = rw (text _ f g x.0 y.0, sourced rows s t x.1 y.1, sym x.2 ∙ y.2, two rows d e x.3 y.3, workers rows w v x.4 y.4) refl
-text_job rows (Orders f s m w) (Orders g t n v) same x y = rw (text _ f g x.0 y.0, sourced rows s t x.1 y.1, numeral _ _ rows m n x.2 y.2, workers rows w v x.3 y.3) refl
-text_job rows (Direct f) (Direct g) same x y = ap Direct (text _ f g x y)
-text_job rows (Apply s f i w) (Apply t g j v) same x y = rw (text _ s t x.0 y.0, text _ f g x.1 y.1, text _ i j x.2 y.2, workers rows w v x.3 y.3) refl
-text_job rows (Run s f o i w) (Run t g p j v) same x y = rw (text _ s t x.0 y.0, text _ f g x.1 y.1, sourced rows o p x.2 y.2, sym x.3 ∙ y.3, workers rows w v x.4 y.4) refl
-text_job rows (Replay s f i n) (Replay t g j m) same x y = rw (sym x.0 ∙ y.0, text _ f g x.1 y.1, sym x.2 ∙ y.2, numeral _ _ rows n m x.3 y.3) refl
-text_job rows a b same x y = absurd (let bad = same in cc)
-
-port_job : (rows : List Row) (a b : PortJob) → name_of (Ports a) ≡ name_of (Ports b) → HasJob rows (Ports a) → HasJob rows (Ports b) → a ≡ b
-port_job rows (Drive f p o s i k l w) (Drive g q r t j m n v) same x y =
+one_job : (rows : List Row) (a b : Job) → name_of a ≡ name_of b → HasJob rows a → HasJob rows b → a ≡ b
+one_job rows (Texts (Plan f p w)) (Texts (Plan g q v)) same x y = rw (text _ f g x.0 y.0, planned rows p q x.1 y.1, workers rows w v x.2 y.2) refl
+one_job rows (Texts (Check f s)) (Texts (Check g t)) same x y = rw (text _ f g x.0 y.0, text _ s t x.1 y.1) refl
+one_job rows (Texts (Draw f s r)) (Texts (Draw g t q)) same x y = rw (text _ f g x.0 y.0, text _ s t x.1 y.1, sym x.2 ∙ y.2) refl
+one_job rows (Texts (Draw f s r)) (Texts (Prices g t)) same x y = absurd (x.3 y.3)
+one_job rows (Texts (Prices f s)) (Texts (Prices g t)) same x y = rw (text _ f g x.0 y.0, text _ s t x.1 y.1) refl
+one_job rows (Texts (Prices f s)) (Texts (Draw g t q)) same x y = absurd (y.3 x.3)
+one_job rows (Texts (Switch f s i d w)) (Texts (Switch g t j e v)) same x y = rw (text _ f g x.0 y.0, sourced rows s t x.1 y.1, sym x.2 ∙ y.2, two rows d e x.3 y.3, workers rows w v x.4 y.4) refl
+one_job rows (Texts (Orders f s m w)) (Texts (Orders g t n v)) same x y = rw (text _ f g x.0 y.0, sourced rows s t x.1 y.1, numeral _ _ rows m n x.2 y.2, workers rows w v x.3 y.3) refl
+one_job rows (Texts (Direct f)) (Texts (Direct g)) same x y = rw (text _ f g x y) refl
+one_job rows (Texts (Apply s f i w)) (Texts (Apply t g j v)) same x y = rw (text _ s t x.0 y.0, text _ f g x.1 y.1, text _ i j x.2 y.2, workers rows w v x.3 y.3) refl
+one_job rows (Texts (Run s f o i w)) (Texts (Run t g p j v)) same x y = rw (text _ s t x.0 y.0, text _ f g x.1 y.1, sourced rows o p x.2 y.2, sym x.3 ∙ y.3, workers rows w v x.4 y.4) refl
+one_job rows (Texts (Replay s f i n)) (Texts (Replay t g j m)) same x y = rw (sym x.0 ∙ y.0, text _ f g x.1 y.1, sym x.2 ∙ y.2, numeral _ _ rows n m x.3 y.3) refl
+one_job rows (Ports (Drive f p o s i k l w)) (Ports (Drive g q r t j m n v)) same x y =
     rw (text _ f g x.0 y.0, text _ p q x.1 y.1, sym x.2 ∙ y.2, sourced rows s t x.3 y.3, sym x.4 ∙ y.4, same_Some k m (numeral _ _ rows (Some k) (Some m) x.5 y.5), flag _ l n x.6 y.6, workers rows w v x.7 y.7) refl
-port_job rows C004 C004 same x y = refl
-port_job rows a b same x y = absurd (let bad = same in cc)
-
-session_job : (rows : List Row) (r q : SharedRack) (a b : SessionJob) → name_of (Sessions r a) ≡ name_of (Sessions q b) → HasJob rows (Sessions r a) → HasJob rows (Sessions q b) → Sessions r a ≡ Sessions q b
-session_job rows r q (Serve s w) (Serve t v) same x y = rw (racked rows r q x.0 y.0, served _ rows s t x.1 y.1, workers rows w v x.2 y.2) refl
-session_job rows r q (Host s w) (Host t v) same x y = rw (racked rows r q x.0 y.0, served _ rows s t x.1 y.1, workers rows w v x.2 y.2) refl
-session_job rows r q Talk Talk same x y = ap (λ (rack : SharedRack). Sessions rack Talk) (racked rows r q x y)
-session_job rows r q a b same x y = absurd (let bad = same in cc)
-
--- the kind of a command, and of a job
-abbrev kind : CommandName → ℕ
-kind name.Drive = 1
-kind name.C004 = 1
-kind name.Serve = 2
-kind name.Host = 2
-kind name.Talk = 2
-kind other = 0
-
-abbrev job_kind : Job → ℕ
-job_kind (Texts job) = 0
-job_kind (Ports job) = 1
-job_kind (Sessions rack job) = 2
-
-kind_is : (a : Job) → kind (name_of a) ≡ job_kind a
-kind_is (Texts (Plan f p w)) = refl
-kind_is (Ports C004) = refl
-kind_is (Sessions rack Talk) = refl
-kind_is a = refl
-
-job_of_rows : (rows : List Row) (a b : Job) → name_of a ≡ name_of b → HasJob rows a → HasJob rows b → a ≡ b
-job_of_rows rows (Texts a) (Texts b) same x y = ap Texts (text_job rows a b same x y)
-job_of_rows rows (Ports a) (Ports b) same x y = ap Ports (port_job rows a b same x y)
-job_of_rows rows (Sessions r a) (Sessions q b) same x y = session_job rows r q a b same x y
-job_of_rows rows a b same x y = absurd (let bad = sym (kind_is a) ∙ ap kind same ∙ kind_is b in cc)
+one_job rows (Ports C004) (Ports C004) same x y = refl
+one_job rows (Sessions r (Serve s w)) (Sessions q (Serve t v)) same x y = rw (racked rows r q x.0 y.0, text _ s t x.1.0 y.1.0, workers rows w v x.2 y.2) refl
+one_job rows (Sessions r (Host s w)) (Sessions q (Host t v)) same x y = rw (racked rows r q x.0 y.0, text _ s t x.1.0 y.1.0, workers rows w v x.2 y.2) refl
+one_job rows (Sessions r Talk) (Sessions q Talk) same x y = rw (racked rows r q x y) refl
+one_job rows a (Texts (Direct g)) same x y = absurd (let bad = same in cc)
+one_job rows a (Ports C004) same x y = absurd (let bad = same in cc)
+one_job rows a (Sessions q Talk) same x y = absurd (let bad = same in cc)
+one_job rows a b same x y = absurd (let bad = same in cc)
 
 same_request : (a b : Job) (q r : Bool) → a ≡ b → q ≡ r → ◌≡◌ {A = Request} (record { job = a; is_quiet = q }) (record { job = b; is_quiet = r })
 same_request a b q r jobs quiet = rw (jobs, quiet) refl
 
 pub one_found : (found : Option (Text × List Row)) (a b : Request) → MatchOption found ⊥ (λ p. IsRequest p.0 p.1 a) → MatchOption found ⊥ (λ p. IsRequest p.0 p.1 b) → a ≡ b
 one_found None a b x y = absurd x
-one_found (Some p) a b x y = same_request a.job b.job a.is_quiet b.is_quiet (job_of_rows p.1 a.job b.job (same_word _ _ (sym x.calls ∙ y.calls)) x.job y.job) (flag _ a.is_quiet b.is_quiet x.quiet y.quiet)
+one_found (Some p) a b x y = same_request a.job b.job a.is_quiet b.is_quiet (one_job p.1 a.job b.job (same_word _ _ (sym x.calls ∙ y.calls)) x.job y.job) (flag _ a.is_quiet b.is_quiet x.quiet y.quiet)
 
 -- there is one request at most
 pub one_request : (words : List Text) (a b : Request) → AskFor words a → AskFor words b → a ≡ b

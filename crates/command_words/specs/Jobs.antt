@@ -30,8 +30,8 @@ use Rattle.command_words.specs.declared.jobs.RecordFile.{RecordFile}
 use Rattle.command_words.specs.declared.jobs.SharedRack.{SharedRack}
 use Rattle.command_words.specs.declared.jobs.ArgumentsFault.{ArgumentsFault}
 use Rattle.command_words.specs.declared.jobs.ArgumentsFault.TheVariants.{Clap, NoMemory}
-use Rattle.command_words.specs.declared.faults.Lack.{Lack}
-use Rattle.command_words.specs.declared.faults.Lack.TheVariants.{Memory}
+use Rattle.command_words.specs.declared.faults.UsageError.{UsageError}
+use Rattle.command_words.specs.declared.faults.UsageError.TheVariants.{Memory}
 use Rattle.command_words.specs.declared.commands.CommandName.{CommandName}
 use Rattle.command_words.specs.declared.commands.CommandName.TheVariants as name
 use Rattle.command_words.specs.Program.{program, command_word}
@@ -388,6 +388,6 @@ IsFaultBy error (Clap told) = (kind_of error ≢ OutOfMemory) × (told ≡ error
 
 -- what is read of the rows: something of which this is so; or what is lacking, which is memory
 -- where there is something to read
-abbrev pub IsReading : {X : Type 0} → (X → Type 0) → Result X Lack → Type 0
+abbrev pub IsReading : {X : Type 0} → (X → Type 0) → Result X UsageError → Type 0
 IsReading is (Ok x) = is x
 IsReading {X} is (Err lack) = (x : X) → is x → lack ≡ Memory

@@ -125,6 +125,7 @@ impl CommandName {
     }
 
     /// The word that calls it, what it takes, in this order, and its help.
+    #[rattlefmt::skip]
     pub(crate) fn sheet(self) -> (&'static str, &'static [Argument], &'static CommandHelp)
         ensures word { result.0.now ≡ command_word self }
         ensures arguments { result.1.now ≡ arguments_of self }
@@ -138,53 +139,25 @@ impl CommandName {
             Self::Plan => ("plan", &[File, Steady, Workers, Quiet], &PLAN),
             Self::Check => ("check", &[Batch, Schedule, Quiet], &CHECK),
             Self::Draw => ("draw", &[Batch, Schedule, Settings, Prices, Quiet], &DRAW),
-            Self::Switch => (
-                "switch",
-                &[Batch, Scheduled, Steady, Workers, Wiring, Switches, Quiet],
-                &SWITCH,
-            ),
-            Self::Orders => (
-                "orders",
-                &[Batch, Scheduled, Steady, Workers, Module, Quiet],
-                &ORDERS,
-            ),
-            Self::Drive => (
-                "drive",
-                &[
-                    Batch, Port, PortB, Scheduled, Steady, Workers, Wiring, First, GoOn, Quiet,
-                ],
-                &DRIVE,
-            ),
+            Self::Switch => ("switch",
+                &[Batch, Scheduled, Steady, Workers, Wiring, Switches, Quiet], &SWITCH),
+            Self::Orders => ("orders",
+                &[Batch, Scheduled, Steady, Workers, Module, Quiet], &ORDERS),
+            Self::Drive => ("drive",
+                &[Batch, Port, PortB, Scheduled, Steady, Workers, Wiring, First, GoOn, Quiet],
+                &DRIVE),
             Self::C004 => ("c004", &[Quiet], &C004),
             Self::Direct => ("direct", &[Moves, Quiet], &DIRECT),
             Self::Apply => ("apply", &[Shape, Batch, Image, Workers, Quiet], &APPLY),
-            Self::Run => (
-                "run",
-                &[Shape, Batch, ImageIn, Scheduled, Steady, Workers, Quiet],
-                &RUN,
-            ),
-            Self::Serve => (
-                "serve",
-                &[Shape, Scripts, ImageIn, RecordOut, ImageOut, Workers, Quiet],
-                &SERVE,
-            ),
-            Self::Host => (
-                "host",
-                &[
-                    Shape, Clients, ImageIn, RecordOut, Resume, Sync, ImageOut, Workers, Quiet,
-                ],
-                &HOST,
-            ),
-            Self::Talk => (
-                "talk",
-                &[Shape, ImageIn, RecordOut, Resume, Sync, ImageOut, Quiet],
-                &TALK,
-            ),
-            Self::Replay => (
-                "replay",
-                &[Record, Shaped, ImageIn, Entries, Quiet],
-                &REPLAY,
-            ),
+            Self::Run => ("run", &[Shape, Batch, ImageIn, Scheduled, Steady, Workers, Quiet], &RUN),
+            Self::Serve => ("serve",
+                &[Shape, Scripts, ImageIn, RecordOut, ImageOut, Workers, Quiet], &SERVE),
+            Self::Host => ("host",
+                &[Shape, Clients, ImageIn, RecordOut, Resume, Sync, ImageOut, Workers, Quiet],
+                &HOST),
+            Self::Talk => ("talk",
+                &[Shape, ImageIn, RecordOut, Resume, Sync, ImageOut, Quiet], &TALK),
+            Self::Replay => ("replay", &[Record, Shaped, ImageIn, Entries, Quiet], &REPLAY),
         }
     }
 }

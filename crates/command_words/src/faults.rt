@@ -1,7 +1,7 @@
 //! The mistakes in arguments that clap lets through.
 
 ghost use Rattle.std.specs.Prelude.{◌≡◌, IfOk};
-ghost use Rattle.command_words.specs.declared.faults.Lack.TheVariants.{Memory};
+ghost use Rattle.command_words.specs.declared.faults.UsageError.TheVariants.{Memory};
 ghost use Rattle.command_words.specs.declared.jobs.ArgumentsFault.TheVariants.{NoMemory};
 ghost use Rattle.clap.specs.declared.error.kind.ErrorKind.TheVariants.{ArgumentConflict};
 ghost use Rattle.clap.specs.Values.{kind_of};
@@ -16,7 +16,7 @@ use std::alloc::{AllocError, Global};
 
 /// What a job lacks whose arguments clap has let through.
 #[derive(Drop)]
-pub(crate) enum Lack {
+pub(crate) enum UsageError {
     /// An argument that has to be there. Clap has refused such arguments before.
     Word,
     /// A choice between `--steady` and `--workers`.
@@ -37,40 +37,41 @@ pub(crate) enum Lack {
     Memory,
 }
 
-impl From<AllocError> for Lack {
+impl From<AllocError> for UsageError {
     ghost from_gives = { λ _ lack. lack ≡ Memory };
 
-    fn from(_error: AllocError) -> Lack {
-        Lack::Memory
+    fn from(_error: AllocError) -> UsageError {
+        UsageError::Memory
     }
 }
 
-impl Lack {
+impl UsageError {
     /// What is told of it.
     fn message(&self) -> &str {
         match self {
-            Lack::Word => "a word is missing",
-            Lack::Planning => "`--steady` plans with one worker: leave `--workers` out",
-            Lack::Source => "`--schedule` excludes `--steady` and `--workers`",
-            Lack::Switches => "`--wiring` is for a board with one switch: leave `--switches` out",
-            Lack::Picture => "`--prices` excludes `--settings`",
-            Lack::Record => "`--resume` and `--sync` are for `--record`",
-            Lack::Clients => "a client's name is empty or has a line feed",
-            Lack::Files(why) => why.as_str(),
-            Lack::Memory => "no memory",
+            UsageError::Word => "a word is missing",
+            UsageError::Planning => "`--steady` plans with one worker: leave `--workers` out",
+            UsageError::Source => "`--schedule` excludes `--steady` and `--workers`",
+            UsageError::Switches =>
+                "`--wiring` is for a board with one switch: leave `--switches` out",
+            UsageError::Picture => "`--prices` excludes `--settings`",
+            UsageError::Record => "`--resume` and `--sync` are for `--record`",
+            UsageError::Clients => "a client's name is empty or has a line feed",
+            UsageError::Files(why) => why.as_str(),
+            UsageError::Memory => "no memory",
         }
     }
 }
 
 /// The command that the arguments name, as its usage shows it, or else the program.
 fn asked<'a>(alloc: Global, arguments: &[String]) -> Result<Command<'a>, AllocError> {
-    let Some(word) = arguments.get(1) else {
+    let Some(name) = arguments
+        .get(1)
+        .and_then(|word| CommandName::of(word.as_str()))
+    else {
         return program(alloc);
     };
-    let Some(name) = CommandName::of(word.as_str()) else {
-        return program(alloc);
-    };
-    let usage_name = format!(in alloc; "exchange {word}")?;
+    let usage_name = format!(in alloc; "exchange {}", name.sheet().0)?;
     command_of(alloc, name)?.bin_name(usage_name.as_str())
 }
 
@@ -82,11 +83,11 @@ fn error_of(alloc: Global, arguments: &[String], message: &str) -> Result<clap::
 }
 
 /// The fault of what the job lacks that these arguments ask for.
-pub(crate) fn fault_of(alloc: Global, arguments: &[String], lack: Lack) -> ArgumentsFault
+pub(crate) fn fault_of(alloc: Global, arguments: &[String], lack: UsageError) -> ArgumentsFault
     ensures memory { lack ≡ Memory → result ≡ NoMemory }
     ensures mistake { IsMistake result }
 {
-    if matches!(lack, Lack::Memory) {
+    if matches!(lack, UsageError::Memory) {
         return ArgumentsFault::NoMemory;
     }
     match error_of(alloc, arguments, lack.message()) {

@@ -75,6 +75,7 @@ fn schedule_of(source: &Source<Text>) -> Option<&Text>
 
 impl TextJob {
     /// The files that it reads.
+    #[rattlefmt::skip]
     fn files(&self) -> JobFiles<'_>
         ensures { file_names result ≡ text_files self.now }
     {
@@ -82,74 +83,32 @@ impl TextJob {
             TextJob::Plan { file, .. } => of_list(Role::Batch, None, file, None, None),
             TextJob::Direct { moves } => of_list(Role::Moves, None, moves, None, None),
             TextJob::Check { batch, schedule }
-            | TextJob::Draw {
-                batch,
-                schedule,
-                ..
-            }
-            | TextJob::Prices { batch, schedule } => {
-                of_list(Role::Batch, None, batch, Some(schedule), None)
-            }
-            TextJob::Switch {
-                batch,
-                source,
-                wiring,
-                ..
-            } => of_list(
-                Role::Batch,
-                None,
-                batch,
-                schedule_of(source),
-                wiring.as_ref(),
-            ),
-            TextJob::Orders { batch, source, .. } => {
-                of_list(Role::Batch, None, batch, schedule_of(source), None)
-            }
-            TextJob::Apply { batch, image, .. } => {
-                of_list(Role::Batch, None, batch, Some(image), None)
-            }
-            TextJob::Run {
-                batch,
-                source,
-                image,
-                ..
-            } => of_list(
-                Role::Batch,
-                image.as_ref(),
-                batch,
-                schedule_of(source),
-                None,
-            ),
-            TextJob::Replay {
-                recorded,
-                image,
-                ..
-            } => of_list(Role::Record, image.as_ref(), recorded, None, None),
+            | TextJob::Draw { batch, schedule, .. }
+            | TextJob::Prices { batch, schedule }
+            | TextJob::Apply { batch, image: schedule, .. } =>
+                of_list(Role::Batch, None, batch, Some(schedule), None),
+            TextJob::Switch { batch, source, wiring, .. } =>
+                of_list(Role::Batch, None, batch, schedule_of(source), wiring.as_ref()),
+            TextJob::Orders { batch, source, .. } =>
+                of_list(Role::Batch, None, batch, schedule_of(source), None),
+            TextJob::Run { batch, source, image, .. } =>
+                of_list(Role::Batch, image.as_ref(), batch, schedule_of(source), None),
+            TextJob::Replay { recorded, image, .. } =>
+                of_list(Role::Record, image.as_ref(), recorded, None, None),
         }
     }
 }
 
 impl Job {
     /// The files that it reads.
+    #[rattlefmt::skip]
     pub fn files(&self) -> JobFiles<'_>
         ensures { file_names result ≡ files_of self.now }
     {
         match self {
             Job::Texts(job) => job.files(),
-            Job::Ports(
-                PortJob::Drive {
-                    batch,
-                    source,
-                    wiring,
-                    ..
-                },
-            ) => of_list(
-                Role::Batch,
-                None,
-                batch,
-                schedule_of(source),
-                wiring.as_ref(),
-            ),
+            Job::Ports(PortJob::Drive { batch, source, wiring, .. }) =>
+                of_list(Role::Batch, None, batch, schedule_of(source), wiring.as_ref()),
             Job::Ports(PortJob::C004) => scripts_on(None, &[]),
             Job::Sessions { rack, job } => scripts_on(rack.image.as_ref(), job.scripts()),
         }

@@ -6,7 +6,7 @@ ghost use Rattle.clap.specs.Words.{app_of, new_app, subcommand_of, subcommand_ro
 ghost use Rattle.command_words.specs.Program.{IsArgument, IsCommand, IsLocal, command as command_app, flag, option, program, rule_for, top, with_arguments, with_command, one_argument, client_arguments};
 
 use crate::commands::{Argument, CommandName};
-use crate::help::{CommandHelp, PROGRAM, help_on};
+use crate::help::{CommandHelp, PROGRAM};
 use crate::jobs::ArgumentsFault;
 use crate::limits::{LAST_MODULE, MAX_CLIENTS, MAX_NUMBER, VERSION};
 use clap::{Arg, ArgAction, ArgMatches, Command, value_parser};
@@ -44,51 +44,69 @@ fn flag<'a>(alloc: Global, id: &'a str, help: &'a str) -> Arg<'a>
         .help(help)
 }
 
-/// An argument as clap has it.
+/// An argument as clap has it, with what help says of it.
+#[rattlefmt::skip]
 fn arg_of<'a>(alloc: Global, argument: Argument) -> Arg<'a>
     ensures { IsArgument (rule_for argument) result }
 {
-    let help: &'a str = help_on(argument);
     match argument {
-        Argument::Shape => one_argument(alloc, "SHAPE", help),
-        Argument::File => one_argument(alloc, "FILE", help),
-        Argument::Batch => one_argument(alloc, "BATCH", help),
-        Argument::Schedule => one_argument(alloc, "SCHEDULE", help),
-        Argument::Port => one_argument(alloc, "PORT", help),
-        Argument::PortB => Arg::new(alloc, "PORT_B").help(help),
-        Argument::Moves => one_argument(alloc, "MOVES", help),
-        Argument::Image => one_argument(alloc, "IMAGE", help),
-        Argument::Record => one_argument(alloc, "RECORD", help),
-        Argument::Scripts => client_arguments(alloc, "SCRIPT", help),
-        Argument::Clients => client_arguments(alloc, "CLIENT", help),
-        Argument::Shaped => option(alloc, "shape", "SHAPE", help),
-        Argument::ImageIn => option(alloc, "image", "FILE", help),
-        Argument::RecordOut => option(alloc, "record", "FILE", help),
-        Argument::Resume => flag(alloc, "resume", help),
-        Argument::Sync => flag(alloc, "sync", help),
-        Argument::ImageOut => option(alloc, "image-out", "FILE", help),
-        Argument::Settings => option(alloc, "settings", "A..B", help),
-        Argument::Prices => flag(alloc, "prices", help),
-        Argument::Scheduled => option(alloc, "schedule", "FILE", help),
-        Argument::Wiring => option(alloc, "wiring", "FILE", help),
-        Argument::Switches => option(alloc, "switches", "2", help).value_parser(value_parser!(
-            u8
-        ).range(2..=2)),
-        Argument::First => option(alloc, "from", "K", help)
-            .value_parser(value_parser!(u32).range(0..=MAX_NUMBER as i64))
-            .default_value("0"),
-        Argument::Entries => option(alloc, "first", "E", help).value_parser(value_parser!(
-            u32
-        ).range(0..=MAX_NUMBER as i64)),
-        Argument::Module => option(alloc, "module", "0..31", help).value_parser(value_parser!(
-            u8
-        ).range(0..=LAST_MODULE as i64)),
-        Argument::Steady => flag(alloc, "steady", help),
-        Argument::GoOn => flag(alloc, "go-on", help),
-        Argument::Workers => option(alloc, "workers", "1..64", help)
-            .value_parser(value_parser!(u8).range(1..=MAX_WORKERS as i64))
-            .default_value("1"),
-        Argument::Quiet => flag(alloc, "quiet", help),
+        Argument::Shape => one_argument(alloc, "SHAPE", "The shape of the rack, as 3x2x2"),
+        Argument::File => one_argument(alloc, "FILE",
+            "The file of the batch, or - for standard input"),
+        Argument::Batch => one_argument(alloc, "BATCH",
+            "The file of the batch, or - for standard input"),
+        Argument::Schedule => one_argument(alloc, "SCHEDULE",
+            "The file of the schedule, or - for standard input"),
+        Argument::Port => one_argument(alloc, "PORT",
+            "The device of the switch, or the pipes PORT.in and PORT.out"),
+        Argument::PortB => Arg::new(alloc, "PORT_B").help("That of switch b, where there are two"),
+        Argument::Moves => one_argument(alloc, "MOVES",
+            "The file of the moves, or - for standard input"),
+        Argument::Image => one_argument(alloc, "IMAGE",
+            "The file of the words before, or - for standard input"),
+        Argument::Record => one_argument(alloc, "RECORD",
+            "The file of the record, or - for standard input"),
+        Argument::Scripts => client_arguments(alloc, "SCRIPT",
+            "A file of session lines, or - for standard input"),
+        Argument::Clients => client_arguments(alloc, "CLIENT",
+            "The name of a client, whose files are CLIENT.in and CLIENT.out"),
+        Argument::Shaped => option(alloc, "shape", "SHAPE",
+            "The shape that the record has to have"),
+        Argument::ImageIn => option(alloc, "image", "FILE",
+            "The file of the words before, an image as `exchange apply --help` shows"),
+        Argument::RecordOut => option(alloc, "record", "FILE",
+            "The file for the record of all sessions' calls"),
+        Argument::Resume => flag(alloc, "resume",
+            "Go on where that file ends, if it has a record already"),
+        Argument::Sync => flag(alloc, "sync", "Send a reply only once its entry is on the disk"),
+        Argument::ImageOut => option(alloc, "image-out", "FILE",
+            "The file for the image of the words after all sessions"),
+        Argument::Settings => option(alloc, "settings", "A..B",
+            "The settings to draw, A to B, counted from 0"),
+        Argument::Prices => flag(alloc, "prices",
+            "Print prices that show how many changes are needed, and no picture"),
+        Argument::Scheduled => option(alloc, "schedule", "FILE",
+            "The file of its schedule, or - for standard input"),
+        Argument::Wiring => option(alloc, "wiring", "FILE",
+            "The file of the board's wiring, or - for standard input"),
+        Argument::Switches => option(alloc, "switches", "2",
+            "There are two switches, whatever modules BATCH names")
+            .value_parser(value_parser!(u8).range(2..=2)),
+        Argument::First => option(alloc, "from", "K",
+            "The setting of the schedule to begin with, counted from 0")
+            .value_parser(value_parser!(u32).range(0..=MAX_NUMBER as i64)).default_value("0"),
+        Argument::Entries => option(alloc, "first", "E", "How many of its entries to replay")
+            .value_parser(value_parser!(u32).range(0..=MAX_NUMBER as i64)),
+        Argument::Module => option(alloc, "module", "0..31",
+            "The module whose orders to print, from 0 to 31")
+            .value_parser(value_parser!(u8).range(0..=LAST_MODULE as i64)),
+        Argument::Steady => flag(alloc, "steady", "Plan so that the switch changes seldom"),
+        Argument::GoOn => flag(alloc, "go-on",
+            "Wait for no line of standard input after a setting"),
+        Argument::Workers => option(alloc, "workers", "1..64",
+            "How many workers there may be; one is usually quickest")
+            .value_parser(value_parser!(u8).range(1..=MAX_WORKERS as i64)).default_value("1"),
+        Argument::Quiet => flag(alloc, "quiet", "Print nothing on standard error beside a refusal"),
     }
 }
 

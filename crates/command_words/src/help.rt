@@ -2,8 +2,6 @@
 //! rows hold the words, and what lies on both sides of the limit; how many modules one switch joins
 //! is of the chip, and a row holds the words.
 
-use crate::commands::Argument;
-
 /// What help says of a command.
 pub(crate) struct CommandHelp {
     /// What the command is about, in a line.
@@ -637,38 +635,3 @@ Status: 0 the answer is there, 1 a refusal, whose one line says what is wrong,
 or a session that ended badly, 2 the arguments are wrong, 3 the answer, a
 record or an image couldn't be written.",
 };
-
-/// What help says of an argument.
-pub(crate) fn help_on(argument: Argument) -> &'static str {
-    match argument {
-        Argument::Shape => "The shape of the rack, as 3x2x2",
-        Argument::File | Argument::Batch => "The file of the batch, or - for standard input",
-        Argument::Schedule => "The file of the schedule, or - for standard input",
-        Argument::Port => "The device of the switch, or the pipes PORT.in and PORT.out",
-        Argument::PortB => "That of switch b, where there are two",
-        Argument::Moves => "The file of the moves, or - for standard input",
-        Argument::Image => "The file of the words before, or - for standard input",
-        Argument::Record => "The file of the record, or - for standard input",
-        Argument::Shaped => "The shape that the record has to have",
-        Argument::Resume => "Go on where that file ends, if it has a record already",
-        Argument::Sync => "Send a reply only once its entry is on the disk",
-        Argument::Entries => "How many of its entries to replay",
-        Argument::Scripts => "A file of session lines, or - for standard input",
-        Argument::Clients => "The name of a client, whose files are CLIENT.in and CLIENT.out",
-        Argument::ImageIn =>
-            "The file of the words before, an image as `exchange apply --help` shows",
-        Argument::RecordOut => "The file for the record of all sessions' calls",
-        Argument::ImageOut => "The file for the image of the words after all sessions",
-        Argument::Settings => "The settings to draw, A to B, counted from 0",
-        Argument::Prices => "Print prices that show how many changes are needed, and no picture",
-        Argument::Scheduled => "The file of its schedule, or - for standard input",
-        Argument::Wiring => "The file of the board's wiring, or - for standard input",
-        Argument::Switches => "There are two switches, whatever modules BATCH names",
-        Argument::First => "The setting of the schedule to begin with, counted from 0",
-        Argument::Module => "The module whose orders to print, from 0 to 31",
-        Argument::Steady => "Plan so that the switch changes seldom",
-        Argument::GoOn => "Wait for no line of standard input after a setting",
-        Argument::Workers => "How many workers there may be; one is usually quickest",
-        Argument::Quiet => "Print nothing on standard error beside a refusal",
-    }
-}

@@ -104,9 +104,9 @@ pub enum TextJob {
 /// A job of a switch.
 #[derive(Drop)]
 pub enum PortJob {
-    /// Set the switches behind a port, or behind two, or the one switch of a board whose wiring a
+    /// Set the switches at a port, or at two, or the one switch of a board whose wiring a
     /// file has, as each setting of a schedule of the batch of a file calls for, from the first one
-    /// on, and behind each wait for a line of standard input, unless it goes on. So many workers
+    /// on, and after each wait for a line of standard input, unless it goes on. So many workers
     /// plan.
     Drive {
         batch: Text,

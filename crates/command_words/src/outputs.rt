@@ -69,24 +69,20 @@ pub(crate) fn first_misnamed(files: &[FileUse]) -> Option<Misnamed<'_>>
 
 impl<'a> Display for Misnamed<'a> {
     fn fmt<W: Write>(&self, f: &mut Formatter<W>) -> fmt::Result {
-        let (one, other) = match *self {
+        match *self {
             Misnamed::Input(file) => {
-                return write!(f, "`-` is standard input, which can't be {}", file.role());
+                let role = file.role();
+                write!(f, "`-` is standard input, which can't be {role}")
             }
-            Misnamed::OneName(one, other) => (one, other),
-        };
-        let clash = RoleClash {
-            first: one.role(),
-            later: other.role(),
-        };
-        if other.name.is_input() {
-            return write!(f, "`-` is standard input, which is read once: {clash}");
+            Misnamed::OneName(one, other) => {
+                let (first, later) = (one.role(), other.role());
+                let clash = RoleClash { first, later };
+                if other.name.is_input() {
+                    return write!(f, "`-` is standard input, which is read once: {clash}");
+                }
+                write!(f, "{}: {clash}", Named::only(other.name.as_str()))
+            }
         }
-        let name = Named {
-            name: other.name.as_str(),
-            text: &[],
-        };
-        write!(f, "{name}: {clash}")
     }
 }
 

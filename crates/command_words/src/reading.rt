@@ -2,11 +2,11 @@
 
 ghost use Rattle.std.specs.Prelude.{◌≢◌, ◌↔◌, IfErr, IfOk, IsTrue, OnOk, Some, codes};
 ghost use Rattle.command_words.specs.declared.limits.TheConstants.{MAX_NUMBER};
-ghost use Rattle.command_words.specs.declared.faults.Lack.TheVariants.{Memory};
+ghost use Rattle.command_words.specs.declared.faults.UsageError.TheVariants.{Memory};
 ghost use Rattle.command_words.specs.Jobs.{AskFor, HasNumeral, HasOption, HasPlanning, HasServed, HasRack, HasRecord, HasSource, HasText, HasTwo, HasWorkers, GivesRequest, IsFaultIn, IsGiven, IsJob, IsReading, IsRequest, IsTaken, IsWithinLimits, MayBeDone, rows_in, texts_of};
 
 use crate::commands::CommandName;
-use crate::faults::{Lack, fault_of};
+use crate::faults::{UsageError, fault_of};
 use crate::grammar::matches_of;
 use crate::jobs::{
     ArgumentsFault, Job, PortJob, RecordFile, Request, SessionJob, SharedRack, TextJob,
@@ -24,10 +24,10 @@ use std::alloc::{AllocError, Global};
 use std::fmt::Display;
 
 /// The text of an argument that has to be there.
-fn text_of(alloc: Global, matches: &ArgMatches<'_>, id: &str) -> Result<Text, Lack>
+fn text_of(alloc: Global, matches: &ArgMatches<'_>, id: &str) -> Result<Text, UsageError>
     ensures { IsReading (HasText id.now (rows_in matches.now)) result }
 {
-    option_of(alloc, matches, id)?.ok_or(Lack::Word)
+    option_of(alloc, matches, id)?.ok_or(UsageError::Word)
 }
 
 /// The text of an option, where it is there.
@@ -41,19 +41,19 @@ fn option_of(alloc: Global, matches: &ArgMatches<'_>, id: &str) -> Result<Option
 }
 
 /// The texts of from 1 to [`MAX_CLIENTS`] arguments.
-fn served_of(alloc: Global, matches: &ArgMatches<'_>, id: &str) -> Result<TextList, Lack>
+fn served_of(alloc: Global, matches: &ArgMatches<'_>, id: &str) -> Result<TextList, UsageError>
     ensures { IsReading (HasServed id.now (rows_in matches.now)) result }
 {
     match matches.get_strs(id) {
         Some(texts) if texts.len() >= 1 && texts.len() <= MAX_CLIENTS => Ok(TextList::of(
             alloc, texts,
         )?),
-        _ => Err(Lack::Word),
+        _ => Err(UsageError::Word),
     }
 }
 
 /// The number of an option, up to the last, where it is there.
-fn number_of(matches: &ArgMatches<'_>, id: &str, last: usize) -> Result<Option<usize>, Lack>
+fn number_of(matches: &ArgMatches<'_>, id: &str, last: usize) -> Result<Option<usize>, UsageError>
     ensures { IsReading (HasNumeral id.now last (rows_in matches.now)) result }
 {
     if matches.get_str(id).is_none() {
@@ -61,26 +61,26 @@ fn number_of(matches: &ArgMatches<'_>, id: &str, last: usize) -> Result<Option<u
     }
     match matches.get_one::<usize>(id) {
         Some(number) if number <= last => Ok(Some(number)),
-        _ => Err(Lack::Word),
+        _ => Err(UsageError::Word),
     }
 }
 
 /// The number of `--workers`.
-fn workers_of(matches: &ArgMatches<'_>) -> Result<WorkerCount, Lack>
+fn workers_of(matches: &ArgMatches<'_>) -> Result<WorkerCount, UsageError>
     ensures { IsReading (HasWorkers (rows_in matches.now)) result }
 {
     match number_of(matches, "workers", MAX_WORKERS)? {
-        Some(number) => WorkerCount::new(number).ok_or(Lack::Word),
-        None => Err(Lack::Word),
+        Some(number) => WorkerCount::new(number).ok_or(UsageError::Word),
+        None => Err(UsageError::Word),
     }
 }
 
 /// The number of `--from`.
-fn first_of(matches: &ArgMatches<'_>) -> Result<usize, Lack>
+fn first_of(matches: &ArgMatches<'_>) -> Result<usize, UsageError>
     ensures { IsReading
         (λ n. HasNumeral (codes "from") MAX_NUMBER (rows_in matches.now) (Some n)) result }
 {
-    number_of(matches, "from", MAX_NUMBER)?.ok_or(Lack::Word)
+    number_of(matches, "from", MAX_NUMBER)?.ok_or(UsageError::Word)
 }
 
 /// Whether the arguments themselves give an option.
@@ -91,31 +91,31 @@ fn is_given(matches: &ArgMatches<'_>, id: &str) -> bool
 }
 
 /// How a batch is to be planned.
-fn planning_of(matches: &ArgMatches<'_>) -> Result<Planning, Lack>
+fn planning_of(matches: &ArgMatches<'_>) -> Result<Planning, UsageError>
     ensures { IsReading (HasPlanning (rows_in matches.now)) result }
 {
     match (is_given(matches, "steady"), is_given(matches, "workers")) {
         (false, _) => Ok(Planning::Plain),
         (true, false) => Ok(Planning::Steady),
-        (true, true) => Err(Lack::Planning),
+        (true, true) => Err(UsageError::Planning),
     }
 }
 
 /// Where a schedule is to come from.
-fn source_of(alloc: Global, matches: &ArgMatches<'_>) -> Result<Source<Text>, Lack>
+fn source_of(alloc: Global, matches: &ArgMatches<'_>) -> Result<Source<Text>, UsageError>
     ensures { IsReading (HasSource (rows_in matches.now)) result }
 {
     let Some(file) = option_of(alloc, matches, "schedule")? else {
         return Ok(Source::Plan(planning_of(matches)?));
     };
     if is_given(matches, "steady") || is_given(matches, "workers") {
-        return Err(Lack::Source);
+        return Err(UsageError::Source);
     }
     Ok(Source::Text(file))
 }
 
 /// The file for a record of sessions, where there is one.
-fn record_of(alloc: Global, matches: &ArgMatches<'_>) -> Result<Option<RecordFile>, Lack>
+fn record_of(alloc: Global, matches: &ArgMatches<'_>) -> Result<Option<RecordFile>, UsageError>
     ensures { IsReading (HasRecord (rows_in matches.now)) result }
 {
     let resumes = is_given(matches, "resume");
@@ -126,13 +126,13 @@ fn record_of(alloc: Global, matches: &ArgMatches<'_>) -> Result<Option<RecordFil
             resumes,
             syncs,
         })),
-        None if resumes || syncs => Err(Lack::Record),
+        None if resumes || syncs => Err(UsageError::Record),
         None => Ok(None),
     }
 }
 
 /// The rack of an exchange.
-fn rack_of(alloc: Global, matches: &ArgMatches<'_>) -> Result<SharedRack, Lack>
+fn rack_of(alloc: Global, matches: &ArgMatches<'_>) -> Result<SharedRack, UsageError>
     ensures { IsReading (HasRack (rows_in matches.now)) result }
 {
     Ok(SharedRack {
@@ -144,7 +144,7 @@ fn rack_of(alloc: Global, matches: &ArgMatches<'_>) -> Result<SharedRack, Lack>
 }
 
 /// The job of `plan`.
-fn plan_of(alloc: Global, found: &ArgMatches<'_>) -> Result<Job, Lack>
+fn plan_of(alloc: Global, found: &ArgMatches<'_>) -> Result<Job, UsageError>
     ensures { IsReading (IsJob CommandName.Plan (rows_in found.now)) result }
 {
     Ok(Job::Texts(TextJob::Plan {
@@ -155,7 +155,7 @@ fn plan_of(alloc: Global, found: &ArgMatches<'_>) -> Result<Job, Lack>
 }
 
 /// The job of `check`.
-fn check_of(alloc: Global, found: &ArgMatches<'_>) -> Result<Job, Lack>
+fn check_of(alloc: Global, found: &ArgMatches<'_>) -> Result<Job, UsageError>
     ensures { IsReading (IsJob CommandName.Check (rows_in found.now)) result }
 {
     Ok(Job::Texts(TextJob::Check {
@@ -164,47 +164,37 @@ fn check_of(alloc: Global, found: &ArgMatches<'_>) -> Result<Job, Lack>
     }))
 }
 
-/// The job of `draw --prices`.
-fn prices_of(alloc: Global, found: &ArgMatches<'_>) -> Result<Job, Lack>
-    requires { IsGiven (codes "prices") (rows_in found.now) }
-    ensures { IsReading (IsJob CommandName.Draw (rows_in found.now)) result }
-{
-    match option_of(alloc, found, "settings")? {
-        Some(_) => Err(Lack::Picture),
-        None => Ok(Job::Texts(TextJob::Prices {
-            batch: text_of(alloc, found, "BATCH")?,
-            schedule: text_of(alloc, found, "SCHEDULE")?,
-        })),
-    }
-}
-
 /// The job of `draw`.
-fn draw_of(alloc: Global, found: &ArgMatches<'_>) -> Result<Job, Lack>
+fn draw_of(alloc: Global, found: &ArgMatches<'_>) -> Result<Job, UsageError>
     ensures { IsReading (IsJob CommandName.Draw (rows_in found.now)) result }
 {
-    if is_given(found, "prices") {
-        return prices_of(alloc, found);
+    let batch = text_of(alloc, found, "BATCH")?;
+    let schedule = text_of(alloc, found, "SCHEDULE")?;
+    let settings = option_of(alloc, found, "settings")?;
+    match (is_given(found, "prices"), settings) {
+        (false, settings) => Ok(Job::Texts(TextJob::Draw {
+            batch,
+            schedule,
+            settings,
+        })),
+        (true, None) => Ok(Job::Texts(TextJob::Prices { batch, schedule })),
+        (true, Some(_)) => Err(UsageError::Picture),
     }
-    Ok(Job::Texts(TextJob::Draw {
-        batch: text_of(alloc, found, "BATCH")?,
-        schedule: text_of(alloc, found, "SCHEDULE")?,
-        settings: option_of(alloc, found, "settings")?,
-    }))
 }
 
 /// Whether there are two switches.
-fn has_two(matches: &ArgMatches<'_>) -> Result<bool, Lack>
+fn has_two(matches: &ArgMatches<'_>) -> Result<bool, UsageError>
     ensures { IsReading (HasTwo (rows_in matches.now)) result }
 {
     match (is_given(matches, "switches"), is_given(matches, "wiring")) {
         (false, _) => Ok(false),
         (true, false) => Ok(true),
-        (true, true) => Err(Lack::Switches),
+        (true, true) => Err(UsageError::Switches),
     }
 }
 
 /// The job of `switch`.
-fn switch_of(alloc: Global, found: &ArgMatches<'_>) -> Result<Job, Lack>
+fn switch_of(alloc: Global, found: &ArgMatches<'_>) -> Result<Job, UsageError>
     ensures { IsReading (IsJob CommandName.Switch (rows_in found.now)) result }
 {
     Ok(Job::Texts(TextJob::Switch {
@@ -217,7 +207,7 @@ fn switch_of(alloc: Global, found: &ArgMatches<'_>) -> Result<Job, Lack>
 }
 
 /// The job of `orders`.
-fn orders_of(alloc: Global, found: &ArgMatches<'_>) -> Result<Job, Lack>
+fn orders_of(alloc: Global, found: &ArgMatches<'_>) -> Result<Job, UsageError>
     ensures { IsReading (IsJob CommandName.Orders (rows_in found.now)) result }
 {
     Ok(Job::Texts(TextJob::Orders {
@@ -229,7 +219,7 @@ fn orders_of(alloc: Global, found: &ArgMatches<'_>) -> Result<Job, Lack>
 }
 
 /// The job of `drive`.
-fn drive_of(alloc: Global, found: &ArgMatches<'_>) -> Result<Job, Lack>
+fn drive_of(alloc: Global, found: &ArgMatches<'_>) -> Result<Job, UsageError>
     ensures { IsReading (IsJob CommandName.Drive (rows_in found.now)) result }
 {
     Ok(Job::Ports(PortJob::Drive {
@@ -245,7 +235,7 @@ fn drive_of(alloc: Global, found: &ArgMatches<'_>) -> Result<Job, Lack>
 }
 
 /// The job of `direct`.
-fn direct_of(alloc: Global, found: &ArgMatches<'_>) -> Result<Job, Lack>
+fn direct_of(alloc: Global, found: &ArgMatches<'_>) -> Result<Job, UsageError>
     ensures { IsReading (IsJob CommandName.Direct (rows_in found.now)) result }
 {
     Ok(Job::Texts(TextJob::Direct {
@@ -254,7 +244,7 @@ fn direct_of(alloc: Global, found: &ArgMatches<'_>) -> Result<Job, Lack>
 }
 
 /// The job of `apply`.
-fn apply_of(alloc: Global, found: &ArgMatches<'_>) -> Result<Job, Lack>
+fn apply_of(alloc: Global, found: &ArgMatches<'_>) -> Result<Job, UsageError>
     ensures { IsReading (IsJob CommandName.Apply (rows_in found.now)) result }
 {
     Ok(Job::Texts(TextJob::Apply {
@@ -266,7 +256,7 @@ fn apply_of(alloc: Global, found: &ArgMatches<'_>) -> Result<Job, Lack>
 }
 
 /// The job of `run`.
-fn run_of(alloc: Global, found: &ArgMatches<'_>) -> Result<Job, Lack>
+fn run_of(alloc: Global, found: &ArgMatches<'_>) -> Result<Job, UsageError>
     ensures { IsReading (IsJob CommandName.Run (rows_in found.now)) result }
 {
     Ok(Job::Texts(TextJob::Run {
@@ -279,7 +269,7 @@ fn run_of(alloc: Global, found: &ArgMatches<'_>) -> Result<Job, Lack>
 }
 
 /// The job of `serve`.
-fn serve_of(alloc: Global, found: &ArgMatches<'_>) -> Result<Job, Lack>
+fn serve_of(alloc: Global, found: &ArgMatches<'_>) -> Result<Job, UsageError>
     ensures { IsReading (IsJob CommandName.Serve (rows_in found.now)) result }
 {
     Ok(Job::Sessions {
@@ -292,7 +282,7 @@ fn serve_of(alloc: Global, found: &ArgMatches<'_>) -> Result<Job, Lack>
 }
 
 /// The job of `host`.
-fn host_of(alloc: Global, found: &ArgMatches<'_>) -> Result<Job, Lack>
+fn host_of(alloc: Global, found: &ArgMatches<'_>) -> Result<Job, UsageError>
     ensures { IsReading (IsJob CommandName.Host (rows_in found.now)) result }
 {
     Ok(Job::Sessions {
@@ -305,7 +295,7 @@ fn host_of(alloc: Global, found: &ArgMatches<'_>) -> Result<Job, Lack>
 }
 
 /// The job of `talk`.
-fn talk_of(alloc: Global, found: &ArgMatches<'_>) -> Result<Job, Lack>
+fn talk_of(alloc: Global, found: &ArgMatches<'_>) -> Result<Job, UsageError>
     ensures { IsReading (IsJob CommandName.Talk (rows_in found.now)) result }
 {
     Ok(Job::Sessions {
@@ -315,7 +305,7 @@ fn talk_of(alloc: Global, found: &ArgMatches<'_>) -> Result<Job, Lack>
 }
 
 /// The job of `replay`.
-fn replay_of(alloc: Global, found: &ArgMatches<'_>) -> Result<Job, Lack>
+fn replay_of(alloc: Global, found: &ArgMatches<'_>) -> Result<Job, UsageError>
     ensures { IsReading (IsJob CommandName.Replay (rows_in found.now)) result }
 {
     Ok(Job::Texts(TextJob::Replay {
@@ -327,7 +317,7 @@ fn replay_of(alloc: Global, found: &ArgMatches<'_>) -> Result<Job, Lack>
 }
 
 /// The job of a command by its matches.
-fn job_of(alloc: Global, name: CommandName, found: &ArgMatches<'_>) -> Result<Job, Lack>
+fn job_of(alloc: Global, name: CommandName, found: &ArgMatches<'_>) -> Result<Job, UsageError>
     ensures { IsReading (IsJob name (rows_in found.now)) result }
 {
     match name {
@@ -349,11 +339,11 @@ fn job_of(alloc: Global, name: CommandName, found: &ArgMatches<'_>) -> Result<Jo
 }
 
 /// The job of the command that this word calls, by its matches, and whether it is quiet.
-fn request_of(alloc: Global, word: &str, found: &ArgMatches<'_>) -> Result<Request, Lack>
+fn request_of(alloc: Global, word: &str, found: &ArgMatches<'_>) -> Result<Request, UsageError>
     ensures { IsReading (IsRequest word.now (rows_in found.now)) result }
 {
     let Some(name) = CommandName::of(word) else {
-        return Err(Lack::Word);
+        return Err(UsageError::Word);
     };
     Ok(Request {
         job: job_of(alloc, name, found)?,
@@ -373,23 +363,23 @@ fn request_named(alloc: Global, arguments: &[String]) -> Result<Request, Argumen
             Ok(request) => Ok(request),
             Err(lack) => Err(fault_of(alloc, arguments, lack)),
         },
-        None => Err(fault_of(alloc, arguments, Lack::Word)),
+        None => Err(fault_of(alloc, arguments, UsageError::Word)),
     }
 }
 
 /// Whether a job may be done: what it lacks, where a client has no name that is one, or a file is
 /// named twice that can't be.
-fn judge(alloc: Global, job: &Job) -> Result<(), Lack>
+fn judge(alloc: Global, job: &Job) -> Result<(), UsageError>
     ensures done { OnOk result (MayBeDone job.now) }
     ensures refused { IfErr result (λ lack. lack ≢ Memory → MayBeDone job.now → ⊥) }
 {
     if !names_clients(job) {
-        return Err(Lack::Clients);
+        return Err(UsageError::Clients);
     }
     let files = file_uses(alloc, job)?;
     match first_misnamed(files.as_slice()) {
         None => Ok(()),
-        Some(why) => Err(Lack::Files(why.to_string(alloc)?)),
+        Some(why) => Err(UsageError::Files(why.to_string(alloc)?)),
     }
 }
 

@@ -67,44 +67,22 @@ impl Model for Gathered {
 }
 
 impl Gathered {
-    /// A file of this name with an ending.
-    fn add_ending(
-        &mut self,
-        access: Access,
-        role: Role,
-        name: &Text,
-        ending: &str,
-    ) -> Result<(), AllocError>
-        ensures { OnOk result (self.new ≡ self.old ++ file access (name.now ++ ending.now) ∷ []) }
-    {
-        let name = name.with_ending(self.alloc, ending)?;
-        let role = ToldRole(role);
-        self.uses.push(FileUse { name, access, role })?;
-        Ok(())
-    }
-
     /// A file of this name.
-    fn add(&mut self, access: Access, role: Role, name: &str) -> Result<(), AllocError>
-        ensures { OnOk result (self.new ≡ self.old ++ file access name.now ∷ []) }
+    fn push(&mut self, access: Access, role: Role, name: Text) -> Result<(), AllocError>
+        ensures { OnOk result (self.new ≡ self.old ++ file access name ∷ []) }
     {
-        let name = Text::of(self.alloc, name)?;
         let role = ToldRole(role);
         self.uses.push(FileUse { name, access, role })?;
         Ok(())
     }
 
     /// A file of this name, where there is one.
-    fn add_option(
-        &mut self,
-        access: Access,
-        role: Role,
-        name: Option<&Text>,
-    ) -> Result<(), AllocError>
+    fn add(&mut self, access: Access, role: Role, name: Option<&Text>) -> Result<(), AllocError>
         ensures { OnOk result
             (self.new ≡ self.old ++ map (file access) (option_to_list (bytes_of name.entry))) }
     {
         match name {
-            Some(name) => self.add(access, role, name.as_str()),
+            Some(name) => self.push(access, role, Text::of(self.alloc, name.as_str())?),
             None => Ok(()),
         }
     }
@@ -114,7 +92,7 @@ impl Gathered {
         ensures { OnOk result (self.new ≡ self.old ++ map (file Access.Read) names.now) }
     {
         for name in names {
-            self.add(Access::Read, Role::Script, name.as_str())?;
+            self.add(Access::Read, Role::Script, Some(name))?;
         }
         Ok(())
     }
@@ -124,17 +102,17 @@ impl Gathered {
         ensures { OnOk result (self.new ≡ self.old ++ map (file Access.Read) (files_read job.now)) }
     {
         let files = job.files();
-        self.add_option(Access::Read, Role::Image, files.image)?;
-        self.add_option(Access::Read, files.list_role, files.list)?;
+        self.add(Access::Read, Role::Image, files.image)?;
+        self.add(Access::Read, files.list_role, files.list)?;
         let beside = match job {
             Job::Texts(TextJob::Apply { .. }) => Role::Image,
             _ => Role::Schedule,
         };
-        self.add_option(Access::Read, beside, files.schedule)?;
-        self.add_option(Access::Read, Role::Wiring, files.wiring)?;
+        self.add(Access::Read, beside, files.schedule)?;
+        self.add(Access::Read, Role::Wiring, files.wiring)?;
         self.read_all(files.scripts)?;
         match job.heard() {
-            Some(role) => self.add(Access::Read, role, "-"),
+            Some(role) => self.push(Access::Read, role, Text::of(self.alloc, "-")?),
             None => Ok(()),
         }
     }
@@ -143,8 +121,8 @@ impl Gathered {
     fn add_kept(&mut self, rack: &SharedRack) -> Result<(), AllocError>
         ensures { OnOk result (self.new ≡ self.old ++ kept_files rack.now) }
     {
-        self.add_option(Access::Write, Role::Record, rack.record_name())?;
-        self.add_option(Access::Write, Role::ImageLeft, rack.image_out.as_ref())
+        self.add(Access::Write, Role::Record, rack.record_name())?;
+        self.add(Access::Write, Role::ImageLeft, rack.image_out.as_ref())
     }
 
     /// The files of clients.
@@ -152,8 +130,16 @@ impl Gathered {
         ensures { OnOk result (self.new ≡ self.old ++ flat_map client_files clients.now) }
     {
         for client in clients {
-            self.add_ending(Access::Read, Role::Said, client, ".in")?;
-            self.add_ending(Access::Told, Role::Told, client, ".out")?;
+            self.push(
+                Access::Read,
+                Role::Said,
+                client.with_ending(self.alloc, ".in")?,
+            )?;
+            self.push(
+                Access::Told,
+                Role::Told,
+                client.with_ending(self.alloc, ".out")?,
+            )?;
         }
         Ok(())
     }
@@ -166,9 +152,17 @@ impl Gathered {
         let Some(port) = port else {
             return Ok(());
         };
-        self.add(Access::Port, Role::Port, port.as_str())?;
-        self.add_ending(Access::Port, Role::PortIn, port, ".in")?;
-        self.add_ending(Access::Read, Role::PortOut, port, ".out")
+        self.add(Access::Port, Role::Port, Some(port))?;
+        self.push(
+            Access::Port,
+            Role::PortIn,
+            port.with_ending(self.alloc, ".in")?,
+        )?;
+        self.push(
+            Access::Read,
+            Role::PortOut,
+            port.with_ending(self.alloc, ".out")?,
+        )
     }
 
     /// The files that a job reads or writes beside.

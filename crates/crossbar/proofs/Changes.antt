@@ -447,7 +447,7 @@ stays link Reset s l = absurd (l.0 refl)
 stays link (Cut o) s l = cut_elsewhere s.sources o link l.1.0
 stays link (CutPair x y) s l = cut_elsewhere (remove s.sources x) y link l.1.1.0 ∙ cut_elsewhere s.sources x link l.1.0
 
--- what stands on an output stays behind commands that leave it alone
+-- what stands on an output stays after commands that leave it alone
 pub all_stays : (link : ℕ) (cs : List Command) (s : Switch) → LeaveAlone link cs → get (after_all cs s).sources link ≡ get s.sources link
 all_stays link [] s l = refl
 all_stays link (c ∷ cs) s l = all_stays link cs (after c s) l.1 ∙ stays link c s l.0

@@ -49,7 +49,7 @@ byte_to Heard chip at byte = []
 abbrev pub bytes_to : Chip → List Passing → List ℕ
 bytes_to chip passed = flat_map (λ p. byte_to p.direction chip p.chip p.byte) passed
 
--- What passes where a chip is sent commands: each reply is heard behind its enquiry, before the
+-- What passes where a chip is sent commands: each reply is heard after its enquiry, before the
 -- next command is sent.
 abbrev pub conversed : Chip → List Command → List ℕ → List Passing
 conversed chip [] replies = []

@@ -16,7 +16,7 @@ const MODULES: usize = JOINED_MODULES as usize;
 /// link of the switch. That link 0 and link 3 are the ones that matter is this project's choice.
 #[derive(Clone, Copy, Debug, PartialEq, Eq)]
 pub struct BoardWiring {
-    // What the modules are on, and behind them anything.
+    // What the modules are on, and after them anything.
     links: [ModuleLinks; MODULES],
     modules: usize,
     ghost few: { modules ≤ JOINED_MODULES },

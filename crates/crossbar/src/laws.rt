@@ -30,7 +30,7 @@ pub fn change()
         after_all (change wiring old new) (switch_of wiring old) ≡ switch_of wiring new }
 {}
 
-/// No command of a change, and none of a setting behind its first, resets a board's switch or names
+/// No command of a change, and none of a setting after its first, resets a board's switch or names
 /// a link that no module is on. So what stands on such an output stays: nothing, once a setting has
 /// begun by its reset. What each command does is the INMOS IMS C004 data sheet's; that a setting
 /// and a change are these is this project's choice.

@@ -48,7 +48,7 @@ pub trait ConfigPort {
         ensures counted { failures self.old ≤ failures self.new }
         ensures unfailed { OnOk result (failures self.new ≡ failures self.old) }
         ensures honesty { honest self.new ≡ honest self.old }
-        // The commands were sent and the replies heard, each behind its enquiry; where it failed, a
+        // The commands were sent and the replies heard, each after its enquiry; where it failed, a
         // front of that.
         ensures passed { OnOk result
             (HaveConversed chip bytes.now replies.new (passed self.old) (passed self.new)) }
@@ -124,7 +124,7 @@ pub(crate) fn carry_out(crossbar: &mut Crossbar, bytes: &[u8], replies: &mut [u8
     }
 }
 
-/// Carries out a command, if there is one, writes its answer behind those that stand, and says how
+/// Carries out a command, if there is one, writes its answer after those that stand, and says how
 /// many stand then.
 fn carry_given(
     crossbar: &mut Crossbar,

@@ -1,4 +1,3 @@
 pub mod Over
-pub mod Told
 pub mod ToldBeside
 pub mod Wirings

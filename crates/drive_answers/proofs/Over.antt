@@ -1,5 +1,6 @@
 -- A drive over ports that were opened for it and given back.
-use Rattle.std.proofs.Common.{◌≡◌, ◌<◌, [], ℕ, List, Option, Some, ap, subst, ◌∙◌}
+use Rattle.std.proofs.Common.{◌≡◌, ◌≢◌, ◌<◌, [], ℕ, List, Option, Some, Result, IfOk, ap, refl, subst, ◌∙◌}
+use Rattle.std.proofs.lemmas.Result.{IfOk-weaker}
 use Rattle.batch.specs.Extent.{widest}
 use Rattle.batch.specs.declared.transfer.Transfer.{Transfer}
 use Rattle.crossbar.specs.declared.port.ConfigPort.{Ghosts}
@@ -13,9 +14,13 @@ use Rattle.board_wiring.specs.Boards.{IsBoardOf, IsFilled}
 use Rattle.board_wiring.specs.Lacks.{HasWaysOn}
 use Rattle.board_wiring.specs.declared.board.Board.{Board}
 use Rattle.crossbar.specs.declared.board.BoardWiring.{BoardWiring}
+use Rattle.plan_answers.specs.Refusals.{Refuses}
 use Rattle.plan_answers.specs.Schedules.{IsScheduleFrom}
 use Rattle.plan_answers.specs.declared.source.Source.{Source}
-use Rattle.drive_answers.specs.Answers.{HasFailed, HasFailedOver, HasPortFailed, IsDrivenOver, is_wide_over, rack_for}
+use Rattle.refusals.specs.declared.refusal.Refusal.{Refusal}
+use Rattle.refusals.specs.declared.refusal.Refusal.TheVariants.{NoMemory as Memory}
+use Rattle.drive_answers.specs.Answers.{HasFailed, HasFailedOver, HasPortFailed, IsDriveAnswer, IsDrivenOver, IsFirstDriveWrong, is_wide_over, rack_for, wrong}
+use Rattle.drive_answers.specs.declared.drive_end.DriveEnd.{DriveEnd}
 use Rattle.drive_answers.specs.declared.fault.DriveFault.{DriveFault}
 use Rattle.drive_answers.specs.declared.fault.DriveFault.TheVariants.{Untold as NotTold, NoMemory}
 use Rattle.drive_answers.specs.Ways.{Names, Ways, given_back, opened_by}
@@ -39,6 +44,11 @@ driven_over hears seen rack batch settings first how names was opened opens old 
       went = rw fresh at went;
       cause = port_failed seen rack batch settings first how old new none cause;
     }
+
+-- a refusal of what is first wrong
+pub refused_so : {S : Type 0} (hears : Hearing S) (source : Source (List ℕ)) (text : List ℕ) (wiring : Option (List ℕ)) (first : ℕ) (names : Names) (was : Ways) (told : S) (r : Result DriveEnd DriveFault) (refusal : Refusal)
+    → (refusal ≢ Memory → IsFirstDriveWrong source text wiring first refusal) → IfOk r (λ end. Refuses refusal end.answer) → IfOk r (λ end. IsDriveAnswer hears source text wiring first names was was told told end.answer)
+refused_so hears source text wiring first names was told r refusal is refused = IfOk-weaker r _ _ (λ end refuses. wrong refusal (is refuses.0) refuses refl refl) refused
 
 -- where there is no answer, of a schedule of the batch that the text denotes
 pub failed : {S : Type 0} (hears : Hearing S) (source : Source (List ℕ)) (text : List ℕ) (wiring : Option (List ℕ)) (first : ℕ) (names : Names) (was opens : Ways) (told tells : S) (board : Option Board) (filled : Option BoardWiring) (batch : List Transfer) (settings : List (List ℕ))

@@ -20,7 +20,7 @@ use Rattle.switch_driver.specs.Driving.{IsDriven}
 use Rattle.switch_driver.specs.Hearings.{Hearing}
 use Rattle.switch_driver.specs.declared.driving.Driven.{Driven}
 use Rattle.switch_driver.specs.declared.driving.Driven.TheVariants.{Stopped, Halted}
-use Rattle.switch_driver.specs.declared.stage.Halt.TheVariants as halt
+use Rattle.switch_driver.specs.declared.drive_observer.Halt.TheVariants as halt
 use Rattle.switch_settings.specs.declared.fault.SettingFault.TheVariants.{Port}
 use Rattle.switch_settings.specs.Racks.{is_wide, joined_by}
 use Rattle.switch_settings.specs.declared.rack_wiring.RackWiring.{RackWiring}
@@ -85,7 +85,7 @@ pub data IsTried {S : Type 0} (hears : Hearing S) (rack : RackWiring)
 abbrev pub HasFailedOver : {S : Type 0} → Hearing S → RackWiring
     → List Transfer → List (List ℕ) → ℕ → Names → Ways → Ways → S → S → DriveFault → Type 0
 HasFailedOver {S} hears rack batch settings first names was opens told tells Untold =
-    (k : ℕ)
+    (k : ℕ) × (how_many names ≡ switches_in rack)
     × IsDrivenOver hears rack batch settings first (Halted k halt.Untold) names was opens told tells
 HasFailedOver {S} hears rack batch settings first names was opens told tells NoMemory =
     (tells ≡ told) × (opens ≡ was)
@@ -93,7 +93,7 @@ HasFailedOver {S} hears rack batch settings first names was opens told tells NoM
 -- ---- the answer
 
 -- What is first wrong with the texts: that of the wiring is looked at first, and then the others.
--- What the batch needs and the board hasn't is refused behind faults of the batch's text, and before
+-- What the batch needs and the board hasn't is refused after faults of the batch's text, and before
 -- those of a schedule. Then the schedule has to have the setting from which on it is driven.
 pub data IsFirstDriveWrong (source : Source (List ℕ)) (text : List ℕ) (wiring : Option (List ℕ))
     (first : ℕ) (refusal : Refusal) : Type 0 where

@@ -5,7 +5,7 @@ use Rattle.plan_answers.specs.Refusals.{Printed}
 use Rattle.plan_answers.specs.declared.limits.TheConstants.{DONE, REFUSED}
 use Rattle.switch_driver.specs.declared.driving.Driven.{Driven}
 use Rattle.switch_driver.specs.declared.driving.Driven.TheVariants.{Completed, Stopped, Halted}
-use Rattle.switch_driver.specs.declared.stage.Halt.TheVariants.{Left, Unheard, Untold}
+use Rattle.switch_driver.specs.declared.drive_observer.Halt.TheVariants.{Left, Unheard, Untold}
 use Rattle.switch_settings.specs.declared.fault.SettingFault.{SettingFault}
 use Rattle.switch_settings.specs.declared.fault.SettingFault.TheVariants.{Port, Switch}
 use Rattle.switch_settings.specs.Answers.{number_of}

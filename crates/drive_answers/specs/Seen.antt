@@ -2,7 +2,7 @@
 use Rattle.std.specs.Prelude.{ℕ, List, Option, option_map}
 use Rattle.crossbar.specs.declared.traffic.Passing.{Passing}
 use Rattle.drive_answers.specs.Ways.{Ways}
-use Rattle.drive_answers.specs.declared.port_ways.SeenNames.{SeenNames}
+use Rattle.drive_answers.specs.declared.port_trace.SeenNames.{SeenNames}
 
 abbrev pub ways_seen : ℕ → Option SeenNames → Option (List Passing) → ℕ → Ways
 ways_seen opened names carried failed =

@@ -1,11 +1,11 @@
-use crate::sight::Sight;
+use crate::output_mismatch::OutputMismatch;
 use plan_answers::Answer;
 
 /// How a drive ended.
 #[derive(Drop)]
 pub struct DriveEnd {
-    /// What is printed behind what was told.
+    /// What is printed after what was told.
     pub answer: Answer,
     /// What was seen of an output that disagrees, where one does.
-    pub sight: Option<Sight>,
+    pub sight: Option<OutputMismatch>,
 }

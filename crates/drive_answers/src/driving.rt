@@ -18,8 +18,8 @@ use crate::drive_end::DriveEnd;
 use crate::ending::ending;
 use crate::fault::DriveFault;
 use crate::names::PortNames;
+use crate::output_mismatch::OutputMismatch;
 use crate::ports::Ports;
-use crate::sight::Sight;
 use batch::{Batch, Shape};
 use board_wiring::{Board, read_board, read_lack, wiring_of};
 use c004_commands::PORTS;
@@ -31,7 +31,7 @@ use plan_answers::{Answer, Scheduled, Source};
 use refusals::{Refusal, Validity};
 use std::alloc::Global;
 use std::thread::Threads;
-use switch_driver::{Stage, drive};
+use switch_driver::{DriveObserver, drive};
 use switch_settings::{RackWiring, is_wide};
 
 /// How many modules the switches of a rack join.
@@ -90,7 +90,7 @@ fn is_start(first: usize, schedule: &Schedule) -> bool
 /// Drives a schedule of the batch on the rack from this setting on, over the ports of these names,
 /// which are opened for it, and says how that ended. The board, where there is one, says where an
 /// output leads.
-fn drive_over<Q: Ports, S: Stage>(
+fn drive_over<Q: Ports, S: DriveObserver>(
     alloc: Global,
     board: &Option<Board>,
     rack: RackWiring,
@@ -125,7 +125,7 @@ fn drive_over<Q: Ports, S: Stage>(
             match ending(room, how) {
                 Ok(answer) => Ok(DriveEnd {
                     answer,
-                    sight: Sight::of(board, rack, &how),
+                    sight: OutputMismatch::of(board, rack, &how),
                 }),
                 Err(fault) => Err(fault),
             }
@@ -159,7 +159,7 @@ fn no_setting(alloc: Global, first: usize, schedule: &Schedule) -> Result<DriveE
     })
 }
 
-/// What `exchange drive` answers behind what the stage was told: the settings of a schedule of the
+/// What `exchange drive` answers after what the stage was told: the settings of a schedule of the
 /// batch that the text denotes are put on the switches, one after another, from the first one on
 /// that is named, over the ports of these names, which are opened for them; or the refusal of what
 /// is first wrong, as [`Scheduled::read`](plan_answers::Scheduled::read) looks at it, or of the
@@ -177,9 +177,9 @@ fn no_setting(alloc: Global, first: usize, schedule: &Schedule) -> Result<DriveE
 ///
 /// Where there is a text of a board's wiring, the settings are put on the board's one switch, and O
 /// is its output's own number. That text is looked at first, and `refused wiring line N` tells its
-/// first line at fault. Behind the batch it is looked for its first transfer that names a module
+/// first line at fault. After the batch it is looked for its first transfer that names a module
 /// that the board hasn't, or needs a link that it hasn't.
-pub fn answer_drive<R: Threads + Sync, Q: Ports, S: Stage>(
+pub fn answer_drive<R: Threads + Sync, Q: Ports, S: DriveObserver>(
     rt: &R,
     alloc: Global,
     wiring: Option<&[u8]>,

@@ -1,11 +1,11 @@
 //! The last line of a drive.
 
-ghost use Rattle.std.specs.Prelude.{◌≡◌, ◌≤◌, ◌+◌, ◌*◌, ◌++◌, [], ℕ, length, IfOk, IfErr, vec_capacity};
+ghost use Rattle.std.specs.Prelude.{◌≡◌, ◌≤◌, ◌+◌, ◌*◌, ◌++◌, [], ℕ, codes, length, IfOk, IfErr, vec_capacity};
 ghost use Rattle.std.specs.Fmt.{decimal};
 ghost use Rattle.line_words.specs.declared.limits.TheConstants.{LINE_ROOM, NUMBER_ROOM};
 ghost use Rattle.switch_driver.specs.declared.driving.Driven.TheVariants.{Halted};
-ghost use Rattle.switch_driver.specs.declared.stage.Halt.TheVariants.{Untold as NotTold};
-ghost use Rattle.drive_answers.specs.Endings.{completed_line, fault_words, left_line, stopped_line, IsEnding};
+ghost use Rattle.switch_driver.specs.declared.drive_observer.Halt.TheVariants.{Untold as NotTold};
+ghost use Rattle.drive_answers.specs.Endings.{fault_words, stopped_line, IsEnding};
 ghost use Rattle.drive_answers.specs.declared.fault.DriveFault.TheVariants.{Untold};
 
 use crate::fault::DriveFault;
@@ -26,11 +26,12 @@ fn numbered(words: &[u8], number: usize) -> Line
     line
 }
 
-/// The line where all settings stood.
-fn line_completed(settings: usize) -> Line
-    ensures { result ≡ completed_line settings }
+/// The line of these words and a number.
+fn line_of(words: &[u8], number: usize) -> Line
+    requires { length words.now ≤ NUMBER_ROOM }
+    ensures { result ≡ words.now ++ decimal number ++ codes "\n" }
 {
-    let mut line = numbered(b"driven settings ", settings);
+    let mut line = numbered(words, number);
     line.put(b"\n");
     line
 }
@@ -60,15 +61,6 @@ fn line_unset(setting: usize, fault: SettingFault) -> Line
     }
 }
 
-/// The line where no setting was wanted behind this one.
-fn line_left(setting: usize) -> Line
-    ensures { result ≡ left_line setting }
-{
-    let mut line = numbered(b"left setting ", setting);
-    line.put(b"\n");
-    line
-}
-
 /// The line, in the room that was kept for it.
 fn filled(mut room: Vec<u8>, line: &Line) -> Vec<u8>
     requires empty { room.items ≡ [] }
@@ -90,13 +82,13 @@ pub(crate) fn ending(room: Vec<u8>, how: Driven) -> Result<Answer, DriveFault>
 {
     match how {
         Driven::Completed { settings } => {
-            Ok(Answer::done(filled(room, &line_completed(settings))))
+            Ok(Answer::done(filled(room, &line_of(b"driven settings ", settings))))
         }
         Driven::Stopped { setting, fault } => {
             Ok(Answer::failed(filled(room, &line_unset(setting, fault))))
         }
         Driven::Halted { setting, halt } => match halt {
-            Halt::Left => Ok(Answer::failed(filled(room, &line_left(setting)))),
+            Halt::Left => Ok(Answer::failed(filled(room, &line_of(b"left setting ", setting)))),
             Halt::Unheard => Ok(Answer::failed(filled(room, &line_stopped(setting, b"input")))),
             Halt::Untold => Err(DriveFault::Untold),
         },

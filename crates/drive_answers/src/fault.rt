@@ -1,6 +1,6 @@
 use std::alloc::AllocError;
 
-/// Why there is nothing to print behind what was told.
+/// Why there is nothing to print after what was told.
 #[derive(Clone, Copy)]
 pub enum DriveFault {
     /// A setting stands, and couldn't be told.

@@ -2,7 +2,7 @@
 //! last line that is printed and its status.
 //!
 //! The ports of the switches, and whoever is told that a setting stands, are the caller's:
-//! [`Ports`] and [`Stage`](switch_driver::Stage). The settings from the one that is named on were
+//! [`Ports`] and [`DriveObserver`](switch_driver::Stage). The settings from the one that is named on were
 //! driven over the ports of these names, which were opened for them, once, and the last line says
 //! how that ended. Or it is a refusal: then no port was handed over, nothing was sent, and nothing
 //! was told (`IsDriveAnswer` of `specs/Answers.antt`; `HasFailed` where there is no answer).
@@ -13,14 +13,14 @@ mod driving;
 mod ending;
 mod fault;
 mod names;
-mod port_ways;
+mod output_mismatch;
+mod port_trace;
 mod ports;
-mod sight;
 
 pub use drive_end::DriveEnd;
 pub use driving::answer_drive;
 pub use fault::DriveFault;
 pub use names::PortNames;
-pub use port_ways::PortWays;
+pub use output_mismatch::OutputMismatch;
+pub use port_trace::PortTrace;
 pub use ports::{PortFailure, PortFile, Ports};
-pub use sight::Sight;

@@ -15,14 +15,13 @@ use Rattle.command_words.proofs.OneRequest.{no_fault, one_request}
 use Rattle.drive_answers.specs.Ways.{Ways}
 use Rattle.exchange.proofs.EndStatuses.{IsEither, gave_up, of_response}
 use Rattle.exchange.proofs.HeldFiles.{held_files}
-use Rattle.exchange.proofs.PromisedCalls.{Comes, HasNone}
+use Rattle.exchange.proofs.PromisedCalls.{Came, HasNone}
 use Rattle.exchange.specs.Ends.{IsCutFor, IsDone, IsDoneInPart, IsEndForArguments, IsPrinted, Keeping, Leaving, Streams, printed_of}
 use Rattle.exchange.specs.Keeping.{AreKeptBut}
-use Rattle.exchange.specs.Promises.{AreHeld, AsksFor, HasGivenUp, HoldsText, KeepsApart, Run, front_of, run_of}
-use Rattle.exchange.proofs.KeepsEach.{HasDone}
+use Rattle.exchange.specs.Promises.{AreHeld, AsksFor, HasGivenUp, KeepsApart, Run, run_of}
 use Rattle.exchange.specs.Responses.{Given, IsJobAnswer, IsJobCut, IsResponseTo, IsTextAnswer, IsToldCut, Named, Response}
 use Rattle.exchange.specs.declared.limits.TheConstants.{MISUSED, UNWRITTEN}
-use Rattle.named_files.specs.Apart.{AreSeenApart}
+use Rattle.named_files.specs.DistinctFiles.{AreSeenApart}
 use Rattle.named_files.specs.Contents.{Holding}
 use Rattle.named_files.specs.Notes.{IsToldInPart, unanswered}
 use Rattle.named_files.specs.Outputs.{lost_none, none_opened}
@@ -33,17 +32,16 @@ use Rattle.session_answers.specs.HostAnswers.{SessionEnd}
 use Rattle.named_files.specs.declared.unanswered.Unanswered.{Unanswered}
 use Rattle.named_files.specs.declared.unanswered.Unanswered.TheVariants as why
 use Rattle.plan_answers.specs.Refusals.{Printed}
-use Rattle.plan_answers.specs.declared.limits.TheConstants.{DONE, REFUSED}
-
--- ---- statuses
-
-pub never_done : (status : ℕ) → status ≡ REFUSED → status ≡ DONE → ⊥
-never_done status refused done = omega (arith, refused, done)
+use Rattle.plan_answers.specs.declared.limits.TheConstants.{REFUSED}
 
 -- ---- what the clause of `respond` says
 
+-- a run where this is given, with these arguments, and with this status
+abbrev pub the_run : Named → Given → List Text → (List ℕ → Type 0) → ℕ → Run
+the_run named given words prints status = run_of named.holds given.input prints words status
+
 -- what a run ended with, and what was given to it
-pub record Ended : Type 1 where
+pub record JobEnd : Type 1 where
   pub words : List Text
   pub named : Named
   pub keeps : Keeping
@@ -52,14 +50,14 @@ pub record Ended : Type 1 where
   pub streams : Streams
   pub code : ℕ
 
-abbrev pub ended_run : Ended → Run
-ended_run e = run_of e.named.holds e.given.input e.streams.out_before e.streams.out_after e.words e.code
+abbrev pub ended_run : JobEnd → Run
+ended_run e = the_run e.named e.given e.words (Appends e.streams.out_before e.streams.out_after) e.code
 
-abbrev pub EndsSo : Ended → Type 0
+abbrev pub EndsSo : JobEnd → Type 0
 EndsSo e = IsEndForArguments e.named e.keeps e.none e.words e.given e.streams e.code
 
 -- what is asked for was done, or there was no memory to read the arguments
-pub end_of : (e : Ended) (request : Request) → AskFor e.words request → EndsSo e
+pub end_of : (e : JobEnd) (request : Request) → AskFor e.words request → EndsSo e
     → IsDone e.named e.keeps e.given request e.streams e.code ⊎ (e.none × IsPrinted e.streams.out_before e.streams.out_after (unanswered why.NoMemory) e.code)
 end_of e request asks (Ok other, has, wrong, ends) =
     inl (subst (λ (r : Request). IsDone e.named e.keeps e.given r e.streams e.code) (one_request e.words other request has asks) ends)
@@ -81,7 +79,7 @@ pub record IsAnswered (run : Run) (job : TextJob) : Type 0 where
 abbrev pub IsGivenUp : Run → Type 0
 IsGivenUp run = (why : Unanswered) × run.prints (unanswered why).text × (run.status ≡ REFUSED)
 
-answered : (e : Ended) (job : TextJob) (quiet : Bool) (response : Response) → AskFor e.words (record { job = Texts job; is_quiet = quiet }) → IsJobAnswer e.named.holds e.given (Texts job) response → IsPrinted e.streams.out_before e.streams.out_after (printed_of response) e.code
+answered : (e : JobEnd) (job : TextJob) (quiet : Bool) (response : Response) → AskFor e.words (record { job = Texts job; is_quiet = quiet }) → IsJobAnswer e.named.holds e.given (Texts job) response → IsPrinted e.streams.out_before e.streams.out_after (printed_of response) e.code
     → IsAnswered (ended_run e) job
 answered e job quiet response asks is printed = record {
   files = is.0;
@@ -92,7 +90,7 @@ answered e job quiet response asks is printed = record {
   status = printed.status;
 }
 
-done_text : (e : Ended) (job : TextJob) (quiet : Bool) → AskFor e.words (record { job = Texts job; is_quiet = quiet }) → IsDone e.named e.keeps e.given (record { job = Texts job; is_quiet = quiet }) e.streams e.code
+done_text : (e : JobEnd) (job : TextJob) (quiet : Bool) → AskFor e.words (record { job = Texts job; is_quiet = quiet }) → IsDone e.named e.keeps e.given (record { job = Texts job; is_quiet = quiet }) e.streams e.code
     → IsAnswered (ended_run e) job ⊎ IsGivenUp (ended_run e)
 done_text e job quiet asks (response, inl comes, kept, printed, noted) = inl (answered e job quiet response asks comes.1 printed)
 done_text e job quiet asks (response, inr none, kept, printed, noted) =
@@ -103,17 +101,10 @@ done_text e job quiet asks (response, inr none, kept, printed, noted) =
 abbrev pub Answers : Run → Type 0
 Answers run = (job : TextJob) → AsksFor run (Texts job) → IsAnswered run job ⊎ IsGivenUp run
 
-pub text_ends : (e : Ended) → EndsSo e → Answers (ended_run e)
+pub text_ends : (e : JobEnd) → EndsSo e → Answers (ended_run e)
 text_ends e ends job asks = elim (end_of e (record { job = Texts job; is_quiet = asks.0 }) asks.1 ends) [
   | inl is ↦ done_text e job asks.0 asks.1 is
   | inr gives_up ↦ inr (why.NoMemory, gives_up.1.text, gives_up.1.status)
-]
-
--- the answer, where it ends with status 0
-pub text_done : (run : Run) (job : TextJob) → Answers run → HasDone run (Texts job) → IsAnswered run job
-text_done run job all done = elim (all job done.0) [
-  | inl is ↦ is
-  | inr gives_up ↦ absurd (never_done run.status gives_up.2 done.1)
 ]
 
 -- ---- jobs that have sessions
@@ -126,9 +117,9 @@ KeepsSo holds received receipts ends lost job response = AreKeptBut holds receiv
 abbrev pub SessionsCome : {C : Type 0} → Named → Given → (C → Closed) → Receipts C → List SessionEnd → (Lost → Type 0) → Run → Type 0
 SessionsCome named given received receipts ends may run =
     (rack : SharedRack) (job : SessionJob) → AsksFor run (Sessions rack job)
-    → ((lost : Lost) × may lost × Comes named given received receipts ends run (Sessions rack job) lost) ⊎ HasNone receipts ends run
+    → ((lost : Lost) × may lost × Came named given received receipts ends run (Sessions rack job) lost) ⊎ HasNone receipts ends run
 
-pub sessions_come : {C : Type 0} (e : Ended) (received : C → Closed) (receipts : Receipts C) (ends : List SessionEnd) → ((job : Job) (response : Response) → e.keeps job response → KeepsSo e.named.holds received receipts ends lost_none job response) → (e.none → (receipts ≡ none_opened) × (ends ≡ []))
+pub sessions_come : {C : Type 0} (e : JobEnd) (received : C → Closed) (receipts : Receipts C) (ends : List SessionEnd) → ((job : Job) (response : Response) → e.keeps job response → KeepsSo e.named.holds received receipts ends lost_none job response) → (e.none → (receipts ≡ none_opened) × (ends ≡ []))
     → EndsSo e → SessionsCome e.named e.given received receipts ends (λ lost. lost ≡ lost_none) (ended_run e)
 sessions_come {C} e received receipts ends so none_so is rack job asks = elim (end_of e (record { job = Sessions rack job; is_quiet = asks.0 }) asks.1 is) [
   | inl done ↦ inl (lost_none, refl, record { response = done.0; is = done.1; kept = (so (Sessions rack job) done.0 done.2).0; ends_are = (so (Sessions rack job) done.0 done.2).1; prints = done.3.text; status = done.3.status })
@@ -136,10 +127,6 @@ sessions_come {C} e received receipts ends so none_so is rack job asks = elim (e
 ]
 
 -- ---- jobs that tell something before their answer
-
--- a run where this is given, with these arguments, and with this status
-abbrev pub the_run : Named → Given → List Text → (List ℕ → Type 0) → ℕ → Run
-the_run named given words prints status = record { words = words; holds = HoldsText named.holds given.input; prints = prints; status = status }
 
 -- the response to a job was printed, or a front of it, and ports were left so
 pub record Responded (named : Named) (given : Given) (ports : Ways) (run : Run) (job : Job) : Type 0 where
@@ -169,7 +156,7 @@ JobComes named given ports run job = Responded named given ports run job ⊎ (To
 abbrev pub JobsCome : Named → Given → Ways → Run → Type 0
 JobsCome named given ports run = (request : Request) → AskFor run.words request → JobComes named given ports run request.job
 
-pub jobs_come : (e : Ended) (after : Ways) → ((job : Job) (response : Response) → e.keeps job response → response.ports ≡ after) → (e.none → after ≡ e.given.ports) → EndsSo e → JobsCome e.named e.given after (ended_run e)
+pub jobs_come : (e : JobEnd) (after : Ways) → ((job : Job) (response : Response) → e.keeps job response → response.ports ≡ after) → (e.none → after ≡ e.given.ports) → EndsSo e → JobsCome e.named e.given after (ended_run e)
 jobs_come e after same none_so is request asks = elim (end_of e request asks is) [
   | inl done ↦ inl (record { response = done.0; is = done.1; ports_are = same request.job done.0 done.2; prints = done.3.text; status = done.3.status })
   | inr gives_up ↦ inr (inr (record { prints = gives_up.1.text; status = gives_up.1.status; ports_are = none_so gives_up.0 }))
@@ -177,13 +164,13 @@ jobs_come e after same none_so is request asks = elim (end_of e request asks is)
 
 -- ---- what is written is apart from what is read
 
-apart_of : (e : Ended) (job : Job) (response : Response) → IsResponseTo e.named e.given job response → IsPrinted e.streams.out_before e.streams.out_after (printed_of response) e.code → AreSeenApart e.named.leads (file_uses job) ⊎ (HasGivenUp (ended_run e) ⊎ (e.code ≡ UNWRITTEN))
+apart_of : (e : JobEnd) (job : Job) (response : Response) → IsResponseTo e.named e.given job response → IsPrinted e.streams.out_before e.streams.out_after (printed_of response) e.code → AreSeenApart e.named.leads (file_uses job) ⊎ (HasGivenUp (ended_run e) ⊎ (e.code ≡ UNWRITTEN))
 apart_of e job response (inl comes) printed = inl comes.0
 apart_of e job response (inr none) printed =
     let text = subst (λ (told : List ℕ). Appends e.streams.out_before e.streams.out_after (told ++ response.end.text)) none.0 printed.text in
     inr (inl (gave_up (ended_run e) none.4.0 (subst (λ (p : Printed). Appends e.streams.out_before e.streams.out_after p.text) none.4.1 text)))
 
-pub keeps_apart : (e : Ended) → EndsSo e → KeepsApart e.named.leads (ended_run e)
+pub keeps_apart : (e : JobEnd) → EndsSo e → KeepsApart e.named.leads (ended_run e)
 keeps_apart e is job asks = elim (end_of e (record { job = job; is_quiet = asks.0 }) asks.1 is) [
   | inl done ↦ apart_of e job done.0 done.1 done.3
   | inr gives_up ↦ inr (inl (gave_up (ended_run e) why.NoMemory gives_up.1.text))
@@ -191,7 +178,7 @@ keeps_apart e is job asks = elim (end_of e (record { job = job; is_quiet = asks.
 
 -- ---- where the arguments ask for nothing
 
-pub asks_nothing : (e : Ended) → EndsSo e → (request : Request) → AskFor e.words request → e.code ≡ MISUSED → ⊥
+pub asks_nothing : (e : JobEnd) → EndsSo e → (request : Request) → AskFor e.words request → e.code ≡ MISUSED → ⊥
 asks_nothing e is request asks misused = elim (end_of e request asks is) [
   | inl done ↦ elim (of_response e.named e.given request.job done.0 done.1) [
     | inl well ↦ let status = done.3.status in omega (arith, well, status, misused)
@@ -206,14 +193,14 @@ module _ {C : Type 0} (received : C → Closed) (receipts : Receipts C) (ends : 
     (so : (job : Job) (response : Response) → left.keeps job response → (lost : Lost) × KeepsSo named.holds received receipts ends lost job response) (none_so : left.none → (receipts ≡ none_opened) × (ends ≡ []))
     (ports_so : (job : Job) (response : Response) → left.keeps job response → response.ports ≡ left.ports) (none_ports : left.none → left.ports ≡ given.ports) where
   abbrev Front : ℕ → Run
-  Front status = front_of named.holds given.input before after words status
+  Front status = the_run named given words (IsToldInPart before after) status
 
   -- what is so of a request where it is that of the arguments
   record CutSo (request : Request) : Type 0 where
     status : ℕ
     either : IsEither status
     texts : (job : TextJob) → request.job ≡ Texts job → AskFor words (record { job = Texts job; is_quiet = request.is_quiet }) → IsAnswered (Front status) job ⊎ IsGivenUp (Front status)
-    sessions : (rack : SharedRack) (job : SessionJob) → request.job ≡ Sessions rack job → (lost : Lost) × ⊤ × Comes named given received receipts ends (Front status) request.job lost
+    sessions : (rack : SharedRack) (job : SessionJob) → request.job ≡ Sessions rack job → (lost : Lost) × ⊤ × Came named given received receipts ends (Front status) request.job lost
     comes : JobComes named given left.ports (Front status) request.job
 
   in_part : (request : Request) → IsDoneInPart named left given request before after → CutSo request
@@ -272,7 +259,7 @@ module _ {C : Type 0} (received : C → Closed) (receipts : Receipts C) (ends : 
             part.texts job (ap (λ (r : Request). r.job) same) (subst (λ (r : Request). AskFor words (record { job = Texts job; is_quiet = r.is_quiet })) (sym same) asks.1);
         sessions = λ rack job asks.
             let same : other.job ≡ Sessions rack job = ap (λ (r : Request). r.job) (one_request words other (record { job = Sessions rack job; is_quiet = asks.0 }) has asks.1) in
-            inl (subst (λ (j : Job). (lost : Lost) × ⊤ × Comes named given received receipts ends (Front part.status) j lost) same (part.sessions rack job same));
+            inl (subst (λ (j : Job). (lost : Lost) × ⊤ × Came named given received receipts ends (Front part.status) j lost) same (part.sessions rack job same));
         jobs = λ request asks. subst (λ (r : Request). JobComes named given left.ports (Front part.status) r.job) (one_request words other request has asks) part.comes;
       }
   cut_ends (Err NoMemory, has, wrong, none) = record {
@@ -300,7 +287,7 @@ kept C P (Ok w) words named keeps none given streams code so unwritten (inl cut)
 kept C P (Ok w) words named keeps none given streams code so unwritten (inr ends) = so w ends
 
 -- then all was written, and the status is that of an end
-below : (e : Ended) → EndsSo e → UNWRITTEN ≤ e.code → ⊥
+below : (e : JobEnd) → EndsSo e → UNWRITTEN ≤ e.code → ⊥
 below e (Ok request, has, wrong, done) most = elim (of_response e.named e.given request.job done.0 done.1) [
   | inl well ↦ let status = done.3.status in omega (arith, well, status, most)
   | inr one ↦ let status = done.3.status in omega (arith, one, status, most)
@@ -310,7 +297,7 @@ below e (Err (Clap error), has, wrong, none) most =
     let misused = none.1.1 (λ help. let done = (none.1.0 help).0 in omega (arith, done, most)) in
     let status = misused.0 in omega (arith, status, most)
 
-pub all_written : (e : Ended) → EndsSo e → e.code ≡ UNWRITTEN → ⊥
+pub all_written : (e : JobEnd) → EndsSo e → e.code ≡ UNWRITTEN → ⊥
 all_written e is unwritten = below e is (omega (arith, unwritten))
 
 bounded : (code : ℕ) → (UNWRITTEN ≤ code → ⊥) → code ≤ UNWRITTEN
@@ -319,5 +306,5 @@ bounded (suc zero) high = omega arith
 bounded (suc (suc zero)) high = omega arith
 bounded (suc (suc (suc n))) high = absurd (high (omega arith))
 
-pub ends_well : (e : Ended) → EndsSo e → e.code ≤ UNWRITTEN
+pub ends_well : (e : JobEnd) → EndsSo e → e.code ≤ UNWRITTEN
 ends_well e is = bounded e.code (below e is)

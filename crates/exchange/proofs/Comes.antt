@@ -18,7 +18,7 @@ use Rattle.exchange.specs.Keeping.{AreKept, AreKeptBut}
 use Rattle.named_files.specs.Outputs.{lost_none}
 use Rattle.named_files.specs.Streams.{Closed}
 use Rattle.exchange.specs.Responses.{Given, IsAnswerTo, IsJobAnswer, IsJobCut, IsPortAnswer, IsTextAnswer, IsToldCut, given_by}
-use Rattle.kept_sessions.specs.declared.found.Found.{Found}
+use Rattle.kept_sessions.specs.declared.job_result.JobResult.{JobResult}
 use Rattle.named_files.specs.declared.lost.Lost.{Lost}
 use Rattle.exchange.specs.declared.answered.Answered.{Answered}
 use Rattle.named_files.specs.declared.notes.NoAnswer.{NoAnswer}
@@ -49,13 +49,13 @@ no_ports (Err (missed.Refused why line)) before after is cut was t = (t.0, t.1, 
 no_ports (Err (missed.Unwritten what)) before after is cut was t = (t.0, t.1, tt, (t.3, refl))
 
 -- what sessions come to
-pub told_kept : (r : Result Found NoAnswer) (before after : Option (List ℕ)) (told : List ℕ) (is : List ℕ → Found → Type 0) (was : Ways) (ends : List SessionEnd) (cut : List ℕ → Type 0) → Appends before after told → IfOk r (is told) → IfErr r (λ m. IsRefused m × (told ≡ []) × (ends ≡ [])) → HasTold before after is (IsUnanswered was was ends) cut r
+pub told_kept : (r : Result JobResult NoAnswer) (before after : Option (List ℕ)) (told : List ℕ) (is : List ℕ → JobResult → Type 0) (was : Ways) (ends : List SessionEnd) (cut : List ℕ → Type 0) → Appends before after told → IfOk r (is told) → IfErr r (λ m. IsRefused m × (told ≡ []) × (ends ≡ [])) → HasTold before after is (IsUnanswered was was ends) cut r
 told_kept (Ok found) before after told is was ends cut first so refused = (told, first, so, tt)
 told_kept (Err (missed.Refused why line)) before after told is was ends cut first so refused = (told, first, tt, (refused.1, refl, refused.2))
 told_kept (Err (missed.Unwritten what)) before after told is was ends cut first so refused = absurd refused.0
 
 -- what comes of a job of texts
-pub told_texts : {C : Type 0} (r : Result Found NoAnswer) (out : Option (List ℕ)) (holds : List ℕ → List ℕ → Type 0) (received : C → Closed) (job : TextJob) (files : Files (List ℕ)) (given : Given) (ends : List SessionEnd) (receipts : Receipts C) (lost : Lost) (cut : List ℕ → Type 0)
+pub told_texts : {C : Type 0} (r : Result JobResult NoAnswer) (out : Option (List ℕ)) (holds : List ℕ → List ℕ → Type 0) (received : C → Closed) (job : TextJob) (files : Files (List ℕ)) (given : Given) (ends : List SessionEnd) (receipts : Receipts C) (lost : Lost) (cut : List ℕ → Type 0)
     → IfOk r (λ found. IsTextAnswer job files found.answer) → IfErr r IsRefused → ends ≡ [] → AreKept holds received (Texts job) None receipts → lost ≡ lost_none
     → HasTold out out (λ told found. (left : Option Account) × IsAnswerTo holds (Texts job) files given (response_of told found left given.ports ends) × AreKeptBut holds received (Texts job) left receipts lost) (IsUnanswered given.ports given.ports ends) cut r
 told_texts (Ok found) out holds received job files given ends receipts lost cut is refused none kept nothing =
@@ -64,7 +64,7 @@ told_texts (Err (missed.Refused why line)) out holds received job files given en
 told_texts (Err (missed.Unwritten what)) out holds received job files given ends receipts lost cut is refused none kept nothing = absurd refused
 
 -- what comes of a job of a switch
-pub told_ports : {C : Type 0} (r : Result Found NoAnswer) (before after : Option (List ℕ)) (holds : List ℕ → List ℕ → Type 0) (received : C → Closed) (job : PortJob) (files : Files (List ℕ)) (given : Given) (opens : Ways) (ends : List SessionEnd) (receipts : Receipts C) (lost : Lost) (cut : List ℕ → Type 0)
+pub told_ports : {C : Type 0} (r : Result JobResult NoAnswer) (before after : Option (List ℕ)) (holds : List ℕ → List ℕ → Type 0) (received : C → Closed) (job : PortJob) (files : Files (List ℕ)) (given : Given) (opens : Ways) (ends : List SessionEnd) (receipts : Receipts C) (lost : Lost) (cut : List ℕ → Type 0)
     → HasTold before after (λ told found. IsPortAnswer job files given.input given.ports opens told found.answer) (λ told. (told ≡ []) × (opens ≡ given.ports)) cut r → ends ≡ [] → AreKept holds received (OverPorts job) None receipts → lost ≡ lost_none
     → HasTold before after (λ told found. (left : Option Account) × IsAnswerTo holds (OverPorts job) files given (response_of told found left opens ends) × AreKeptBut holds received (OverPorts job) left receipts lost) (IsUnanswered given.ports opens ends) (λ told. cut told × (ends ≡ [])) r
 told_ports (Ok found) before after holds received job files given opens ends receipts lost cut t none kept nothing =
@@ -73,7 +73,7 @@ told_ports (Err (missed.Refused why line)) before after holds received job files
 told_ports (Err (missed.Unwritten what)) before after holds received job files given opens ends receipts lost cut t none kept nothing = (t.0, t.1, tt, (t.3, none))
 
 -- an answer to a job whose files were read
-pub finish : {C : Type 0} (r : Result Found NoAnswer) (done : Result Answered NoAnswer) (before after : Option (List ℕ)) (holds : List ℕ → List ℕ → Type 0) (received : C → Closed) (job : Job) (files : Files (List ℕ)) (rest : Option (List ℕ)) (given : Given) (opens : Ways) (ends : List SessionEnd) (receipts : Receipts C) (lost : Lost)
+pub finish : {C : Type 0} (r : Result JobResult NoAnswer) (done : Result Answered NoAnswer) (before after : Option (List ℕ)) (holds : List ℕ → List ℕ → Type 0) (received : C → Closed) (job : Job) (files : Files (List ℕ)) (rest : Option (List ℕ)) (given : Given) (opens : Ways) (ends : List SessionEnd) (receipts : Receipts C) (lost : Lost)
     → IsFinished r lost done → AreContents holds given.input (files_of job) files rest
     → HasTold before after (λ told found. (left : Option Account) × IsAnswerTo holds job files (given_by rest given.ports given.clients) (response_of told found left opens ends) × AreKeptBut holds received job left receipts lost) (IsUnanswered given.ports opens ends) (λ told. IsToldCut job files rest given.ports opens told × (ends ≡ [])) r
     → HasTold before after (λ told done. (left : Option Account) × IsJobAnswer holds given job (record { told = told; end = done.answer; left = left; ports = opens; ends = ends }) × AreKeptBut holds received job left receipts done.lost) (IsUnanswered given.ports opens ends) (IsJobCut holds given job opens ends) done
@@ -101,7 +101,7 @@ pub always_err : {X E : Type 0} (r : Result X E) (P : Type 0) → P → OnErr r 
 always_err (Ok x) P so = tt
 always_err (Err e) P so = so
 
-pub err_finished : (r : Result Found NoAnswer) (lost : Lost) (done : Result Answered NoAnswer) (P : Type 0) → IsFinished r lost done → OnErr r P → OnErr done P
+pub err_finished : (r : Result JobResult NoAnswer) (lost : Lost) (done : Result Answered NoAnswer) (P : Type 0) → IsFinished r lost done → OnErr r P → OnErr done P
 err_finished r lost (Ok done) P is so = tt
 err_finished (Ok found) lost (Err e) P is so = absurd is
 err_finished (Err m) lost (Err e) P is so = so

@@ -1,5 +1,5 @@
 -- The status of an answer is that of what is done, or that of a refusal.
-use Rattle.std.proofs.Common.{◌≡◌, ℕ, Bool, true, false, List, [], Option, Some, None, inl, inr, ◌⊎◌, ap}
+use Rattle.std.proofs.Common.{◌≡◌, ℕ, Bool, true, false, List, [], Option, Some, None, inl, inr, ◌⊎◌, ap, arith}
 use Rattle.batch_book.specs.History.{Account}
 use Rattle.board_wiring.specs.declared.board.Board.{Board}
 use Rattle.clap.specs.Words.{Text}
@@ -40,7 +40,13 @@ use Rattle.session_answers.specs.Serving.{refused, served}
 use Rattle.switch_driver.specs.Hearings.{Hearing}
 use Rattle.switch_driver.specs.declared.driving.Driven.{Driven}
 use Rattle.switch_driver.specs.declared.driving.Driven.TheVariants.{Completed, Halted, Stopped}
-use Rattle.switch_driver.specs.declared.stage.Halt.TheVariants.{Left, Unheard, Untold}
+use Rattle.switch_driver.specs.declared.drive_observer.Halt.TheVariants.{Left, Unheard, Untold}
+
+pub never_done : (status : ℕ) → status ≡ REFUSED → status ≡ DONE → ⊥
+never_done status is done = omega (arith, is, done)
+
+pub done_is : (status : ℕ) → status ≡ DONE → status ≡ REFUSED → ⊥
+done_is status done is = never_done status is done
 
 -- there was no answer
 pub gave_up : (run : Run) (reason : Unanswered) → run.prints (unanswered reason).text → HasGivenUp run

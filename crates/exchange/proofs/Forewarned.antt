@@ -30,7 +30,7 @@ pub tells_beside : {I O E : Type 0} (remaining : I → Option (List ℕ)) (conte
 tells_beside {I} {O} {E} remaining contents beside =
     record { none = λ s. (refl, inl (refl, refl)); more = once_more beside; tells = λ a n ns cue b told. told }
 
--- so it may have been told behind what stood there
+-- so it may have been told after what stood there
 pub may_have : {I O E : Type 0} (contents : E → Option (List ℕ)) (told tells : Warned I O E) (warning : Option (String Global)) (before after : Option (List ℕ))
     → told.warning ≡ warning → contents told.err.now ≡ before → after ≡ contents tells.err.now → IsWarnedOnce contents told tells → MayHaveWarned warning before after
 may_have {I} {O} {E} contents told tells warning before after is was now once =

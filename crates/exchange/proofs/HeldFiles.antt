@@ -1,13 +1,13 @@
 -- What the files of a job hold, of which one at most is standard input.
-use Rattle.std.proofs.Common.{◌≡◌, ◌≢◌, ◌∙◌, ◌<◌, ◌++◌, ℕ, suc, List, [], ◌∷◌, length, get_or, map, Option, Some, None, inr, refl, sym, subst, append_assoc, arith, AllPairs}
-use Rattle.std.specs.Prelude.{IfSome, option_to_list, unwrap_or, ⊤}
+use Rattle.std.proofs.Common.{◌≡◌, ◌≢◌, ◌∙◌, ◌<◌, ◌++◌, ℕ, suc, List, [], ◌∷◌, length, get_or, map, Option, inr, refl, sym, subst, append_assoc, arith, AllPairs}
+use Rattle.std.specs.Prelude.{IfSome, option_to_list, ⊤}
 use Rattle.std.specs.List.{AllByRecursion}
 use Rattle.clap.specs.Words.{Text}
 use Rattle.command_words.specs.Jobs.{AskFor, Files, HaveTwoNames, all_files, file, files_beside, files_of, files_read, input_name}
 use Rattle.command_words.specs.declared.jobs.Request.{Request}
 use Rattle.command_words.specs.declared.uses.Access.TheVariants.{Read}
 use Rattle.command_words.specs.declared.uses.FileUse.{FileUse}
-use Rattle.exchange.specs.Promises.{AreAllHeld, AreHeld, HoldsGiven, HoldsText}
+use Rattle.exchange.specs.Promises.{AreAllHeld, AreHeld, HoldsText}
 use Rattle.named_files.specs.Contents.{AreContents, AreRead, Holding, IsFileRead}
 
 -- ---- one of the names at most is that of standard input
@@ -48,16 +48,10 @@ reads_append holds a b c [] ys (u ∷ us) vs r s = absurd r
 reads_append holds a b c (x ∷ xs) ys [] vs r s = absurd r
 reads_append holds a b c (x ∷ xs) ys (u ∷ us) vs r s = (r.0, r.1, reads_append holds r.0 b c xs ys us vs r.2 s)
 
--- what was read behind others is what its file holds
+-- what was read after others is what its file holds
 held_at : (holds : Holding) (input : Option (List ℕ)) (front : List Text) (fs : List (List ℕ)) (mid : Option (List ℕ)) (name : Text) (text : List ℕ) (after : Option (List ℕ)) (rest : List Text) → Alone (front ++ name ∷ rest) → AreRead holds input front fs mid → IsFileRead holds mid name text after → HoldsText holds input name text
 held_at holds input front fs mid name text after rest a before read =
     (λ is. subst (λ (b : Option (List ℕ)). IfSome b (λ known. text ≡ known)) (pass holds input front fs mid (earlier front name rest a is) before) (read.0 is), λ other. (read.1 other).0)
-
-held_option : (holds : Holding) (input : Option (List ℕ)) (front : List Text) (fs : List (List ℕ)) (mid : Option (List ℕ)) (name : Option Text) (text : Option (List ℕ)) (after : Option (List ℕ)) (rest : List Text) → Alone (front ++ (option_to_list name ++ rest)) → AreRead holds input front fs mid → AreRead holds mid (option_to_list name) (option_to_list text) after → HoldsGiven (HoldsText holds input) name text
-held_option holds input front fs mid None None after rest a before read = tt
-held_option holds input front fs mid None (Some text) after rest a before read = absurd read
-held_option holds input front fs mid (Some name) None after rest a before read = absurd read
-held_option holds input front fs mid (Some name) (Some text) after rest a before read = held_at holds input front fs mid name text read.0 rest a before read.1
 
 held_all : (holds : Holding) (input : Option (List ℕ)) (front : List Text) (fs : List (List ℕ)) (mid : Option (List ℕ)) (names : List Text) (texts : List (List ℕ)) (after : Option (List ℕ)) (rest : List Text) → Alone (front ++ (names ++ rest)) → AreRead holds input front fs mid → AreRead holds mid names texts after → AreAllHeld (HoldsText holds input) names texts
 held_all holds input front fs mid [] [] after rest a before read = tt
@@ -82,10 +76,10 @@ held_contents holds input names files rest more a reads =
     let schedule = reads_append holds input reads.1 reads.2 (i ++ l) o (option_to_list files.image ++ option_to_list files.list) (option_to_list files.schedule) list reads.6 in
     let wiring = reads_append holds input reads.2 reads.3 ((i ++ l) ++ o) w ((option_to_list files.image ++ option_to_list files.list) ++ option_to_list files.schedule) (option_to_list files.wiring) schedule reads.7 in
     record {
-      image = held_option holds input [] [] input names.image files.image reads.0 (l ++ (o ++ (w ++ (s ++ more)))) flat refl image;
-      list = held_option holds input i (option_to_list files.image) reads.0 names.list files.list reads.1 (o ++ (w ++ (s ++ more))) flat image reads.5;
-      schedule = held_option holds input (i ++ l) (option_to_list files.image ++ option_to_list files.list) reads.1 names.schedule files.schedule reads.2 (w ++ (s ++ more)) (rw (append_assoc i l (o ++ (w ++ (s ++ more)))) flat) list reads.6;
-      wiring = held_option holds input ((i ++ l) ++ o) ((option_to_list files.image ++ option_to_list files.list) ++ option_to_list files.schedule) reads.2 names.wiring files.wiring reads.3 (s ++ more) (rw (append_assoc (i ++ l) o (w ++ (s ++ more)), append_assoc i l (o ++ (w ++ (s ++ more)))) flat) schedule reads.7;
+      image = held_all holds input [] [] input (option_to_list names.image) (option_to_list files.image) reads.0 (l ++ (o ++ (w ++ (s ++ more)))) flat refl image;
+      list = held_all holds input i (option_to_list files.image) reads.0 (option_to_list names.list) (option_to_list files.list) reads.1 (o ++ (w ++ (s ++ more))) flat image reads.5;
+      schedule = held_all holds input (i ++ l) (option_to_list files.image ++ option_to_list files.list) reads.1 (option_to_list names.schedule) (option_to_list files.schedule) reads.2 (w ++ (s ++ more)) (rw (append_assoc i l (o ++ (w ++ (s ++ more)))) flat) list reads.6;
+      wiring = held_all holds input ((i ++ l) ++ o) ((option_to_list files.image ++ option_to_list files.list) ++ option_to_list files.schedule) reads.2 (option_to_list names.wiring) (option_to_list files.wiring) reads.3 (s ++ more) (rw (append_assoc (i ++ l) o (w ++ (s ++ more)), append_assoc i l (o ++ (w ++ (s ++ more)))) flat) schedule reads.7;
       scripts = held_all holds input (((i ++ l) ++ o) ++ w) (((option_to_list files.image ++ option_to_list files.list) ++ option_to_list files.schedule) ++ option_to_list files.wiring) reads.3 s files.scripts rest more
           (rw (append_assoc ((i ++ l) ++ o) w (s ++ more), append_assoc (i ++ l) o (w ++ (s ++ more)), append_assoc i l (o ++ (w ++ (s ++ more)))) flat) wiring reads.8;
     }
@@ -94,9 +88,3 @@ held_contents holds input names files rest more a reads =
 pub held_files : (words : List Text) (request : Request) (holds : Holding) (input : Option (List ℕ)) (files : Files (List ℕ)) (rest : Option (List ℕ)) → AskFor words request → AreContents holds input (files_of request.job) files rest → AreHeld (HoldsText holds input) (files_of request.job) files
 held_files words request holds input files rest asks reads =
     held_contents holds input (files_of request.job) files rest _ (alone (files_read request.job) (files_beside request.job) asks.job.files.apart) reads
-
--- ---- a file that is there
-
-pub given_text : (holds : Text → List ℕ → Type 0) (name : Text) (file : Option (List ℕ)) → HoldsGiven holds (Some name) file → holds name (unwrap_or file [])
-given_text holds name None held = absurd held
-given_text holds name (Some text) held = held

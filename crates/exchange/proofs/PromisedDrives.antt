@@ -1,5 +1,5 @@
 -- The promise of `drive`.
-use Rattle.std.proofs.Common.{◌≡◌, ◌<◌, ◌≤◌, ◌+◌, ◌∙◌, ◌++◌, ℕ, zero, suc, Bool, true, false, not, List, [], ◌∷◌, length, Option, Some, None, Err, inl, inr, ◌⊎◌, refl, sym, ap, subst, append_assoc, arith}
+use Rattle.std.proofs.Common.{◌≡◌, ◌<◌, ◌≤◌, ◌+◌, ◌∙◌, ◌++◌, ℕ, zero, suc, Bool, true, false, not, List, [], ◌∷◌, length, Option, Some, None, Err, inl, inr, ◌⊎◌, refl, sym, ap, ap₂, subst, append_assoc, arith}
 use Rattle.std.specs.Prelude.{◌==◌, codes}
 use Rattle.std.specs.List.{AllByRecursion}
 use Rattle.std.proofs.lemmas.List.{append-nil}
@@ -12,9 +12,7 @@ use Rattle.board_wiring.specs.declared.board.Board.{Board as BoardText}
 use Rattle.c004_commands.specs.Commands.{text}
 use Rattle.c004_commands.specs.declared.command.Command.TheVariants.{Settle}
 use Rattle.clap.specs.Words.{Text}
-use Rattle.command_words.specs.Jobs.{AskFor, Files, files_of, schedule_in}
-use Rattle.command_words.specs.declared.jobs.Job.TheVariants.{Ports as OverPorts}
-use Rattle.command_words.specs.declared.jobs.PortJob.TheVariants.{Drive}
+use Rattle.command_words.specs.Jobs.{Files}
 use Rattle.crossbar.proofs.Conversed.{conversed_bytes}
 use Rattle.crossbar.specs.Pairs.{room_of, switch_of}
 use Rattle.crossbar.specs.Switch.{Switch}
@@ -28,21 +26,16 @@ use Rattle.crossbar.specs.declared.chip.Wiring.TheVariants.{Back, Board, Both, F
 use Rattle.crossbar.specs.declared.pair.Pair.{Pair}
 use Rattle.crossbar.specs.declared.traffic.Passing.{Passing}
 use Rattle.drive_answers.specs.Answers as drives
-use Rattle.drive_answers.specs.Answers.{IsDriveAnswer, IsDrivenOver, IsFirstDriveWrong, IsTried, is_wide_over, rack_for, switches_in}
+use Rattle.drive_answers.specs.Answers.{HasFailed, IsDriveAnswer, IsDrivenOver, IsFirstDriveWrong, IsTried, is_wide_over, rack_for, switches_in}
+use Rattle.drive_answers.specs.declared.fault.DriveFault.TheVariants as drive_fault
 use Rattle.drive_answers.specs.Endings.{completed_line, fault_words, left_line, stopped_line}
-use Rattle.drive_answers.specs.Ways.{IsUnopened, Names, Ways, how_many, used}
-use Rattle.exchange.proofs.AskedJobs.{JobsCome, Responded, ToldInPart, never_done, the_run}
-use Rattle.exchange.proofs.EndStatuses.{gave_up}
-use Rattle.exchange.proofs.HeldFiles.{given_text, held_files}
-use Rattle.exchange.proofs.PromisedRefusals.{done_is}
-use Rattle.exchange.proofs.PromisedPlans.{plan_is}
-use Rattle.exchange.proofs.PromisedRuns.{denoted, scheduled}
-use Rattle.exchange.proofs.PromisedSwitches.{HoldsBoard, schedule_of, wired_so}
-use Rattle.exchange.specs.Promises.{AreHeld, AreNoWays, HasAnswered, HasDriven, HasGivenUp, HasRefusedDrive, HasStopped, HoldsBatch, HoldsGiven, IsFirstWrongOn, IsScheduled, IsWired, Ports, Run, Stands, StoodInTurn, lines_told, SaySchedule, lacking, no_setting, ports_of, switches_of, texts_wrong, wiring_wrong}
-use Rattle.exchange.proofs.KeepsEach.{KeepsDrives, KeepsStops}
-use Rattle.exchange.specs.Responses.{Given as Knows, Named, source_in, text_in}
+use Rattle.drive_answers.specs.Ways.{IsUnopened, Names, how_many, used}
+use Rattle.exchange.proofs.EndStatuses.{done_is}
+use Rattle.exchange.proofs.PromisedRuns.{scheduled}
+use Rattle.exchange.proofs.PromisedSwitches.{batch_of, schedule_of}
+use Rattle.exchange.specs.Promises.{AreNoWays, FilesSaySchedule, HasAnswered, HasDriven, IsFirstWrongOn, IsRefusalLine, IsWired, Stands, StoodInTurn, World, lines_told, lacking, no_setting, switches_of, texts_wrong, wiring_wrong}
+use Rattle.exchange.specs.Responses.{source_in, text_in}
 use Rattle.link_graph.specs.Schedules.{IsScheduleOf}
-use Rattle.named_files.specs.declared.unanswered.Unanswered.TheVariants as why
 use Rattle.plan_answers.specs.Refusals.{IsRefused, Printed}
 use Rattle.plan_answers.specs.Schedules.{IsScheduleFrom}
 use Rattle.plan_answers.specs.declared.limits.TheConstants.{DONE, REFUSED}
@@ -53,12 +46,12 @@ use Rattle.rack_answers.specs.Boards.{joined_on}
 use Rattle.refusals.specs.Refusals.{refusal_words}
 use Rattle.refusals.specs.declared.refusal.Refusal.{Refusal}
 use Rattle.switch_driver.proofs.Telling.{replies_tell}
-use Rattle.switch_driver.specs.Driving.{EndsWith, HaveStood, Stood, standing_behind}
+use Rattle.switch_driver.specs.Driving.{EndsWith, HaveStood, Stood, standing_after}
 use Rattle.switch_driver.specs.Lines.{Dialogue, TellsLine, stage_line}
 use Rattle.switch_driver.specs.Steps.{Stands as StandsOn, changed, kept, settled_steps, wirings_of}
 use Rattle.switch_driver.specs.declared.driving.Driven.TheVariants.{Completed, Halted, Stopped}
-use Rattle.switch_driver.specs.declared.stage.Halt.{Halt}
-use Rattle.switch_driver.specs.declared.stage.Halt.TheVariants.{Left, Unheard, Untold}
+use Rattle.switch_driver.specs.declared.drive_observer.Halt.{Halt}
+use Rattle.switch_driver.specs.declared.drive_observer.Halt.TheVariants.{Left, Unheard, Untold}
 use Rattle.switch_settings.proofs.Turning.{ordered_switch}
 use Rattle.switch_settings.specs.Asking.{AreDone, BreakOff, Breaks, IsDone as IsStepDone, Step, ask, hear, miss, settle, turn}
 use Rattle.switch_settings.specs.Pairs.{all_enquiries}
@@ -80,7 +73,7 @@ passes_on known old new more same p = passes_some known new more (subst (λ (o :
 
 -- ---- one setting
 
--- it stood behind something more
+-- it stood after something more
 record Grows (old : List Passing) (new : Option (List Passing)) (P : List Passing → Type 0) : Type 0 where
   passed : List Passing
   more : List Passing
@@ -125,7 +118,7 @@ one_done wiring standing pairs old new d =
           all = r.all;
           agree = r.are;
           nothing_between = refl;
-          nothing_behind = refl;
+          nothing_after = refl;
           joins = λ switch same. replies_tell wiring pairs switch r.replies same r.are;
         },
         tt,
@@ -163,7 +156,7 @@ both_done standing pairs old new d =
           all = ra.all;
           agree = ra.are;
           nothing_between = conversed_bytes A B all_enquiries rb.replies;
-          nothing_behind = conversed_bytes A B (Settle ∷ []) [];
+          nothing_after = conversed_bytes A B (Settle ∷ []) [];
           joins = λ switch same. replies_tell Forth pairs switch ra.replies same ra.are;
         },
         (
@@ -176,7 +169,7 @@ both_done standing pairs old new d =
             all = rb.all;
             agree = rb.are;
             nothing_between = conversed_bytes B A (Settle ∷ []) [];
-            nothing_behind = refl;
+            nothing_after = refl;
             joins = λ switch same. replies_tell Back pairs switch rb.replies same rb.are;
           },
           tt,
@@ -223,7 +216,7 @@ module _ (board : Option BoardWiring) (wide : Bool) (batch : List Transfer) (set
 
   one_more : (first n : ℕ) (earlier : List Passing) (new : Option (List Passing)) → first + n < length settings
       → ((m : ℕ) → n ≡ suc m → AreAnswered (switches_of board wide) (pairs_at batch settings (first + m)) earlier)
-      → StandsOn (rack_for board wide) (standing_behind batch settings first n) (pairs_at batch settings (first + n)) (Some earlier) new
+      → StandsOn (rack_for board wide) (standing_after batch settings first n) (pairs_at batch settings (first + n)) (Some earlier) new
       → Grows earlier new (AreAnswered (switches_of board wide) (pairs_at batch settings (first + n)))
   one_more first n earlier new lt before (changed other d) = setting_done board wide _ _ earlier new d
   one_more first zero earlier new lt before (kept same nothing) = absurd (let bad : None ≡ Some (pairs_at batch settings (first + 0)) = same in cc)
@@ -306,103 +299,23 @@ many_switches (Some board) wide = refl
 many_switches None true = refl
 many_switches None false = refl
 
-driven : (run : Run) (batch : Text) (from : Source Text) (file : Option Text) (first : ℕ) (names : Names) (was opens : Ways) (waits : Bool) (text : List ℕ) (other : Option (List ℕ)) (board : Option BoardText) (filled : Option BoardWiring) (transfers : List Transfer) (settings : List (List ℕ)) (start final : Dialogue) (printed : Printed)
-    → run.holds batch text → HoldsGiven run.holds (schedule_in from) other → HoldsBoard run file board → start.told ≡ [] → run.prints (final.told ++ printed.text) → printed.status ≡ DONE
-    → IsScheduleFrom (source_in from (text_in other)) widest text transfers settings → HasWaysOn board transfers → IsFilled board filled
-    → IsTried (TellsLine waits) (rack_for filled (is_wide_over names transfers)) transfers settings first names was opens start final printed
-    → HasDriven run (record { names = names; before = was; after = opens }) batch from file first
-driven run batch from file first names was opens waits text other board filled transfers settings start final printed held held_schedule held_board none prints status is ways fills (drives.driven (Completed all) many over ends) =
-    let reads = denoted from other widest text transfers settings is in
-    let schedule = scheduled run from other widest text transfers settings held_schedule is in
-    let went = over.went in
-    let fits : IsBatch transfers = record { few = reads.few; within = reads.within } in
-    let g : Given filled (is_wide_over names transfers) transfers settings = record { fits = fits; is = schedule_of run from transfers settings schedule; has = all_joined board filled (how_many names == 2) transfers fits fills ways } in
-    let all_of : all ≡ length settings = went.0 in
-    let count = went.1.0 in
-    let sum : first + count ≡ length settings = went.1.1 ∙ all_of in
-    let t = have_stood filled (is_wide_over names transfers) transfers settings g waits first count start final over.carried (omega (arith, sum)) none went.1.2 in
-    record {
-      transfers = transfers;
-      settings = settings;
-      board = filled;
-      passed = t.passed;
-      count = count;
-      held = record { text = text; held = held; denotes = reads };
-      schedule = schedule;
-      wired = wired_so run file board transfers filled held_board ways fills;
-      ways = many ∙ many_switches filled (is_wide_over names transfers);
-      opened = over.ways ∙ ap (λ (c : Option (List Passing)). used names c over.failed was) t.known ∙ ap (λ (n : ℕ). used names (Some t.passed) n was) over.cause;
-      all = sum;
-      stood = t.stood;
-      prints = subst (λ (x : List ℕ). run.prints (x ++ completed_line (length settings))) t.lines
-          (subst (λ (n : ℕ). run.prints (final.told ++ completed_line n)) all_of (subst (λ (x : List ℕ). run.prints (final.told ++ x)) ends.0 prints));
-    }
-driven run batch from file first names was opens waits text other board filled transfers settings start final printed held held_schedule held_board none prints status is ways fills (drives.driven (Stopped k fault) many over ends) = absurd (never_done printed.status ends.1 status)
-driven run batch from file first names was opens waits text other board filled transfers settings start final printed held held_schedule held_board none prints status is ways fills (drives.driven (Halted k Left) many over ends) = absurd (never_done printed.status ends.1 status)
-driven run batch from file first names was opens waits text other board filled transfers settings start final printed held held_schedule held_board none prints status is ways fills (drives.driven (Halted k Unheard) many over ends) = absurd (never_done printed.status ends.1 status)
-driven run batch from file first names was opens waits text other board filled transfers settings start final printed held held_schedule held_board none prints status is ways fills (drives.driven (Halted k Untold) many over ends) = absurd ends
-driven run batch from file first names was opens waits text other board filled transfers settings start final printed held held_schedule held_board none prints status is ways fills (drives.unopened refusal why refuses same left) = absurd (never_done printed.status refuses.1.status status)
-
--- the board of the wiring's file
-board_held : (run : Run) (file : Option Text) (wiring : Option (List ℕ)) (board : Option BoardText) → HoldsGiven run.holds file wiring → IsBoardOf wiring board → HoldsBoard run file board
-board_held run None None None held of = tt
-board_held run None None (Some board) held of = absurd of
-board_held run None (Some text) board held of = absurd held
-board_held run (Some file) None board held of = absurd held
-board_held run (Some file) (Some text) None held of = absurd of
-board_held run (Some file) (Some text) (Some board) held of = (text, held, of)
-
-answered : (run : Run) (batch : Text) (from : Source Text) (file : Option Text) (first : ℕ) (names : Names) (was opens : Ways) (waits : Bool) (text : List ℕ) (other wiring : Option (List ℕ)) (start final : Dialogue) (printed : Printed)
-    → run.holds batch text → HoldsGiven run.holds (schedule_in from) other → HoldsGiven run.holds file wiring → start.told ≡ [] → run.prints (final.told ++ printed.text) → printed.status ≡ DONE
-    → IsDriveAnswer (TellsLine waits) (source_in from (text_in other)) text wiring first names was opens start final printed
-    → HasDriven run (record { names = names; before = was; after = opens }) batch from file first
-answered run batch from file first names was opens waits text other wiring start final printed held held_schedule held_wiring none prints status (drives.tried board filled transfers settings of is ways fills begins tries) =
-    driven run batch from file first names was opens waits text other board filled transfers settings start final printed held held_schedule (board_held run file wiring board held_wiring of) none prints status is ways fills tries
-answered run batch from file first names was opens waits text other wiring start final printed held held_schedule held_wiring none prints status (drives.wrong refusal wrong refuses same left) = absurd (never_done printed.status refuses.1.status status)
-
-done_so : (named : Named) (known : Knows) (after : Ways) (words : List Text) (prints : List ℕ → Type 0) (status : ℕ) (batch port : Text) (port_b : Option Text) (from : Source Text) (wiring : Option Text) (first : ℕ) (goes_on : Bool) (workers : ℕ) (quiet : Bool) → AskFor words (record { job = OverPorts (Drive batch port port_b from wiring first goes_on workers); is_quiet = quiet })
-    → Responded named known after (the_run named known words prints status) (OverPorts (Drive batch port port_b from wiring first goes_on workers)) → status ≡ DONE → HasDriven (the_run named known words prints status) (ports_of port port_b known.ports after) batch from wiring first
-done_so named known after words prints status batch port port_b from wiring first goes_on workers quiet asks r done = elim r.is [
-  | inl comes ↦
-      let is = comes.1 in
-      let run = the_run named known words prints status in
-      let held = held_files words (record { job = OverPorts (Drive batch port port_b from wiring first goes_on workers); is_quiet = quiet }) named.holds known.input is.0 is.1 asks is.2 in
-      let by = is.3.2 in
-      subst (λ (w : Ways). HasDriven run (ports_of port port_b known.ports w) batch from wiring first) r.ports_are
-      (answered run batch from wiring first (record { port = port; port_b = port_b }) known.ports r.response.ports (not goes_on) (text_in is.0.list) is.0.schedule is.0.wiring
-      (record { told = []; left = is.1 }) (record { told = r.response.told; left = by.0 }) r.response.end (given_text run.holds batch is.0.list held.list) held.schedule held.wiring refl r.prints (sym r.status ∙ done) by.1)
-  | inr none ↦ absurd (never_done status (r.status ∙ ap (λ (p : Printed). p.status) none.4.1) done)
-]
-
-pub keeps_drives : (named : Named) (known : Knows) (after : Ways) (words : List Text) (prints : List ℕ → Type 0) (status : ℕ) → JobsCome named known after (the_run named known words prints status) → KeepsDrives (the_run named known words prints status) known.ports after
-keeps_drives named known after words prints status come batch port port_b from wiring first goes_on workers done = elim (come (record { job = OverPorts (Drive batch port port_b from wiring first goes_on workers); is_quiet = done.0.0 }) done.0.1) [
-  | inl r ↦ done_so named known after words prints status batch port port_b from wiring first goes_on workers done.0.0 done.0.1 r done.1
-  | inr other ↦ elim other [
-    | inl cut ↦ absurd (never_done status cut.status done.1)
-    | inr none ↦ absurd (never_done status none.status done.1)
-  ]
-]
-
--- ---- where it ends early
-
 -- what is so of the texts, however the drive went
-record Read (run : Run) (batch : Text) (from : Source Text) (file : Option Text) (names : Names) (board : Option BoardWiring) (transfers : List Transfer) (settings : List (List ℕ)) : Type 0 where
-  held : HoldsBatch run batch transfers
-  schedule : IsScheduled run from transfers settings
-  wired : IsWired run file transfers board
+record Read (from : Source Text) (names : Names) (texts : Files (List ℕ)) (board : Option BoardWiring) (transfers : List Transfer) (settings : List (List ℕ)) : Type 0 where
+  said : FilesSaySchedule from texts transfers settings
+  wired : IsWired texts.wiring transfers board
   given : Given board (is_wide_over names transfers) transfers settings
 
-read_so : (run : Run) (batch : Text) (from : Source Text) (file : Option Text) (names : Names) (text : List ℕ) (other : Option (List ℕ)) (board : Option BoardText) (filled : Option BoardWiring) (transfers : List Transfer) (settings : List (List ℕ))
-    → run.holds batch text → HoldsGiven run.holds (schedule_in from) other → HoldsBoard run file board → IsScheduleFrom (source_in from (text_in other)) widest text transfers settings → HasWaysOn board transfers → IsFilled board filled → Read run batch from file names filled transfers settings
-read_so run batch from file names text other board filled transfers settings held held_schedule held_board is ways fills =
-    let reads = denoted from other widest text transfers settings is in
-    let fits : IsBatch transfers = record { few = reads.few; within = reads.within } in
-    let schedule = scheduled run from other widest text transfers settings held_schedule is in
+read_so : (from : Source Text) (names : Names) (texts : Files (List ℕ)) (board : Option BoardText) (filled : Option BoardWiring) (transfers : List Transfer) (settings : List (List ℕ))
+    → IsBoardOf texts.wiring board → IsScheduleFrom (source_in from (text_in texts.schedule)) widest (text_in texts.list) transfers settings → HasWaysOn board transfers → IsFilled board filled → Read from names texts filled transfers settings
+read_so from names texts board filled transfers settings of is ways fills =
+    let source = source_in from (text_in texts.schedule) in
+    let text = text_in texts.list in
+    let said = scheduled source text transfers settings is in
+    let fits = batch_of source text transfers settings is in
     record {
-      held = record { text = text; held = held; denotes = reads };
-      schedule = schedule;
-      wired = wired_so run file board transfers filled held_board ways fills;
-      given = record { fits = fits; is = schedule_of run from transfers settings schedule; has = all_joined board filled (how_many names == 2) transfers fits fills ways };
+      said = said;
+      wired = (board, of, fills, ways);
+      given = record { fits = fits; is = schedule_of source text transfers settings said; has = all_joined board filled (how_many names == 2) transfers fits fills ways };
     }
 
 more_lines : (settings : List (List ℕ)) (first n k : ℕ) → first + n ≡ k → lines_told settings first n ++ stage_line k (numbers_in settings k) ≡ lines_told settings first (n + 1)
@@ -421,16 +334,47 @@ ended_at Unheard waits old k numbers new which is = is.0
 ended_at Untold waits old k numbers new (inl which) is = absurd (cc)
 ended_at Untold waits old k numbers new (inr which) is = absurd (cc)
 
-module _ (run : Run) (batch : Text) (from : Source Text) (file : Option Text) (first : ℕ) (names : Names) (waits : Bool) (filled : Option BoardWiring) (transfers : List Transfer) (settings : List (List ℕ)) (start final : Dialogue) (r : Read run batch from file names filled transfers settings) (none : start.told ≡ []) where
+module _ (w : World) (from : Source Text) (first : ℕ) (names : Names) (texts : Files (List ℕ)) (waits : Bool) (filled : Option BoardWiring) (transfers : List Transfer) (settings : List (List ℕ)) (start final : Dialogue) (r : Read from names texts filled transfers settings) (none : start.told ≡ []) where
+  abbrev Stopping : Halt → ℕ → Option (List Passing) → Type 0
+  Stopping halt k carried = EndsWith (TellsLine waits) halt (rack_for filled (is_wide_over names transfers)) transfers settings first k (Some []) start carried final
+
+  abbrev Drove : List ℕ → Type 0
+  Drove printed = HasDriven w names from first texts printed
+
+  -- all settings stood
+  completed : (all : ℕ) (printed : Printed) → w.run.status ≡ DONE → how_many names ≡ switches_in (rack_for filled (is_wide_over names transfers))
+      → IsDrivenOver (TellsLine waits) (rack_for filled (is_wide_over names transfers)) transfers settings first (Completed all) names w.before w.after start final → printed.text ≡ completed_line all → Drove (final.told ++ printed.text)
+  completed all printed status many over line =
+      let went = over.went in
+      let all_of : all ≡ length settings = went.0 in
+      let sum : first + went.1.0 ≡ length settings = went.1.1 ∙ all_of in
+      let t = have_stood filled (is_wide_over names transfers) transfers settings r.given waits first went.1.0 start final over.carried (omega (arith, sum)) none went.1.2 in
+      record {
+        transfers = transfers;
+        settings = settings;
+        board = filled;
+        earlier = t.passed;
+        more = [];
+        count = went.1.0;
+        failed = 0;
+        line = completed_line (length settings);
+        said = r.said;
+        wired = r.wired;
+        opened = over.ways ∙ ap (λ (c : Option (List Passing)). used names c over.failed w.before) (t.known ∙ ap Some (sym (append-nil t.passed))) ∙ ap (λ (n : ℕ). used names (Some (t.passed ++ [])) n w.before) over.cause;
+        stood = t.stood;
+        all = λ done. (many ∙ many_switches filled (is_wide_over names transfers), sum, refl, refl, refl);
+        last = λ refused. absurd (done_is w.run.status status refused);
+        prints = ap₂ (λ (x y : List ℕ). x ++ y) t.lines (line ∙ ap (λ (n : ℕ). completed_line n) all_of);
+      }
+
   -- what was told before the last setting that stood
-  told_before : (halt : Halt) (k : ℕ) (carried : Option (List Passing)) → (went : EndsWith (TellsLine waits) halt (rack_for filled (is_wide_over names transfers)) transfers settings first k (Some []) start carried final) → went.telling.told ≡ lines_told settings first went.count
+  told_before : (halt : Halt) (k : ℕ) (carried : Option (List Passing)) → (went : Stopping halt k carried) → went.telling.told ≡ lines_told settings first went.count
   told_before halt k carried went = (have_stood filled (is_wide_over names transfers) transfers settings r.given waits first went.count start went.telling went.mid (omega (arith, went.at, went.within)) none went.before).lines
 
   -- it stood itself, and nothing more passed
-  last_stood : (was opens : Ways) (halt : Halt) (k : ℕ) (line : List ℕ) (carried : Option (List Passing)) (failed : ℕ) → (went : EndsWith (TellsLine waits) halt (rack_for filled (is_wide_over names transfers)) transfers settings first k (Some []) start carried final)
-      → opens ≡ used names carried failed was → (line ≡ left_line k) ⊎ (line ≡ stopped_line k (codes "input")) → run.prints (lines_told settings first (went.count + 1) ++ line)
-      → HasStopped run (record { names = names; before = was; after = opens }) batch from file first
-  last_stood was opens halt k line carried failed went ways is prints =
+  last_stood : (halt : Halt) (k : ℕ) (line : List ℕ) (carried : Option (List Passing)) (failed : ℕ) → w.run.status ≡ REFUSED → (went : Stopping halt k carried) → w.after ≡ used names carried failed w.before → (line ≡ left_line k) ⊎ (line ≡ stopped_line k (codes "input"))
+      → Drove (lines_told settings first (went.count + 1) ++ line)
+  last_stood halt k line carried failed status went ways is =
       let t = have_stood filled (is_wide_over names transfers) transfers settings r.given waits first went.count start went.telling went.mid (omega (arith, went.at, went.within)) none went.before in
       let grown = one_more filled (is_wide_over names transfers) transfers settings r.given first went.count t.passed carried (omega (arith, went.at, went.within)) t.last (subst (λ (o : Option (List Passing)). Stood (rack_for filled (is_wide_over names transfers)) transfers settings first went.count o carried) t.known went.stood) in
       record {
@@ -442,20 +386,17 @@ module _ (run : Run) (batch : Text) (from : Source Text) (file : Option Text) (f
         count = went.count + 1;
         failed = failed;
         line = line;
-        held = r.held;
-        schedule = r.schedule;
+        said = r.said;
         wired = r.wired;
-        opened = ways ∙ ap (λ (c : Option (List Passing)). used names c failed was) (grown.known ∙ ap Some (sym (append-nil grown.passed)));
+        opened = ways ∙ ap (λ (c : Option (List Passing)). used names c failed w.before) (grown.known ∙ ap Some (sym (append-nil grown.passed)));
         stood = stood_more filled (is_wide_over names transfers) transfers settings first went.count t.passed grown.more grown.passed grown.parts t.stood (turned_all filled (is_wide_over names transfers) transfers settings r.given (first + went.count) (pairs_at transfers settings (first + went.count)) grown.passed refl (omega (arith, went.at, went.within)) grown.is);
-        last = inr (k, omega (arith, went.at), went.within, omega (arith, went.at), refl, is);
-        prints = prints;
+        all = λ done. absurd (done_is w.run.status done status);
+        last = λ refused. inr (k, omega (arith, went.at), went.within, omega (arith, went.at), refl, is);
+        prints = refl;
       }
 
-module _ (run : Run) (batch : Text) (from : Source Text) (file : Option Text) (first : ℕ) (names : Names) (was opens : Ways) (waits : Bool) (filled : Option BoardWiring) (transfers : List Transfer) (settings : List (List ℕ)) (start final : Dialogue) (printed : Printed)
-    (r : Read run batch from file names filled transfers settings) (none : start.told ≡ []) (prints : run.prints (final.told ++ printed.text)) where
-  stopped_at : (k : ℕ) (fault : SettingFault) → IsDrivenOver (TellsLine waits) (rack_for filled (is_wide_over names transfers)) transfers settings first (Stopped k fault) names was opens start final → printed.text ≡ stopped_line k (fault_words fault)
-      → HasStopped run (record { names = names; before = was; after = opens }) batch from file first
-  stopped_at k fault over line =
+  stopped_at : (k : ℕ) (fault : SettingFault) (printed : Printed) → w.run.status ≡ REFUSED → IsDrivenOver (TellsLine waits) (rack_for filled (is_wide_over names transfers)) transfers settings first (Stopped k fault) names w.before w.after start final → printed.text ≡ stopped_line k (fault_words fault) → Drove (final.told ++ printed.text)
+  stopped_at k fault printed status over line =
       let went = over.went in
       let t = have_stood filled (is_wide_over names transfers) transfers settings r.given waits first went.count start final went.mid (omega (arith, went.at, went.within)) none went.before in
       let f = break_front fault _ _ (settled_steps (wirings_of (rack_for filled (is_wide_over names transfers)))) t.passed went.mid over.carried t.known went.vain.1 in
@@ -468,28 +409,23 @@ module _ (run : Run) (batch : Text) (from : Source Text) (file : Option Text) (f
         count = went.count;
         failed = over.failed;
         line = stopped_line k (fault_words fault);
-        held = r.held;
-        schedule = r.schedule;
+        said = r.said;
         wired = r.wired;
-        opened = over.ways ∙ ap (λ (c : Option (List Passing)). used names c over.failed was) f.1;
+        opened = over.ways ∙ ap (λ (c : Option (List Passing)). used names c over.failed w.before) f.1;
         stood = t.stood;
-        last = inl (fault, omega (arith, went.at, went.within), ap (λ (n : ℕ). stopped_line n (fault_words fault)) (sym went.at));
-        prints = subst (λ (x : List ℕ). run.prints (x ++ stopped_line k (fault_words fault))) t.lines (subst (λ (x : List ℕ). run.prints (final.told ++ x)) line prints);
+        all = λ done. absurd (done_is w.run.status done status);
+        last = λ refused. inl (fault, omega (arith, went.at, went.within), ap (λ (n : ℕ). stopped_line n (fault_words fault)) (sym went.at));
+        prints = ap₂ (λ (x y : List ℕ). x ++ y) t.lines line;
       }
 
-  left_at : (halt : Halt) (k : ℕ) (line : List ℕ) (carried : Option (List Passing)) (failed : ℕ) → (halt ≡ Left) ⊎ (halt ≡ Unheard) → EndsWith (TellsLine waits) halt (rack_for filled (is_wide_over names transfers)) transfers settings first k (Some []) start carried final
-      → opens ≡ used names carried failed was → printed.text ≡ line → (line ≡ left_line k) ⊎ (line ≡ stopped_line k (codes "input"))
-      → HasStopped run (record { names = names; before = was; after = opens }) batch from file first
-  left_at halt k line carried failed which went ways text is =
+  left_at : (halt : Halt) (k : ℕ) (line : List ℕ) (carried : Option (List Passing)) (failed : ℕ) (printed : Printed) → w.run.status ≡ REFUSED → (halt ≡ Left) ⊎ (halt ≡ Unheard) → Stopping halt k carried → w.after ≡ used names carried failed w.before → printed.text ≡ line → (line ≡ left_line k) ⊎ (line ≡ stopped_line k (codes "input"))
+      → Drove (final.told ++ printed.text)
+  left_at halt k line carried failed printed status which went ways text is =
       let told : final.told ≡ lines_told settings first (went.count + 1) = ended_at halt waits went.telling k (numbers_in settings k) final which went.said
-      ∙ ap (λ (x : List ℕ). x ++ stage_line k (numbers_in settings k)) (told_before run batch from file first names waits filled transfers settings start final r none halt k carried went) ∙ more_lines settings first went.count k went.at in
-      last_stood run batch from file first names waits filled transfers settings start final r none was opens halt k line carried failed went ways is (subst (λ (x : List ℕ). run.prints (x ++ line)) told (subst (λ (x : List ℕ). run.prints (final.told ++ x)) text prints))
+      ∙ ap (λ (x : List ℕ). x ++ stage_line k (numbers_in settings k)) (told_before halt k carried went) ∙ more_lines settings first went.count k went.at in
+      subst Drove (ap₂ (λ (x y : List ℕ). x ++ y) (sym told) (sym text)) (last_stood halt k line carried failed status went ways is)
 
 -- what is first wrong with the texts
-says : (from : Source (List ℕ)) (text : List ℕ) (batch : List Transfer) (settings : List (List ℕ)) → IsScheduleFrom from widest text batch settings → SaySchedule from text batch settings
-says (source.Plan planning) text batch settings is = (is.0, plan_is planning batch settings is.1.0 is.1.1)
-says (source.Text schedule) text batch settings is = is
-
 not_less : (a b : ℕ) → (a < b → ⊥) → b ≤ a
 not_less a b none = omega (arith, none)
 
@@ -502,100 +438,57 @@ wrong_on from text wiring first refusal (drives.wiring_wrong fault wrong is) = w
 wrong_on from text wiring first refusal (drives.lacking board of lacks) = lacking board of lacks
 wrong_on from text wiring first refusal (drives.texts_wrong board of wrong has) = texts_wrong board of wrong has
 wrong_on from text wiring first refusal (drives.no_setting board batch settings of is ways other same) =
-    let begun = not_begun first (length settings) other in no_setting board batch settings of (says from text batch settings is) ways begun.0 begun.1 same
+    let begun = not_begun first (length settings) other in no_setting board batch settings of (scheduled from text batch settings is) ways begun.0 begun.1 same
 
--- the refusal was all that was printed, and no port was opened
-refused_so : (run : Run) (ports : Ports) (batch port : Text) (port_b : Option Text) (from : Source Text) (file : Option Text) (first : ℕ) (goes_on : Bool) (workers : ℕ) (texts : Files (List ℕ)) (refusal : Refusal) (start final : Dialogue) (printed : Printed)
-    → AreHeld run.holds (files_of (OverPorts (Drive batch port port_b from file first goes_on workers))) texts → start.told ≡ [] → final ≡ start → run.prints (final.told ++ printed.text) → IsRefused (refusal_words refusal) printed → ports.after ≡ ports.before
-    → IsFirstWrongOn (source_in from (text_in texts.schedule)) (text_in texts.list) texts.wiring first refusal ⊎ AreNoWays (source_in from (text_in texts.schedule)) (text_in texts.list) texts.wiring ports refusal
-    → HasRefusedDrive run ports (OverPorts (Drive batch port port_b from file first goes_on workers)) from first
-refused_so run ports batch port port_b from file first goes_on workers texts refusal start final printed held none same prints line left wrong =
-    let told : final.told ≡ [] = ap (λ (d : Dialogue). d.told) same ∙ none in
-    record {
-      texts = texts;
-      refusal = refusal;
-      held = held;
-      wrong = wrong;
-      prints = subst run.prints line.line (subst (λ (x : List ℕ). run.prints (x ++ printed.text)) told prints);
-      unopened = left;
-    }
+-- what a drive printed, or its refusal; then no port was opened
+abbrev pub DroveOr : World → Names → Source Text → ℕ → Files (List ℕ) → List ℕ → Type 0
+DroveOr w names from first texts printed =
+    HasDriven w names from first texts printed
+    ⊎ ((IsRefusalLine (λ refusal. IsFirstWrongOn (source_in from (text_in texts.schedule)) (text_in texts.list) texts.wiring first refusal ⊎ AreNoWays names from texts refusal) printed
+    × (w.after ≡ w.before)) × (w.run.status ≡ REFUSED))
 
-module _ (run : Run) (batch port : Text) (port_b : Option Text) (from : Source Text) (file : Option Text) (first : ℕ) (goes_on : Bool) (workers : ℕ) (texts : Files (List ℕ)) (was opens : Ways) (start final : Dialogue) (printed : Printed)
-    (held : AreHeld run.holds (files_of (OverPorts (Drive batch port port_b from file first goes_on workers))) texts) (none : start.told ≡ []) (prints : run.prints (final.told ++ printed.text)) (status : printed.status ≡ REFUSED) where
-  abbrev Ended1 : Type 0
-  Ended1 = HasStopped run (ports_of port port_b was opens) batch from file first ⊎ HasRefusedDrive run (ports_of port port_b was opens) (OverPorts (Drive batch port port_b from file first goes_on workers)) from first
+module _ (w : World) (from : Source Text) (first : ℕ) (names : Names) (texts : Files (List ℕ)) (goes_on : Bool) where
+  module _ (start final : Dialogue) (printed : Printed) (none : start.told ≡ []) (status : w.run.status ≡ printed.status) where
+    -- the refusal was all that was printed, and no port was opened
+    refused_so : (refusal : Refusal) → final ≡ start → IsRefused (refusal_words refusal) printed → w.after ≡ w.before
+        → IsFirstWrongOn (source_in from (text_in texts.schedule)) (text_in texts.list) texts.wiring first refusal ⊎ AreNoWays names from texts refusal → DroveOr w names from first texts (final.told ++ printed.text)
+    refused_so refusal same line left wrong =
+        let told : final.told ≡ [] = ap (λ (d : Dialogue). d.told) same ∙ none in
+        inr (((refusal, wrong, ap (λ (x : List ℕ). x ++ printed.text) told ∙ line.line), left), status ∙ line.status)
 
-  tried_so : (board : Option BoardText) (filled : Option BoardWiring) (transfers : List Transfer) (settings : List (List ℕ)) → Read run batch from file (record { port = port; port_b = port_b }) filled transfers settings
-      → ((refusal : Refusal) → IsUnopened (record { port = port; port_b = port_b }) (switches_in (rack_for filled (is_wide_over (record { port = port; port_b = port_b }) transfers))) refusal → AreNoWays (source_in from (text_in texts.schedule)) (text_in texts.list) texts.wiring (ports_of port port_b was opens) refusal)
-      → IsTried (TellsLine (not goes_on)) (rack_for filled (is_wide_over (record { port = port; port_b = port_b }) transfers)) transfers settings first (record { port = port; port_b = port_b }) was opens start final printed → Ended1
-  tried_so board filled transfers settings r no_ways (drives.driven (Completed all) many over ends) = absurd (done_is printed.status ends.1 status)
-  tried_so board filled transfers settings r no_ways (drives.driven (Stopped k fault) many over ends) =
-      inl (stopped_at run batch from file first (record { port = port; port_b = port_b }) was opens (not goes_on) filled transfers settings start final printed r none prints k fault over ends.0)
-  tried_so board filled transfers settings r no_ways (drives.driven (Halted k Left) many over ends) =
-      inl (left_at run batch from file first (record { port = port; port_b = port_b }) was opens (not goes_on) filled transfers settings start final printed r none prints Left k (left_line k) over.carried over.failed (inl refl) over.went over.ways ends.0 (inl refl))
-  tried_so board filled transfers settings r no_ways (drives.driven (Halted k Unheard) many over ends) =
-      inl (left_at run batch from file first (record { port = port; port_b = port_b }) was opens (not goes_on) filled transfers settings start final printed r none prints Unheard k (stopped_line k (codes "input")) over.carried over.failed (inr refl) over.went over.ways ends.0 (inr refl))
-  tried_so board filled transfers settings r no_ways (drives.driven (Halted k Untold) many over ends) = absurd ends
-  tried_so board filled transfers settings r no_ways (drives.unopened refusal why refuses same left) =
-      inr (refused_so run (ports_of port port_b was opens) batch port port_b from file first goes_on workers texts refusal start final printed held none same prints refuses.1 left (inr (no_ways refusal why)))
+    tried_so : (filled : Option BoardWiring) (transfers : List Transfer) (settings : List (List ℕ)) → Read from names texts filled transfers settings
+        → IsTried (TellsLine (not goes_on)) (rack_for filled (is_wide_over names transfers)) transfers settings first names w.before w.after start final printed → DroveOr w names from first texts (final.told ++ printed.text)
+    tried_so filled transfers settings r (drives.driven (Completed all) many over ends) =
+        inl (completed w from first names texts (not goes_on) filled transfers settings start final r none all printed (status ∙ ends.1) many over ends.0)
+    tried_so filled transfers settings r (drives.driven (Stopped k fault) many over ends) =
+        inl (stopped_at w from first names texts (not goes_on) filled transfers settings start final r none k fault printed (status ∙ ends.1) over ends.0)
+    tried_so filled transfers settings r (drives.driven (Halted k Left) many over ends) =
+        inl (left_at w from first names texts (not goes_on) filled transfers settings start final r none Left k (left_line k) over.carried over.failed printed (status ∙ ends.1) (inl refl) over.went over.ways ends.0 (inl refl))
+    tried_so filled transfers settings r (drives.driven (Halted k Unheard) many over ends) =
+        inl (left_at w from first names texts (not goes_on) filled transfers settings start final r none Unheard k (stopped_line k (codes "input")) over.carried over.failed printed (status ∙ ends.1) (inr refl) over.went over.ways ends.0 (inr refl))
+    tried_so filled transfers settings r (drives.driven (Halted k Untold) many over ends) = absurd ends
+    tried_so filled transfers settings r (drives.unopened refusal why refuses same left) =
+        refused_so refusal same refuses.1 left (inr (transfers, settings, filled, r.said, r.wired, subst (λ (n : ℕ). IsUnopened names n refusal) (many_switches filled (is_wide_over names transfers)) why))
 
-  stops_so : IsDriveAnswer (TellsLine (not goes_on)) (source_in from (text_in texts.schedule)) (text_in texts.list) texts.wiring first (record { port = port; port_b = port_b }) was opens start final printed → Ended1
-  stops_so (drives.tried board filled transfers settings of is ways fills begins tries) =
-      tried_so board filled transfers settings (read_so run batch from file (record { port = port; port_b = port_b }) (text_in texts.list) texts.schedule board filled transfers settings (given_text run.holds batch texts.list held.list) held.schedule (board_held run file texts.wiring board held.wiring of) is ways fills)
-      (λ refusal why. (board, filled, transfers, settings, of, fills, says (source_in from (text_in texts.schedule)) (text_in texts.list) transfers settings is, subst (λ (n : ℕ). IsUnopened (record { port = port; port_b = port_b }) n refusal) (many_switches filled (is_wide_over (record { port = port; port_b = port_b }) transfers)) why)) tries
-  stops_so (drives.wrong refusal wrong refuses same left) =
-      inr (refused_so run (ports_of port port_b was opens) batch port port_b from file first goes_on workers texts refusal start final printed held none same prints refuses.1 left (inl (wrong_on _ (text_in texts.list) texts.wiring first refusal wrong)))
-
-module _ (named : Named) (known : Knows) (after : Ways) (words : List Text) (prints : List ℕ → Type 0) (status : ℕ) (batch port : Text) (port_b : Option Text) (from : Source Text) (wiring : Option Text) (first : ℕ) (goes_on : Bool) (workers : ℕ) (quiet : Bool)
-    (asks : AskFor words (record { job = OverPorts (Drive batch port port_b from wiring first goes_on workers); is_quiet = quiet })) where
-  abbrev Stopped1 : Type 0
-  Stopped1 = HasStopped (the_run named known words prints status) (ports_of port port_b known.ports after) batch from wiring first
-
-  refused_or : Responded named known after (the_run named known words prints status) (OverPorts (Drive batch port port_b from wiring first goes_on workers)) → status ≡ REFUSED
-      → Stopped1 ⊎ (HasRefusedDrive (the_run named known words prints status) (ports_of port port_b known.ports after) (OverPorts (Drive batch port port_b from wiring first goes_on workers)) from first ⊎ (HasGivenUp (the_run named known words prints status) × (after ≡ known.ports)))
-  refused_or r refused = elim r.is [
-    | inl comes ↦
-        let is = comes.1 in
-        let run = the_run named known words prints status in
-        let held = held_files words (record { job = OverPorts (Drive batch port port_b from wiring first goes_on workers); is_quiet = quiet }) named.holds known.input is.0 is.1 asks is.2 in
-        let by = is.3.2 in
-        let came = stops_so run batch port port_b from wiring first goes_on workers is.0 known.ports r.response.ports (record { told = []; left = is.1 }) (record { told = r.response.told; left = by.0 }) r.response.end held refl r.prints (sym r.status ∙ refused) by.1 in
-        let moved = subst (λ (w : Ways). HasStopped run (ports_of port port_b known.ports w) batch from wiring first ⊎ HasRefusedDrive run (ports_of port port_b known.ports w) (OverPorts (Drive batch port port_b from wiring first goes_on workers)) from first) r.ports_are came in
-        elim moved [
-          | inl stopped ↦ inl stopped
-          | inr refuses ↦ inr (inl refuses)
-        ]
-    | inr none ↦
-        let text = subst (λ (told : List ℕ). prints (told ++ r.response.end.text)) none.0 r.prints in
-        inr (inr (gave_up (the_run named known words prints status) none.4.0 (subst (λ (p : Printed). prints p.text) none.4.1 text), sym r.ports_are ∙ none.1))
-  ]
+    pub drove_so : IsDriveAnswer (TellsLine (not goes_on)) (source_in from (text_in texts.schedule)) (text_in texts.list) texts.wiring first names w.before w.after start final printed → DroveOr w names from first texts (final.told ++ printed.text)
+    drove_so (drives.tried board filled transfers settings of is ways fills begins tries) = tried_so filled transfers settings (read_so from names texts board filled transfers settings of is ways fills) tries
+    drove_so (drives.wrong refusal wrong refuses same left) = refused_so refusal same refuses.1 left (inl (wrong_on _ (text_in texts.list) texts.wiring first refusal wrong))
 
   -- settings stood, and the line of the last one couldn't all be written
-  cut_so : ToldInPart named known after (the_run named known words prints status) (OverPorts (Drive batch port port_b from wiring first goes_on workers)) → Stopped1
-  cut_so t =
-      let is = t.cut in
-      let run = the_run named known words prints status in
-      let held = held_files words (record { job = OverPorts (Drive batch port port_b from wiring first goes_on workers); is_quiet = quiet }) named.holds known.input is.0 is.1 asks is.2 in
-      let failed = is.3.1 in
-      let over = failed.8.1 in
-      let start : Dialogue = record { told = []; left = is.1 } in
-      let final : Dialogue = record { told = t.told; left = is.3.0 } in
-      let read = read_so run batch from wiring (record { port = port; port_b = port_b }) (text_in is.0.list) is.0.schedule failed.0 failed.1 failed.2 failed.3 (given_text run.holds batch is.0.list held.list) held.schedule (board_held run wiring is.0.wiring failed.0 held.wiring failed.4) failed.5 failed.6 failed.7 in
-      let lines = told_before run batch from wiring first (record { port = port; port_b = port_b }) (not goes_on) failed.1 failed.2 failed.3 start final read refl Untold failed.8.0 over.carried over.went in
+  pub cut_so : (input left : Option (List ℕ)) (told : List ℕ) → w.run.status ≡ REFUSED
+      → HasFailed (TellsLine (not goes_on)) (source_in from (text_in texts.schedule)) (text_in texts.list) texts.wiring first names w.before w.after (record { told = []; left = input }) (record { told = told; left = left }) drive_fault.Untold
+      → (missing : List ℕ) × HasDriven w names from first texts (told ++ missing)
+  cut_so input left told status failed =
+      let over = failed.8.2 in
+      let start : Dialogue = record { told = []; left = input } in
+      let final : Dialogue = record { told = told; left = left } in
+      let read = read_so from names texts failed.0 failed.1 failed.2 failed.3 failed.4 failed.5 failed.6 failed.7 in
+      let lines = told_before w from first names texts (not goes_on) failed.1 failed.2 failed.3 start final read refl Untold failed.8.0 over.carried over.went in
       let said = over.went.said in
       let line = stage_line failed.8.0 (numbers_in failed.3 failed.8.0) in
       let more = said.1 ++ left_line failed.8.0 in
-      let whole : t.told ++ more ≡ lines_told failed.3 first (over.went.count + 1) ++ left_line failed.8.0 =
+      let whole : told ++ more ≡ lines_told failed.3 first (over.went.count + 1) ++ left_line failed.8.0 =
       ap (λ (x : List ℕ). x ++ more) (said.3 ∙ ap (λ (x : List ℕ). x ++ said.0) lines) ∙ append_assoc (lines_told failed.3 first over.went.count) said.0 more
       ∙ ap (λ (x : List ℕ). lines_told failed.3 first over.went.count ++ x) (sym (append_assoc said.0 said.1 (left_line failed.8.0)) ∙ ap (λ (x : List ℕ). x ++ left_line failed.8.0) (sym said.2))
       ∙ sym (append_assoc (lines_told failed.3 first over.went.count) line (left_line failed.8.0)) ∙ ap (λ (x : List ℕ). x ++ left_line failed.8.0) (more_lines failed.3 first over.went.count failed.8.0 over.went.at) in
-      last_stood run batch from wiring first (record { port = port; port_b = port_b }) (not goes_on) failed.1 failed.2 failed.3 start final read refl known.ports after Untold failed.8.0 (left_line failed.8.0) over.carried over.failed over.went over.ways (inl refl) (subst prints whole (t.prints more))
-
-pub keeps_stops : (named : Named) (known : Knows) (after : Ways) (words : List Text) (prints : List ℕ → Type 0) (status : ℕ) → JobsCome named known after (the_run named known words prints status) → KeepsStops (the_run named known words prints status) known.ports after
-keeps_stops named known after words prints status come batch port port_b from wiring first goes_on workers asks refused = elim (come (record { job = OverPorts (Drive batch port port_b from wiring first goes_on workers); is_quiet = asks.0 }) asks.1) [
-  | inl r ↦ refused_or named known after words prints status batch port port_b from wiring first goes_on workers asks.0 asks.1 r refused
-  | inr other ↦ elim other [
-    | inl cut ↦ inl (cut_so named known after words prints status batch port port_b from wiring first goes_on workers asks.0 asks.1 cut)
-    | inr none ↦ inr (inr (gave_up (the_run named known words prints status) why.NoMemory none.prints, none.ports_are))
-  ]
-]
+      (more, subst (HasDriven w names from first texts) (sym whole) (last_stood w from first names texts (not goes_on) failed.1 failed.2 failed.3 start final read refl Untold failed.8.0 (left_line failed.8.0) over.carried over.failed status over.went over.ways (inl refl)))

@@ -1,5 +1,5 @@
 -- The promises of what isn't asked for: no port, no file and no client's is opened for it.
-use Rattle.std.proofs.Common.{◌≡◌, ◌∙◌, ℕ, List, [], Option, Some, None, Result, Ok, Err, OnErr, inl, inr, ◌⊎◌, refl, sym, ap, subst}
+use Rattle.std.proofs.Common.{◌≡◌, ◌∙◌, ℕ, Bool, true, List, [], Option, Some, None, Result, Ok, Err, OnErr, inl, inr, ◌⊎◌, refl, sym, ap, subst}
 use Rattle.std.specs.Prelude.{option_map}
 use Rattle.std.specs.Io.KnownBytes.{Appends}
 use Rattle.std.proofs.KnownBytes.{Appends-nil}
@@ -9,125 +9,87 @@ use Rattle.clap.specs.Words.{IsAmong, Text}
 use Rattle.clap.specs.declared.error.Error.{Error}
 use Rattle.clap.specs.declared.error.kind.ErrorKind.{ErrorKind}
 use Rattle.clap.specs.declared.error.kind.ErrorKind.TheVariants.{DisplayHelp, DisplayVersion}
-use Rattle.command_words.specs.Jobs.{Files, IsFaultIn, faults_of, recorded_in}
+use Rattle.command_words.specs.Jobs.{AskFor, Files, IsFaultIn, faults_of}
 use Rattle.command_words.specs.declared.jobs.ArgumentsFault.TheVariants.{Clap, NoMemory}
 use Rattle.command_words.specs.declared.jobs.Job.{Job}
 use Rattle.command_words.specs.declared.jobs.Job.TheVariants.{Ports as OverPorts, Sessions, Texts}
 use Rattle.command_words.specs.declared.jobs.PortJob.TheVariants.{C004, Drive}
 use Rattle.command_words.specs.declared.jobs.SessionJob.TheVariants.{Host, Serve, Talk}
-use Rattle.command_words.specs.declared.jobs.RecordFile.{RecordFile}
 use Rattle.command_words.specs.declared.jobs.Request.{Request}
-use Rattle.command_words.specs.declared.jobs.SharedRack.{SharedRack}
 use Rattle.drive_answers.specs.Ways.{Ways}
-use Rattle.exchange.proofs.AskedJobs.{Ended, EndsSo, KeepsSo, end_of, ended_run}
+use Rattle.exchange.proofs.AskedJobs.{JobEnd, EndsSo, KeepsSo, end_of, ended_run}
 use Rattle.command_words.proofs.OneRequest.{no_fault, one_request}
 use Rattle.exchange.proofs.PromisedCalls.{none_ended}
 use Rattle.exchange.specs.Ends.{IsCutFor, IsDoneInPart, IsEndWithoutArguments, IsNoneLeft, leaving}
 use Rattle.exchange.specs.Keeping.{AreKeptBut}
-use Rattle.exchange.specs.Promises.{AskForHelp, HasDoneNothing, HasNoFiles, HasOnlyFiles, IsMisused, KeepsNothing, KeepsOthers, KeepsUnread, LeavesAll, LeavesOthers, clients_of, kept_by, run_of}
+use Rattle.exchange.specs.Promises.{AskForHelp, AsksFor, IsMisused, KeepsNothing, KeepsUnread, LeavesAll, LeavesOthers, Run, World, clients_of, kept_by, run_of, world_of}
 use Rattle.exchange.specs.Responses.{Given, IsAnswerTo, IsResponseTo, IsToldCut, Named, Response}
 use Rattle.exchange.specs.declared.limits.TheConstants.{UNWRITTEN}
-use Rattle.kept_sessions.specs.Keeping.{AreLiveKept, AreScriptsKept, AreWritten}
-use Rattle.kept_sessions.specs.Records.{IsAsBegun}
+use Rattle.plan_answers.specs.declared.limits.TheConstants.{DONE}
+use Rattle.kept_sessions.specs.Keeping.{AreScriptsKept}
 use Rattle.named_files.specs.Clients.{ends_of}
 use Rattle.named_files.specs.Contents.{Holding}
-use Rattle.named_files.specs.Outputs.{HasNothingGone, IsFileWritten, lost_none}
+use Rattle.named_files.specs.Outputs.{HasNothingGone, lost_none}
 use Rattle.named_files.specs.Streams.{Closed}
 use Rattle.named_files.specs.declared.lost.Lost.{Lost}
-use Rattle.named_files.specs.declared.lost.Reason.{Reason}
 use Rattle.named_files.specs.declared.outputs.Receipts.{Receipts}
 use Rattle.session_answers.specs.declared.ended_session.Ending.{Ending}
 
--- ---- the files
+-- ---- what is left
 
-none_gone : {C : Type 0} (received : C → Closed) (receipt : Option C) → HasNothingGone received None receipt → option_map received receipt ≡ None
-none_gone received None is = refl
-none_gone received (Some receipt) is = absurd is
+module _ {C : Type 0} (received : C → Closed) (receipts : Receipts C) (comes : Text → Option (List ℕ)) (had : Text → List ℕ) (endings : List (Ending (List ℕ))) (was after : Ways) (run : Run) (whole : Bool) where
+  abbrev The : World
+  The = record { run = run; whole = whole; before = was; after = after; kept = kept_by received receipts; clients = clients_of comes had endings }
 
-gone_named : {C : Type 0} (received : C → Closed) (name : Option Text) (receipt : Option C) → HasNothingGone received name receipt → name ≡ None → option_map received receipt ≡ None
-gone_named received name receipt gone none = none_gone received receipt (subst (λ (n : Option Text). HasNothingGone received n receipt) none gone)
+  none_gone : (receipt : Option C) → HasNothingGone received None receipt → option_map received receipt ≡ None
+  none_gone None is = refl
+  none_gone (Some receipt) is = absurd is
 
-written_named : {C : Type 0} (received : C → Closed) (name : Option Text) (bytes : List ℕ) (receipt : Option C) (lost : Option Reason) → IsFileWritten received name bytes receipt lost → name ≡ None → option_map received receipt ≡ None
-written_named received None bytes receipt lost is none = ap (λ r. option_map received r) is.0
-written_named received (Some name) bytes receipt lost is none = absurd (cc)
-
-begun_named : {C : Type 0} (holds : Holding) (received : C → Closed) (record_out : Option RecordFile) (names : List Text) (receipt : Option C) → IsAsBegun holds received record_out names receipt → record_out ≡ None → option_map received receipt ≡ None
-begun_named holds received record_out names None is none = refl
-begun_named holds received None names (Some receipt) is none = absurd is
-begun_named holds received (Some out) names (Some receipt) is none = absurd (cc)
-
-no_record : (rack : SharedRack) → rack.record_out ≡ None → recorded_in rack ≡ None
-no_record rack none = ap (λ (out : Option RecordFile). option_map (λ (r : RecordFile). r.name) out) none
-
-written_only : {C : Type 0} (received : C → Closed) (receipts : Receipts C) (rack : SharedRack) (names : List Text) (book : Account) (lost : Lost) → AreWritten received (recorded_in rack) rack.image_out names book receipts lost → HasOnlyFiles rack (kept_by received receipts)
-written_only received receipts rack names book lost is = (
-  λ none. written_named received (recorded_in rack) _ receipts.recorded lost.recorded is.0 (no_record rack none),
-  λ none. written_named received rack.image_out _ receipts.image lost.image is.1 none,
-)
-
-scripts_only : {C : Type 0} (received : C → Closed) (receipts : Receipts C) (rack : SharedRack) (left : Option Account) (lost : Lost) → AreScriptsKept received (recorded_in rack) rack.image_out left receipts lost → HasOnlyFiles rack (kept_by received receipts)
-scripts_only received receipts rack None lost is = (λ none. gone_named received (recorded_in rack) receipts.recorded is.0 (no_record rack none), λ none. gone_named received rack.image_out receipts.image is.1 none)
-scripts_only received receipts rack (Some book) lost is = written_only received receipts rack [] book lost is
-
-live_only : {C : Type 0} (holds : Holding) (received : C → Closed) (receipts : Receipts C) (rack : SharedRack) (names : List Text) (left : Option Account) (lost : Lost) → AreLiveKept holds received rack names left receipts lost → HasOnlyFiles rack (kept_by received receipts)
-live_only holds received receipts rack names None lost is = (λ none. begun_named holds received rack.record_out names receipts.recorded is.0 none, λ none. gone_named received rack.image_out receipts.image is.1 none)
-live_only holds received receipts rack names (Some book) lost is = written_only received receipts rack names book lost is.0
-
-module _ {C : Type 0} (received : C → Closed) (receipts : Receipts C) (comes : Text → Option (List ℕ)) (had : Text → List ℕ) (endings : List (Ending (List ℕ))) (was after : Ways) where
-  abbrev IsLeft : Job → Type 0
-  IsLeft job = LeavesOthers job was after (kept_by received receipts) (clients_of comes had endings)
-
-  abbrev AreAllLeft : Type 0
-  AreAllLeft = LeavesAll was after (kept_by received receipts) (clients_of comes had endings)
-
-  no_files : (left : Option Account) (lost : Lost) → left ≡ None → AreScriptsKept received None None left receipts lost → HasNoFiles (kept_by received receipts)
+  no_files : (left : Option Account) (lost : Lost) → left ≡ None → AreScriptsKept received None None left receipts lost → (option_map received receipts.recorded ≡ None) × (option_map received receipts.image ≡ None)
   no_files left lost none kept =
       let gone = subst (λ (l : Option Account). AreScriptsKept received None None l receipts lost) none kept in
-      (none_gone received receipts.recorded gone.0, none_gone received receipts.image gone.1)
+      (none_gone receipts.recorded gone.0, none_gone receipts.image gone.1)
 
   -- nothing was opened
-  all_left : IsNoneLeft receipts was after (ends_of endings) → AreAllLeft
-  all_left none = (
-    none.1,
-    (ap (λ (r : Receipts C). option_map received r.recorded) none.0, ap (λ (r : Receipts C). option_map received r.image) none.0),
-    none_ended endings none.2,
-  )
+  all_left : IsNoneLeft receipts was after (ends_of endings) → LeavesAll The
+  all_left none = (none.1, ap (λ (r : Receipts C). option_map received r.recorded) none.0, ap (λ (r : Receipts C). option_map received r.image) none.0, none_ended endings none.2)
 
   -- then no more was than any job asks for
-  all_left_by : (job : Job) → AreAllLeft → IsLeft job
+  all_left_by : (job : Job) → LeavesAll The → LeavesOthers The job
   all_left_by (Texts job) all = all
   all_left_by (OverPorts C004) all = all
-  all_left_by (OverPorts (Drive batch port port_b source wiring first goes_on workers)) all = (all.1, all.2)
-  all_left_by (Sessions rack (Host clients workers)) all = (all.0, (λ none. all.1.0, λ none. all.1.1))
-  all_left_by (Sessions rack job) all = (all.0, (λ none. all.1.0, λ none. all.1.1), all.2)
+  all_left_by (OverPorts (Drive batch port port_b source wiring first goes_on workers)) all = (all.1, all.2, all.3)
+  all_left_by (Sessions rack (Serve scripts workers)) all = (all.0, all.3)
+  all_left_by (Sessions rack (Host clients workers)) all = all.0
+  all_left_by (Sessions rack Talk) all = (all.0, all.3)
 
   -- an answer to it leaves this
-  answer_left : (holds : Holding) (job : Job) (files : Files (List ℕ)) (given : Given) (response : Response) (lost : Lost) → given.ports ≡ was → response.ports ≡ after → response.ends ≡ ends_of endings → AreKeptBut holds received job response.left receipts lost → IsAnswerTo holds job files given response → IsLeft job
-  answer_left holds (Texts job) files given response lost same ports ends kept is = (sym ports ∙ is.2 ∙ same, no_files response.left lost is.0 kept, none_ended endings (sym ends ∙ is.1))
-  answer_left holds (OverPorts C004) files given response lost same ports ends kept is = (sym ports ∙ is.2.1 ∙ same, no_files response.left lost is.0 kept, none_ended endings (sym ends ∙ is.1))
-  answer_left holds (OverPorts (Drive batch port port_b source wiring first goes_on workers)) files given response lost same ports ends kept is = (no_files response.left lost is.0 kept, none_ended endings (sym ends ∙ is.1))
-  answer_left holds (Sessions rack (Serve scripts workers)) files given response lost same ports ends kept is = (sym ports ∙ is.0 ∙ same, scripts_only received receipts rack response.left lost kept, none_ended endings (sym ends ∙ is.1.2))
-  answer_left holds (Sessions rack (Host clients workers)) files given response lost same ports ends kept is = (sym ports ∙ is.0 ∙ same, live_only holds received receipts rack clients response.left lost kept)
-  answer_left holds (Sessions rack Talk) files given response lost same ports ends kept is = (sym ports ∙ is.0 ∙ same, live_only holds received receipts rack [] response.left lost kept, none_ended endings (sym ends ∙ is.1.2))
+  answer_left : (holds : Holding) (job : Job) (files : Files (List ℕ)) (given : Given) (response : Response) (lost : Lost) → given.ports ≡ was → response.ports ≡ after → response.ends ≡ ends_of endings → AreKeptBut holds received job response.left receipts lost → IsAnswerTo holds job files given response → LeavesOthers The job
+  answer_left holds (Texts job) files given response lost same ports ends kept is = let none = no_files response.left lost is.0 kept in (sym ports ∙ is.2 ∙ same, none.0, none.1, none_ended endings (sym ends ∙ is.1))
+  answer_left holds (OverPorts C004) files given response lost same ports ends kept is = let none = no_files response.left lost is.0 kept in (sym ports ∙ is.2.1 ∙ same, none.0, none.1, none_ended endings (sym ends ∙ is.1))
+  answer_left holds (OverPorts (Drive batch port port_b source wiring first goes_on workers)) files given response lost same ports ends kept is = let none = no_files response.left lost is.0 kept in (none.0, none.1, none_ended endings (sym ends ∙ is.1))
+  answer_left holds (Sessions rack (Serve scripts workers)) files given response lost same ports ends kept is = (sym ports ∙ is.0 ∙ same, none_ended endings (sym ends ∙ is.1.2))
+  answer_left holds (Sessions rack (Host clients workers)) files given response lost same ports ends kept is = sym ports ∙ is.0 ∙ same
+  answer_left holds (Sessions rack Talk) files given response lost same ports ends kept is = (sym ports ∙ is.0 ∙ same, none_ended endings (sym ends ∙ is.1.2))
 
   -- so does a refusal before it
-  none_left : (holds : Holding) (job : Job) (lost : Lost) → after ≡ was → ends_of endings ≡ [] → AreKeptBut holds received job None receipts lost → IsLeft job
-  none_left holds (Texts job) lost ports ends kept = (ports, no_files None lost refl kept, none_ended endings ends)
-  none_left holds (OverPorts C004) lost ports ends kept = (ports, no_files None lost refl kept, none_ended endings ends)
-  none_left holds (OverPorts (Drive batch port port_b source wiring first goes_on workers)) lost ports ends kept = (no_files None lost refl kept, none_ended endings ends)
-  none_left holds (Sessions rack (Serve scripts workers)) lost ports ends kept = (ports, scripts_only received receipts rack None lost kept, none_ended endings ends)
-  none_left holds (Sessions rack (Host clients workers)) lost ports ends kept = (ports, live_only holds received receipts rack clients None lost kept)
-  none_left holds (Sessions rack Talk) lost ports ends kept = (ports, live_only holds received receipts rack [] None lost kept, none_ended endings ends)
+  none_left : (holds : Holding) (job : Job) (lost : Lost) → after ≡ was → ends_of endings ≡ [] → AreKeptBut holds received job None receipts lost → LeavesOthers The job
+  none_left holds (Texts job) lost ports ends kept = let none = no_files None lost refl kept in (ports, none.0, none.1, none_ended endings ends)
+  none_left holds (OverPorts C004) lost ports ends kept = let none = no_files None lost refl kept in (ports, none.0, none.1, none_ended endings ends)
+  none_left holds (OverPorts (Drive batch port port_b source wiring first goes_on workers)) lost ports ends kept = let none = no_files None lost refl kept in (none.0, none.1, none_ended endings ends)
+  none_left holds (Sessions rack (Serve scripts workers)) lost ports ends kept = (ports, none_ended endings ends)
+  none_left holds (Sessions rack (Host clients workers)) lost ports ends kept = ports
+  none_left holds (Sessions rack Talk) lost ports ends kept = (ports, none_ended endings ends)
 
-  response_left : (named : Named) (given : Given) (job : Job) (response : Response) (lost : Lost) → given.ports ≡ was → response.ports ≡ after → KeepsSo named.holds received receipts (ends_of endings) lost job response → IsResponseTo named given job response → IsLeft job
+  response_left : (named : Named) (given : Given) (job : Job) (response : Response) (lost : Lost) → given.ports ≡ was → response.ports ≡ after → KeepsSo named.holds received receipts (ends_of endings) lost job response → IsResponseTo named given job response → LeavesOthers The job
   response_left named given job response lost same ports kept (inl comes) = answer_left named.holds job comes.1.0 _ response lost same ports kept.1 kept.0 comes.1.3
   response_left named given job response lost same ports kept (inr none) =
       none_left named.holds job lost (sym ports ∙ none.1 ∙ same) (sym kept.1 ∙ none.2) (subst (λ (l : Option Account). AreKeptBut named.holds received job l receipts lost) none.3 kept.0)
 
   -- so does what was told before an answer that couldn't all be written
-  cut_left : (holds : Holding) (job : Job) (files : Files (List ℕ)) (input : Option (List ℕ)) (told : List ℕ) → IsToldCut job files input was after told → ends_of endings ≡ [] → AreKeptBut holds received job None receipts lost_none → IsLeft job
-  cut_left holds (OverPorts C004) files input told is none kept = (is.1, no_files None lost_none refl kept, none_ended endings none)
-  cut_left holds (OverPorts (Drive batch port port_b source wiring first goes_on workers)) files input told is none kept = (no_files None lost_none refl kept, none_ended endings none)
+  cut_left : (holds : Holding) (job : Job) (files : Files (List ℕ)) (input : Option (List ℕ)) (told : List ℕ) → IsToldCut job files input was after told → ends_of endings ≡ [] → AreKeptBut holds received job None receipts lost_none → LeavesOthers The job
+  cut_left holds (OverPorts C004) files input told is none kept = let gone = no_files None lost_none refl kept in (is.1, gone.0, gone.1, none_ended endings none)
+  cut_left holds (OverPorts (Drive batch port port_b source wiring first goes_on workers)) files input told is none kept = let gone = no_files None lost_none refl kept in (gone.0, gone.1, none_ended endings none)
   cut_left holds job files input told is none kept = absurd is
 
 -- ---- help
@@ -149,62 +111,65 @@ same_out before after same = subst (λ (o : Option (List ℕ)). Appends before o
 -- ---- the promises
 
 module _ {C : Type 0} (received : C → Closed) (receipts : Receipts C) (comes : Text → Option (List ℕ)) (had : Text → List ℕ) (endings : List (Ending (List ℕ))) (after : Ways) where
+  abbrev World1 : Ways → Run → Bool → World
+  World1 was run whole = The received receipts comes had endings was after run whole
+
   -- where all was written
-  module _ (e : Ended) (ports : (job : Job) (response : Response) → e.keeps job response → response.ports ≡ after) (so : (job : Job) (response : Response) → e.keeps job response → KeepsSo e.named.holds received receipts (ends_of endings) lost_none job response)
+  module _ (e : JobEnd) (ports : (job : Job) (response : Response) → e.keeps job response → response.ports ≡ after) (so : (job : Job) (response : Response) → e.keeps job response → KeepsSo e.named.holds received receipts (ends_of endings) lost_none job response)
       (none : e.none → IsNoneLeft receipts e.given.ports after (ends_of endings)) (is : EndsSo e) where
-    pub keeps_others : KeepsOthers (ended_run e) e.given.ports after (kept_by received receipts) (clients_of comes had endings)
+    pub keeps_others : (job : Job) → AsksFor (ended_run e) job → LeavesOthers (World1 e.given.ports (ended_run e) true) job
     keeps_others job asks = elim (end_of e (record { job = job; is_quiet = asks.0 }) asks.1 is) [
-      | inl done ↦ response_left received receipts comes had endings e.given.ports after e.named e.given job done.0 lost_none refl (ports job done.0 done.2) (so job done.0 done.2) done.1
-      | inr gives_up ↦ all_left_by received receipts comes had endings e.given.ports after job (all_left received receipts comes had endings e.given.ports after (none gives_up.0))
+      | inl done ↦ response_left received receipts comes had endings e.given.ports after (ended_run e) true e.named e.given job done.0 lost_none refl (ports job done.0 done.2) (so job done.0 done.2) done.1
+      | inr gives_up ↦ all_left_by received receipts comes had endings e.given.ports after (ended_run e) true job (all_left received receipts comes had endings e.given.ports after (ended_run e) true (none gives_up.0))
     ]
 
-    pub keeps_nothing : KeepsNothing (ended_run e) e.given.ports after (kept_by received receipts) (clients_of comes had endings)
+    pub keeps_nothing : KeepsNothing (World1 e.given.ports (ended_run e) true)
     keeps_nothing nothing = by is
       where
-        by : EndsSo e → HasDoneNothing (ended_run e) e.given.ports after (kept_by received receipts) (clients_of comes had endings)
+        by : EndsSo e → LeavesAll (World1 e.given.ports (ended_run e) true) × (IsMisused (ended_run e) ⊎ ((e.code ≡ DONE) × AskForHelp e.words))
         by (Ok request, has, wrong, done) = absurd (nothing request has)
-        by (Err NoMemory, has, wrong, ends) = record { left = all_left received receipts comes had endings e.given.ports after (none ends.0); ends = inl (inr (inl (ends.1.0.status, ends.1.0.text))) }
-        by (Err (Clap error), has, wrong, ends) = record {
-          left = all_left received receipts comes had endings e.given.ports after (none ends.0);
-          ends = elim (help_or_not (kind_of error)) [
+        by (Err NoMemory, has, wrong, ends) = (all_left received receipts comes had endings e.given.ports after (ended_run e) true (none ends.0), inl (inr (inl (ends.1.0.status, ends.1.0.text))))
+        by (Err (Clap error), has, wrong, ends) = (
+          all_left received receipts comes had endings e.given.ports after (ended_run e) true (none ends.0),
+          elim (help_or_not (kind_of error)) [
             | inl helps ↦ inr ((ends.1.0 helps).0, among e.words error wrong helps)
             | inr mistaken ↦ let told = ends.1.1 mistaken in inl (inl (told.0, same_out e.streams.out_before e.streams.out_after told.1))
-          ];
-        }
+          ],
+        )
 
   -- where not all was
-  module _ (words : List Text) (named : Named) (given : Given) (before behind : Option (List ℕ)) (code : ℕ) (unwritten : code ≡ UNWRITTEN)
+  module _ (words : List Text) (named : Named) (given : Given) (before behind : Option (List ℕ)) (run : Run) (whole : Bool)
       (cut : IsCutFor named (leaving named.holds received receipts given.ports after (ends_of endings)) words given before behind) where
-    part_left : (request : Request) → IsDoneInPart named (leaving named.holds received receipts given.ports after (ends_of endings)) given request before behind → LeavesOthers request.job given.ports after (kept_by received receipts) (clients_of comes had endings)
+    part_left : (request : Request) → IsDoneInPart named (leaving named.holds received receipts given.ports after (ends_of endings)) given request before behind → LeavesOthers (World1 given.ports run whole) request.job
     part_left request (inl (response, is, kept, part)) =
-        response_left received receipts comes had endings given.ports after named given request.job response kept.0.0 refl kept.1 (kept.0.1, kept.2) is
+        response_left received receipts comes had endings given.ports after run whole named given request.job response kept.0.0 refl kept.1 (kept.0.1, kept.2) is
     part_left request (inr (told, is, kept, part)) =
-        cut_left received receipts comes had endings given.ports after named.holds request.job is.0 is.1 told is.3 is.4 kept
+        cut_left received receipts comes had endings given.ports after run whole named.holds request.job is.0 is.1 told is.3 is.4 kept
 
-    pub cut_others : KeepsOthers (run_of named.holds given.input before behind words code) given.ports after (kept_by received receipts) (clients_of comes had endings)
-    cut_others job asks = by cut
+    pub cut_others : (job : Job) (quiet : Bool) → AskFor words (record { job = job; is_quiet = quiet }) → LeavesOthers (World1 given.ports run whole) job
+    cut_others job quiet asks = by cut
       where
-        by : IsCutFor named (leaving named.holds received receipts given.ports after (ends_of endings)) words given before behind → LeavesOthers job given.ports after (kept_by received receipts) (clients_of comes had endings)
+        by : IsCutFor named (leaving named.holds received receipts given.ports after (ends_of endings)) words given before behind → LeavesOthers (World1 given.ports run whole) job
         by (Ok other, has, wrong, done) =
-            subst (λ (r : Request). LeavesOthers r.job given.ports after (kept_by received receipts) (clients_of comes had endings)) (one_request words other (record { job = job; is_quiet = asks.0 }) has asks.1) (part_left other done)
-        by (Err NoMemory, has, wrong, none) = all_left_by received receipts comes had endings given.ports after job (all_left received receipts comes had endings given.ports after none.0)
-        by (Err (Clap error), has, wrong, none) = absurd (no_fault words (record { job = job; is_quiet = asks.0 }) error asks.1 wrong)
+            subst (λ (r : Request). LeavesOthers (World1 given.ports run whole) r.job) (one_request words other (record { job = job; is_quiet = quiet }) has asks) (part_left other done)
+        by (Err NoMemory, has, wrong, none) = all_left_by received receipts comes had endings given.ports after run whole job (all_left received receipts comes had endings given.ports after run whole none.0)
+        by (Err (Clap error), has, wrong, none) = absurd (no_fault words (record { job = job; is_quiet = quiet }) error asks wrong)
 
-    pub cut_nothing : KeepsNothing (run_of named.holds given.input before behind words code) given.ports after (kept_by received receipts) (clients_of comes had endings)
-    cut_nothing nothing = by cut
+    pub cut_nothing : run.words ≡ words → run.status ≡ UNWRITTEN → KeepsNothing (World1 given.ports run whole)
+    cut_nothing same unwritten nothing = by cut
       where
-        by : IsCutFor named (leaving named.holds received receipts given.ports after (ends_of endings)) words given before behind → HasDoneNothing (run_of named.holds given.input before behind words code) given.ports after (kept_by received receipts) (clients_of comes had endings)
-        by (Ok request, has, wrong, done) = absurd (nothing request has)
-        by (Err NoMemory, has, wrong, none) = record { left = all_left received receipts comes had endings given.ports after none.0; ends = inl (inr (inr unwritten)) }
-        by (Err (Clap error), has, wrong, none) = record { left = all_left received receipts comes had endings given.ports after none.0; ends = inl (inr (inr unwritten)) }
+        by : IsCutFor named (leaving named.holds received receipts given.ports after (ends_of endings)) words given before behind → LeavesAll (World1 given.ports run whole) × (IsMisused run ⊎ ((run.status ≡ DONE) × AskForHelp run.words))
+        by (Ok request, has, wrong, done) = absurd (nothing request (subst (λ (ws : List Text). AskFor ws request) (sym same) has))
+        by (Err NoMemory, has, wrong, none) = (all_left received receipts comes had endings given.ports after run whole none.0, inl (inr (inr unwritten)))
+        by (Err (Clap error), has, wrong, none) = (all_left received receipts comes had endings given.ports after run whole none.0, inl (inr (inr unwritten)))
 
   -- where the arguments can't be read
   pub keeps_unread : {X E : Type 0} (arguments : Result X E) (holds : Holding) (input before behind : Option (List ℕ)) (was : Ways) (code : ℕ) → OnErr arguments (IsNoneLeft receipts was after (ends_of endings) × ((code ≡ UNWRITTEN) ⊎ IsEndWithoutArguments before behind code))
-      → OnErr arguments (KeepsUnread (run_of holds input before behind [] code) was after (kept_by received receipts) (clients_of comes had endings))
+      → OnErr arguments (KeepsUnread (world_of (run_of holds input (Appends before behind) [] code) was after (kept_by received receipts) (clients_of comes had endings)))
   keeps_unread (Ok words) holds input before behind was code is = tt
-  keeps_unread (Err error) holds input before behind was code is = (all_left received receipts comes had endings was after is.0, misused is.1)
+  keeps_unread (Err error) holds input before behind was code is = (all_left received receipts comes had endings was after (run_of holds input (Appends before behind) [] code) true is.0, misused is.1)
     where
-      misused : (code ≡ UNWRITTEN) ⊎ IsEndWithoutArguments before behind code → IsMisused (run_of holds input before behind [] code)
+      misused : (code ≡ UNWRITTEN) ⊎ IsEndWithoutArguments before behind code → IsMisused (run_of holds input (Appends before behind) [] code)
       misused (inl unwritten) = inr (inr unwritten)
       misused (inr (inl printed)) = inr (inl (printed.status, printed.text))
       misused (inr (inr told)) = inl (told.0, same_out before behind told.1)

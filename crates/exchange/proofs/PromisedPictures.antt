@@ -4,12 +4,8 @@ use Rattle.batch.specs.Batches.{IsBatch}
 use Rattle.batch.specs.Extent.{widest}
 use Rattle.batch.specs.declared.transfer.Transfer.{Transfer}
 use Rattle.clap.specs.Words.{Text}
-use Rattle.command_words.specs.declared.jobs.TextJob.TheVariants.{Draw, Prices}
-use Rattle.exchange.proofs.AskedJobs.{Answers, never_done, text_done}
-use Rattle.exchange.proofs.HeldFiles.{given_text}
-use Rattle.exchange.specs.Promises.{HasDrawn, HasPriced, IsTitled, Run, StandsIn}
-use Rattle.exchange.proofs.KeepsEach.{KeepsPictures, KeepsPrices}
-use Rattle.exchange.specs.Responses.{text_in}
+use Rattle.exchange.proofs.EndStatuses.{never_done}
+use Rattle.exchange.specs.Promises.{HasDrawn, HasPriced, IsTitled, StandsIn}
 use Rattle.link_graph.specs.Certificates.{Naming}
 use Rattle.plan_answers.specs.Drawings.{IsDrawnWith, drawn, undrawn}
 use Rattle.plan_answers.specs.Pricing.{IsPriced, priced, unpriced}
@@ -80,57 +76,36 @@ columns_there batch settings verdict shown =
     let before = opening_text batch (length settings) verdict shown ++ rows_text batch shown.count verdict.busiest ++ headings_text shown.count in
     (before, closing_text batch, append_assoc before (columns_text batch settings shown) (closing_text batch))
 
-drawn_so : (run : Run) (batch schedule : Text) (chosen : Option Text) (text other : List ℕ) (least : ℕ) (printed : Printed)
-    → run.holds batch text → run.holds schedule other → run.prints printed.text → printed.status ≡ DONE → IsDrawnWith widest text other chosen least printed → HasDrawn run batch schedule chosen
-drawn_so run batch schedule chosen text other least printed held held_schedule prints status (drawn d so_many done) =
+pub drawn_so : (text other : List ℕ) (chosen : Option Text) (least : ℕ) (printed : Printed) → printed.status ≡ DONE → IsDrawnWith widest text other chosen least printed → HasDrawn text other chosen printed.text
+drawn_so text other chosen least printed status (drawn d so_many done) =
     let reads = d.valid.read.texts.batch_read in
+    let named = d.valid.read.certificate in
+    let picture = sym d.drawing in
     record {
       transfers = d.transfers;
       settings = d.settings;
-      named = d.valid.read.certificate;
       range = d.range;
       shown = d.shown;
-      printed = picture_of d.transfers d.settings d.verdict d.shown;
-      held = record { text = text; held = held; denotes = reads };
-      held_schedule = record { text = other; held = held_schedule; says = d.valid.read.texts.schedule_read };
-      valid = d.valid.read.valid;
+      read = d.valid.read;
       wanted = d.wanted;
       are_shown = d.are_shown;
-      titled = titled d.transfers d.settings d.valid.read.certificate d.verdict d.shown (record { few = reads.few; within = reads.within }) d.valid.known;
-      columns = columns_there d.transfers d.settings d.verdict d.shown;
+      titled = subst (IsTitled d.transfers d.settings) picture (titled d.transfers d.settings named d.verdict d.shown (record { few = reads.few; within = reads.within }) d.valid.known);
+      columns = subst (StandsIn (columns_text d.transfers d.settings d.shown)) picture (columns_there d.transfers d.settings d.verdict d.shown);
       apart = overlapping d.transfers d.settings d.shown d.valid.read.valid;
-      prints = subst run.prints d.drawing prints;
     }
-drawn_so run batch schedule chosen text other least printed held held_schedule prints status (undrawn refusal wrong line) = absurd (never_done printed.status line.status status)
-
-pub keeps_pictures : (run : Run) → Answers run → KeepsPictures run
-keeps_pictures run all batch schedule chosen done =
-    let is = text_done run (Draw batch schedule chosen) all done in
-    let holds = run.holds in
-    drawn_so run batch schedule chosen (text_in is.files.list) (text_in is.files.schedule) is.answer.0 is.printed (given_text holds batch is.files.list is.held.list) (given_text holds schedule is.files.schedule is.held.schedule) is.prints (sym is.status ∙ done.1) is.answer.1
+drawn_so text other chosen least printed status (undrawn refusal wrong line) = absurd (never_done printed.status line.status status)
 
 -- ---- prices
 
-priced_so : (run : Run) (batch schedule : Text) (text other : List ℕ) (printed : Printed)
-    → run.holds batch text → run.holds schedule other → run.prints printed.text → printed.status ≡ DONE → IsPriced widest text other printed → HasPriced run batch schedule
-priced_so run batch schedule text other printed held held_schedule prints status (priced transfers settings read says done) =
+pub priced_so : (text other : List ℕ) (printed : Printed) → printed.status ≡ DONE → IsPriced widest text other printed → HasPriced text other printed.text
+priced_so text other printed status (priced transfers settings read says done) =
     let reads = read.texts.batch_read in
     let table = says.priced in
     record {
       transfers = transfers;
       settings = settings;
-      named = read.certificate;
-      printed = printed.text;
-      held = record { text = text; held = held; denotes = reads };
-      held_schedule = record { text = other; held = held_schedule; says = read.texts.schedule_read };
-      valid = read.valid;
+      read = read;
       prices = says;
       needed = needed_by transfers (length settings) table.prices.items table.top table.changes (record { few = reads.few; within = reads.within }) says.table.show;
-      prints = prints;
     }
-priced_so run batch schedule text other printed held held_schedule prints status (unpriced refusal wrong line) = absurd (never_done printed.status line.status status)
-
-pub keeps_prices : (run : Run) → Answers run → KeepsPrices run
-keeps_prices run all batch schedule done =
-    let is = text_done run (Prices batch schedule) all done in
-    priced_so run batch schedule (text_in is.files.list) (text_in is.files.schedule) is.printed (given_text run.holds batch is.files.list is.held.list) (given_text run.holds schedule is.files.schedule is.held.schedule) is.prints (sym is.status ∙ done.1) is.answer
+priced_so text other printed status (unpriced refusal wrong line) = absurd (never_done printed.status line.status status)

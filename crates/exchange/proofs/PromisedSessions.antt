@@ -13,7 +13,6 @@ use Rattle.batch_book.specs.Seats.{own}
 use Rattle.batch_book.specs.Values.{greatest}
 use Rattle.batch_book.specs.declared.reading.Reading.{Reading}
 use Rattle.batch_book.specs.declared.entry.Entry.{Entry}
-use Rattle.clap.specs.Words.{Text}
 use Rattle.client_session.proofs.Lists.{every_both}
 use Rattle.client_session.specs.Seats.{SeatView}
 use Rattle.client_session.specs.Sessions.{HasEnded, IsSession, added_entries, lines_of, lost_entries, lost_texts}
@@ -22,9 +21,8 @@ use Rattle.client_session.specs.declared.command.SessionCommand.{SessionCommand}
 use Rattle.client_session.specs.declared.command.SessionCommand.TheVariants.{Batch, Bye, Drop, Peek, Plan as PlanOf, Poke, Progress, Run as RunOf, Show}
 use Rattle.client_session.specs.declared.fault.ServeFault.{ServeFault}
 use Rattle.client_session.specs.declared.fault.ServeFault.TheVariants.{Cut, LineTooLong, NoMemory, Read, Record, Turns, Write}
-use Rattle.exchange.specs.Promises.{Calls, EndsSo, HaveOneOrder, HoldsGiven, IsSessionOf, OpensWith, Run, Session, all_calls, all_turns, told_text}
+use Rattle.exchange.specs.Promises.{Calls, EndsSo, HaveOneOrder, IsSessionOf, Session, all_calls, all_turns, told_text}
 use Rattle.module_memory.specs.Store.{Store}
-use Rattle.rack_answers.specs.Openings.{IsOfImageOrZeros}
 use Rattle.session_answers.specs.Frames.{Transcript, session_text, sessions_text}
 use Rattle.session_answers.specs.Histories.{HaveOneHistory, Part}
 use Rattle.session_answers.specs.Serving.{HasItsScript}
@@ -138,10 +136,10 @@ pub record IsSeen (b : Beginning) (calls : Calls) (came : Option (List ℕ)) (t 
   pub text : session_text t ≡ told_text s
   pub own_are : own s.number calls.made ≡ t.part.asked
   pub seen : AreReadings b.seen t.part.seen (all_turns s)
-  pub is : IsSessionOf b.shape calls came s
+  pub is : IsSessionOf calls came s
 
-pub one_session : (b : Beginning) (calls : Calls) (before after : Option (List ℕ)) (t : Transcript) → b.loses ≡ calls.recorded → IsServedSession b before after t → HasOwn calls t.part → (s : Session) × IsSeen b calls before t s
-one_session b calls before after t recorded h owns =
+pub one_session : (b : Beginning) (calls : Calls) (before after : Option (List ℕ)) (t : Transcript) → b.shape ≡ calls.opening.shape → b.loses ≡ calls.recorded → IsServedSession b before after t → HasOwn calls t.part → (s : Session) × IsSeen b calls before t s
+one_session b calls before after t shape recorded h owns =
     let e = ended_so t.part.session calls.recorded t.fault after h.seat _ h.read t.part.asked t.told h.is_new.log h.is_new.session_is refl (λ none. h.is_new.loses_is ∙ recorded ∙ none) (λ is. sym recorded ∙ h.lost is) h.ended in
     let turns = e.turns ++ e.held in (
       session_so t.part.session t.fault e.turns e.held t.told (e.left ++ unwrap_or after []),
@@ -156,7 +154,7 @@ one_session b calls before after t recorded h owns =
           untold = e.untold;
           unseen = e.unseen;
           read = read_so before after h.read (flat_map turn_text turns) e.left h.consumed e.bytes;
-          each = subst (λ (n : ℕ). AllByRecursion (IsTurn b.shape n) turns) h.is_new.session_is (subst (λ (x : Extent). AllByRecursion (IsTurn x h.seat.session) turns) h.is_new.shape_is e.each);
+          each = subst (λ (n : ℕ). AllByRecursion (IsTurn calls.opening.shape n) turns) h.is_new.session_is (subst (λ (x : Extent). AllByRecursion (IsTurn x h.seat.session) turns) (h.is_new.shape_is ∙ shape) e.each);
           lines = e.lines;
           entries = sym owns.0 ∙ e.entries;
           stand = starts_then (added_entries e.turns) t.part.log (own t.part.session calls.standing) e.stand owns.1;
@@ -192,7 +190,7 @@ pub record AreCallsOf (calls : Calls) (book : Account) : Type 0 where
   pub machine : calls.left ≡ book.machine
   pub stand : calls.earlier ++ calls.standing ≡ book.stands
 
--- what starts another behind the same
+-- what starts another after the same
 same_behind : (earlier standing made : List Entry) → Starts (earlier ++ standing) (earlier ++ made) → Starts standing made
 same_behind earlier standing made is =
     let f = front (earlier ++ standing) (earlier ++ made) is in starts standing made f.0 (append_cancel_left earlier made (standing ++ f.0) (f.1 ∙ append_assoc earlier standing f.0))
@@ -228,39 +226,27 @@ module _ (loses : Bool) (opening : Store) (earlier : List Entry) (parts : List P
 
 pub record AreSeen (b : Beginning) (calls : Calls) (texts : List (List ℕ)) (ts : List Transcript) (ss : List Session) : Type 0 where
   pub numbers : map (λ (s : Session). s.number) ss ≡ map (λ (t : Transcript). t.part.session) ts
-  pub each : AllByRecursion (λ (s : Session). IsSessionOf b.shape calls (slice_get texts s.number) s) ss
+  pub each : AllByRecursion (λ (s : Session). IsSessionOf calls (slice_get texts s.number) s) ss
   pub text : sessions_text ts ≡ flat_map told_text ss
   pub failed : list_any (λ (t : Transcript). is_some t.fault) ts ≡ list_any (λ (s : Session). is_some s.fault) ss
   pub entries : (n : ℕ) → fold (λ a (s : Session). a + length (own s.number calls.made)) n ss ≡ fold (λ a (p : Part). a + length p.asked) n (map (λ (t : Transcript). t.part) ts)
   pub seen : (most : ℕ) → AllByRecursion (λ (p : Part). p.seen ≤ most) (map (λ (t : Transcript). t.part) ts) → AllByRecursion (λ (s : Session). AreReadings b.seen most (all_turns s)) ss
 
-pub all_sessions : (b : Beginning) (calls : Calls) (texts : List (List ℕ)) (ts : List Transcript) → b.loses ≡ calls.recorded → AllByRecursion (HasItsScript b texts) ts → AllByRecursion (HasOwn calls) (map (λ (t : Transcript). t.part) ts)
+pub all_sessions : (b : Beginning) (calls : Calls) (texts : List (List ℕ)) (ts : List Transcript) → b.shape ≡ calls.opening.shape → b.loses ≡ calls.recorded → AllByRecursion (HasItsScript b texts) ts → AllByRecursion (HasOwn calls) (map (λ (t : Transcript). t.part) ts)
     → (ss : List Session) × AreSeen b calls texts ts ss
-all_sessions b calls texts [] recorded each owns = ([], record { numbers = refl; each = tt; text = refl; failed = refl; entries = λ n. refl; seen = λ most all. tt })
-all_sessions b calls texts (t ∷ ts) recorded each owns =
+all_sessions b calls texts [] shape recorded each owns = ([], record { numbers = refl; each = tt; text = refl; failed = refl; entries = λ n. refl; seen = λ most all. tt })
+all_sessions b calls texts (t ∷ ts) shape recorded each owns =
     let has = each.0 in
-    let one = one_session b calls (Some has.0) (Some has.1) t recorded has.3 owns.0 in
-    let more = all_sessions b calls texts ts recorded each.1 owns.1 in
+    let one = one_session b calls (Some has.0) (Some has.1) t shape recorded has.3 owns.0 in
+    let more = all_sessions b calls texts ts shape recorded each.1 owns.1 in
     let its : slice_get texts one.0.number ≡ Some has.0 = ap (λ (n : ℕ). slice_get texts n) one.1.number ∙ has.2 in (
       one.0 ∷ more.0,
       record {
         numbers = ap₂ (λ (n : ℕ) (ns : List ℕ). n ∷ ns) one.1.number more.1.numbers;
-        each = (subst (λ (c : Option (List ℕ)). IsSessionOf b.shape calls c one.0) (sym its) one.1.is, more.1.each);
+        each = (subst (λ (c : Option (List ℕ)). IsSessionOf calls c one.0) (sym its) one.1.is, more.1.each);
         text = ap₂ (λ (x y : List ℕ). x ++ y) one.1.text more.1.text;
         failed = ap₂ ◌||◌ (ap (λ (o : Option ServeFault). is_some o) (sym one.1.fault)) more.1.failed;
         entries = λ n. ap (λ (es : List Entry). fold (λ a (s : Session). a + length (own s.number calls.made)) (n + length es) more.0) one.1.own_are ∙ more.1.entries (n + length t.part.asked);
         seen = λ most all. (seen_within (all_turns one.0) b.seen t.part.seen most all.0 one.1.seen, more.1.seen most all.1);
       },
     )
-
--- ---- the rack
-
-pub opens : (run : Run) (image : Option Text) (bytes : Option (List ℕ)) (extent : Extent) (opening : Store) → HoldsGiven run.holds image bytes → IsOfImageOrZeros extent bytes opening → OpensWith run image extent opening
-opens run None None extent opening held is = is
-opens run None (Some bytes) extent opening held is = absurd held
-opens run (Some image) None extent opening held is = absurd held
-opens run (Some image) (Some bytes) extent opening held is = (bytes, held, is)
-
-pub shape_of : (bytes : Option (List ℕ)) (extent : Extent) (opening : Store) → IsOfImageOrZeros extent bytes opening → opening.shape ≡ extent
-shape_of None extent opening is = ap (λ (s : Store). s.shape) is
-shape_of (Some bytes) extent opening is = is.same_shape

@@ -1,4 +1,4 @@
--- What is printed behind what a session was told, and what is told beside it.
+-- What is printed after what a session was told, and what is told beside it.
 use Rattle.std.proofs.Common.{ℕ, Bool, false, ◌++◌, ◌∷◌, List, Option, Some, None, Result, Ok, Err, IfOk, IfErr, OnErr, ap, ◌∙◌, append_assoc, append-nil, ◌⊎◌, inl, inr, refl, subst, sym, ◌≡◌, []}
 use Rattle.std.specs.Prelude.{String}
 use Rattle.std.specs.Global.{Global}
@@ -15,7 +15,7 @@ use Rattle.named_files.specs.declared.unanswered.Unanswered.{Unanswered}
 use Rattle.named_files.specs.declared.unanswered.Unanswered.TheVariants.{NoMemory}
 use Rattle.named_files.specs.Outputs.{lost_none}
 use Rattle.exchange.specs.declared.answered.Answered.{Answered}
-use Rattle.named_files.specs.Apart.{AreSeenApart}
+use Rattle.named_files.specs.DistinctFiles.{AreSeenApart}
 use Rattle.drive_answers.specs.Ways.{Ways}
 use Rattle.session_answers.specs.HostAnswers.{SessionEnd}
 use Rattle.session_answers.specs.declared.ended_session.Ending.{Ending}
@@ -42,7 +42,7 @@ beside_of P Q request before after f (inr (inr (inl dropped))) = inr (inr (inl d
 beside_of P Q request before after f (inr (inr (inr (inl t)))) = inr (inr (inr (inl (t.0, f t.1, t.2))))
 beside_of P Q request before after f (inr (inr (inr (inr lines)))) = inr (inr (inr (inr lines)))
 
--- lines behind lines
+-- lines after lines
 lines_more : (a b c : Option (List ℕ)) (lines more : List (List ℕ)) → AreToldLines a b lines → AreToldLines b c more → AreToldLines a c (lines ++ more)
 lines_more a b c [] more are then = subst (λ (x : Option (List ℕ)). AreToldLines x c more) are then
 lines_more a b c (first ∷ lines) more are then = (are.0, are.1, are.2, lines_more are.0 b c lines more are.3 then)
@@ -74,7 +74,7 @@ noted overlap request end (Some line) eb em ea on beside (inr t) =
     let same : t.1 ≡ line = (let e : Some line ≡ Some t.1 = t.2 in cc) in
     (em, beside, inr (t.0, t.1, rw same on, t.3))
 
--- an answer that is printed behind it
+-- an answer that is printed after it
 pub answered : {E : Type 0} (r : Result ℕ E) (named : Named) (keeps : Job → Response → Type 0) (given : Given) (request : Request) (told : List ℕ) (left : Option Account) (ports : Ways) (ends : List SessionEnd) (done : Answered) (out_before out_after has eb em ea : Option (List ℕ))
     → Appends out_before out_after told → AreSeenApart named.leads (file_uses request.job) → IsJobAnswer named.holds given request.job (record { told = told; end = done.answer; left = left; ports = ports; ends = ends }) → (done.lost ≡ lost_none → keeps request.job (record { told = told; end = done.answer; left = left; ports = ports; ends = ends })) → IsAnswered done
     → IsBeside (IsJobWarnedOf named.holds given request.job) request eb em → IfOk r (λ status. IsPrinted out_after has done.answer status × (done.lost ≡ lost_none)) → IsToldUnless request.is_quiet (bytes_of_line done.note) em ea
@@ -118,7 +118,7 @@ pub ended_so : {E : Type 0} (r : Result ℕ E) (exit : ℕ) (P : ℕ → Type 0)
 ended_so (Ok status) exit P is done unwritten = inr (subst P (sym done) is)
 ended_so (Err e) exit P is done unwritten = inl unwritten
 
--- a front of it was printed behind what was told
+-- a front of it was printed after what was told
 printed_in_part : (before mid after : Option (List ℕ)) (told text : List ℕ) → Appends before mid told → IsToldInPart mid after text → IsToldInPart before after (told ++ text)
 printed_in_part before mid after told text first t = (told ++ t.0, t.1, ap (λ (x : List ℕ). told ++ x) t.2 ∙ sym (append_assoc told t.0 t.1), Appends-trans before mid after told t.0 first t.3)
 

@@ -11,8 +11,8 @@ use Rattle.drive_answers.specs.Ways.{Names, Ways}
 abbrev pub names_in : List ℕ → Option (List ℕ) → Names
 names_in port port_b = record { port = port; port_b = port_b }
 
--- An answer to these texts, from this setting on, over the ports of these names, behind lines that
--- were told. Behind each
+-- An answer to these texts, from this setting on, over the ports of these names, after lines that
+-- were told. After each
 -- a line of the input was waited for; where it goes on, for none, and nothing was read.
 abbrev pub IsDriveBy : Source (List ℕ) → List ℕ → Option (List ℕ) → ℕ → Bool → Names
     → Option (List ℕ) → Ways → Ways → List ℕ → Printed → Type 0

@@ -17,7 +17,7 @@ use Rattle.exchange.specs.Responses.{Given, IsJobAnswer, IsJobCut, IsResponseTo,
 use Rattle.named_files.specs.Notes.{unanswered, IsToldInPart}
 use Rattle.exchange.specs.Notes.{IsJobWarnedOf, IsBeside, IsNoted}
 use Rattle.exchange.specs.Outcomes.{HasNote, HasTold, IsUnanswered}
-use Rattle.named_files.specs.Apart.{AreSeenApart}
+use Rattle.named_files.specs.DistinctFiles.{AreSeenApart}
 use Rattle.named_files.specs.declared.notes.NoAnswer.{NoAnswer}
 use Rattle.named_files.specs.Contents.{Holding}
 use Rattle.exchange.specs.Keeping.{AreKept, AreKeptBut, AreKeptInPart}
@@ -43,7 +43,7 @@ IsLeft holds received receipts ports ends job response =
 abbrev pub IsNoneLeft : {C : Type 0} → Receipts C → Ways → Ways → List SessionEnd → Type 0
 IsNoneLeft receipts was opens ends = (receipts ≡ none_opened) × (opens ≡ was) × (ends ≡ [])
 
--- this was printed behind what stood there, and ends with its status
+-- this was printed after what stood there, and ends with its status
 pub record IsPrinted (before after : Option (List ℕ)) (printed : Printed) (code : ℕ) : Type 0 where
   pub text : Appends before after printed.text
   pub status : code ≡ printed.status
@@ -109,7 +109,7 @@ pub record HasEnded {C : Type 0} (named : Named) (received : C → Closed) (give
   pub apart : OnOk end (AreSeenApart named.leads (file_uses request.job))
   pub unkept : OnErr end (AreKept named.holds received request.job None left.receipts)
 
--- what is printed, behind what was told before
+-- what is printed, after what was told before
 abbrev pub printed_of : Response → Printed
 printed_of response =
     record { text = response.told ++ response.end.text; status = response.end.status }
@@ -137,7 +137,7 @@ IsFaultEnd (arguments_fault.Clap error) streams code =
     × ((AsksForHelp error → ⊥) → (code ≡ MISUSED) × (streams.out_after ≡ streams.out_before))
 
 -- how the program ends where this is given and the arguments ask for this, or are at fault: what it
--- prints behind what stood there, what it leaves, and its status
+-- prints after what stood there, what it leaves, and its status
 abbrev pub IsEndFor : Named → Keeping → Type 0 → Given → Result Request ArgumentsFault
     → Streams → ℕ → Type 0
 IsEndFor named keeps none given (Ok request) streams code =

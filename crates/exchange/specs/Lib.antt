@@ -6,3 +6,4 @@ pub mod Keeping
 pub mod Responses
 pub mod Warnings
 pub mod Promises
+pub mod Rights

@@ -85,7 +85,7 @@ TellsLines (Texts (Replay shape recorded image first)) = ⊤
 TellsLines job = ⊥
 
 -- What was told beside what is replied, where the arguments don't ask for silence, and else
--- nothing: by `talk` what may be told of some refusals, one after another, behind what stood there,
+-- nothing: by `talk` what may be told of some refusals, one after another, after what stood there,
 -- and then some whole lines; by `c004` what it drops; by what may warn at most a whole line, and
 -- that only where there is a cause; and by `host` and `replay` some whole lines.
 abbrev pub IsBeside : Type 0 → Request → Option (List ℕ) → Option (List ℕ) → Type 0
@@ -101,7 +101,7 @@ IsBeside cause request before after =
     ⊎ ((request.is_quiet ≡ false) × TellsLines request.job
     × ((lines : List (List ℕ)) × AreToldLines before after lines))
 
--- what was told on standard error of an answer, behind what was told beside it: nothing, or one
+-- what was told on standard error of an answer, after what was told beside it: nothing, or one
 -- text of a refusal or of what stopped a drive, and nothing where the arguments ask for that
 abbrev pub IsNoted : Type 0 → Request → Printed → Option (List ℕ) → Option (List ℕ) → Type 0
 IsNoted cause request end before after =

@@ -9,7 +9,7 @@ use Rattle.named_files.specs.Notes.{IsNoteOn, IsNoAnswer}
 use Rattle.drive_answers.specs.Ways.{Ways}
 use Rattle.session_answers.specs.HostAnswers.{SessionEnd}
 use Rattle.exchange.specs.Responses.{Response}
-use Rattle.kept_sessions.specs.declared.found.Found.{Found}
+use Rattle.kept_sessions.specs.declared.job_result.JobResult.{JobResult}
 use Rattle.named_files.specs.declared.lost.Lost.{Lost}
 use Rattle.named_files.specs.declared.unanswered.Unanswered.TheVariants.{NoMemory as Memory}
 use Rattle.drive_answers.specs.declared.fault.DriveFault.{DriveFault}
@@ -25,7 +25,7 @@ abbrev pub IsMissed : (behind cut : List ℕ → Type 0) → List ℕ → NoAnsw
 IsMissed behind cut told (Refused why line) = behind told
 IsMissed behind cut told (Unwritten what) = cut told
 
--- Something was told behind what stood there. What is answered is so behind it; or there is no
+-- Something was told after what stood there. What is answered is so after it; or there is no
 -- answer.
 abbrev pub HasTold : {X : Type 0} → Option (List ℕ) → Option (List ℕ) → (List ℕ → X → Type 0)
     → (behind cut : List ℕ → Type 0) → Result X NoAnswer → Type 0
@@ -42,13 +42,13 @@ abbrev pub IsUnwritten : NoAnswer → Type 0
 IsUnwritten (Refused why line) = ⊥
 IsUnwritten (Unwritten what) = ⊤
 
--- why there is nothing to print behind settings: only want of memory is refused
+-- why there is nothing to print after settings: only want of memory is refused
 abbrev pub IsMissedFor : DriveFault → NoAnswer → Type 0
 IsMissedFor Untold missed = IsUnwritten missed
 IsMissedFor NoMemory missed = missed ≡ Refused Memory None
 
 -- what comes of a job that was told this before, left this book, and ports and clients so
-abbrev pub response_of : List ℕ → Found → Option Account → Ways → List SessionEnd → Response
+abbrev pub response_of : List ℕ → JobResult → Option Account → Ways → List SessionEnd → Response
 response_of told found left ports ends =
     record { told = told; end = found.answer; left = left; ports = ports; ends = ends }
 
@@ -61,7 +61,7 @@ abbrev pub HasNote : Result Answered NoAnswer → Type 0
 HasNote result = MatchResult result IsAnswered IsNoAnswer
 
 -- what is answered where this comes of a job, and this is lost
-abbrev pub IsFinished : Result Found NoAnswer → Lost → Result Answered NoAnswer → Type 0
+abbrev pub IsFinished : Result JobResult NoAnswer → Lost → Result Answered NoAnswer → Type 0
 IsFinished (Ok found) lost (Ok done) = (done.answer ≡ found.answer) × (done.lost ≡ lost)
 IsFinished (Ok found) lost (Err missed) = ⊥
 IsFinished (Err missed) lost (Ok done) = ⊥

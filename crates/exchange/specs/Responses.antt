@@ -30,7 +30,7 @@ use Rattle.command_words.specs.declared.jobs.PortJob.TheVariants.{Drive, C004}
 use Rattle.command_words.specs.declared.jobs.SessionJob.{SessionJob}
 use Rattle.command_words.specs.declared.jobs.SessionJob.TheVariants.{Serve, Host, Talk}
 use Rattle.command_words.specs.declared.jobs.SharedRack.{SharedRack}
-use Rattle.named_files.specs.Apart.{AreSeenApart, Leading}
+use Rattle.named_files.specs.DistinctFiles.{AreSeenApart, Leading}
 use Rattle.named_files.specs.Contents.{AreContents, Holding}
 use Rattle.drive_answers.specs.Ways.{Ways}
 use Rattle.exchange.specs.Drives.{IsDriveBy, IsDriveCut, names_in}
@@ -49,7 +49,7 @@ abbrev pub given_by : Option (List ℕ) → Ways → (List (List ℕ) → KnownC
 given_by input ports clients = record { input = input; ports = ports; clients = clients }
 
 -- what comes of a job: what is told before its answer, this itself, the book that sessions leave,
--- the ports behind it, and how the sessions of live clients ended
+-- the ports after it, and how the sessions of live clients ended
 pub record Response : Type 0 where
   pub told : List ℕ
   pub end : Printed
@@ -66,7 +66,7 @@ abbrev pub source_in : Source (List ℕ) → List ℕ → Source (List ℕ)
 source_in source text = source_map (λ _. text) source
 
 -- what `c004` replied to what came of standard input, to its end, or as far as it could be read; it
--- prints nothing behind that
+-- prints nothing after that
 abbrev pub IsC004By : Option (List ℕ) → List ℕ → Printed → Type 0
 IsC004By input replies end =
     (came told : List ℕ) × (after : Option (List ℕ)) × (switch : EndState)

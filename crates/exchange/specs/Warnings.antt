@@ -3,7 +3,7 @@ use Rattle.std.specs.Prelude.{◌≡◌, ◌⊎◌, ℕ, List, Option, Some, Non
 use Rattle.exchange.specs.declared.warned.Warned.{Warned}
 use Rattle.named_files.specs.Notes.{IsToldInPart}
 use Rattle.switch_driver.specs.Lines.{HasToldLine}
-use Rattle.switch_driver.specs.declared.stage.Halt.{Halt}
+use Rattle.switch_driver.specs.declared.drive_observer.Halt.{Halt}
 
 -- there is such a line, and as much of it as could be written was told
 abbrev pub IsWarned : {Z : Type 0} → Option (String Z) → Option (List ℕ) → Option (List ℕ) → Type 0
@@ -24,7 +24,7 @@ IsWarnedOnce {I} {O} {E} contents old new =
     ⊎ ((new.warning ≡ None)
     × IsWarned old.warning (contents old.err.now) (contents new.err.now)))
 
--- the line of a setting was told behind that
+-- the line of a setting was told after that
 abbrev pub HasToldWarned : {I O E : Type 0} → (I → Option (List ℕ)) → (O → Option (List ℕ))
     → (E → Option (List ℕ)) → ℕ → List ℕ → Result (Unit {0}) Halt → Warned I O E → Warned I O E → Type 0
 HasToldWarned {I} {O} {E} remaining contents beside setting numbers result old new =

@@ -7,8 +7,8 @@ ghost use Rattle.exchange.specs.Outcomes.{HasNote, IsFinished};
 
 use crate::texts::texts_of;
 use command_words::Job;
-use kept_sessions::Found;
-use named_files::{Contents, Lack, Lost, NoAnswer, lack_line};
+use kept_sessions::JobResult;
+use named_files::{Contents, IoFailure, Lost, NoAnswer, lack_line};
 use plan_answers::{Answer, REFUSED};
 use refusal_notes::{Texts, second_line};
 use refusals::Refusal;
@@ -27,7 +27,7 @@ pub(crate) struct Answered {
 /// and what is lost of what its sessions leave.
 pub(crate) fn finished(
     alloc: Global,
-    end: Result<Found, NoAnswer>,
+    end: Result<JobResult, NoAnswer>,
     lost: Lost,
     job: &Job,
     contents: &Contents,
@@ -48,7 +48,12 @@ pub(crate) fn finished(
 
 /// What is told beside an answer to these texts, or of what lacks where a port can't be opened or a
 /// drive stopped.
-fn note_on(alloc: Global, answer: &Answer, texts: Texts<'_>, lack: &Option<Lack>) -> Option<String>
+fn note_on(
+    alloc: Global,
+    answer: &Answer,
+    texts: Texts<'_>,
+    lack: &Option<IoFailure>,
+) -> Option<String>
     ensures { IsNoteOn answer.now (option_map (λ line. string_bytes line) result) }
 {
     match (answer.refusal(), lack) {

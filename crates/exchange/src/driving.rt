@@ -15,11 +15,11 @@ use crate::warned::Warned;
 use command_words::Text;
 use crossbar::Chip;
 use drive_answers::{
-    DriveEnd, DriveFault, PortFailure, PortFile, PortNames, Ports, Sight, answer_drive,
+    DriveEnd, DriveFault, OutputMismatch, PortFailure, PortFile, PortNames, Ports, answer_drive,
 };
 use exchange_limits::WorkerCount;
-use kept_sessions::Found;
-use named_files::{Contents, Lack, NoAnswer, Unwritten, slice_of, source_with, text_of};
+use kept_sessions::JobResult;
+use named_files::{Contents, IoFailure, NoAnswer, Unwritten, slice_of, source_with, text_of};
 use plan_answers::Source;
 use refusals::PortName;
 use std::alloc::{AllocError, Global};
@@ -36,7 +36,7 @@ struct LinesEnd {
     reason: Option<io::Error>,
 }
 
-/// What is answered to these texts behind lines that are told on `out`. Behind each a line of
+/// What is answered to these texts after lines that are told on `out`. After each a line of
 /// `input` is waited for, unless it goes on. Before the first a warning is told on `err`, where
 /// there is one.
 fn answer_lines<R: AllocGlobal + Threads + Sync, P: Ports, I: Read, O: Write, E: Write>(
@@ -80,8 +80,8 @@ fn answer_lines<R: AllocGlobal + Threads + Sync, P: Ports, I: Read, O: Write, E:
     LinesEnd { end, reason }
 }
 
-/// The answer of `exchange drive BATCH PORT [PORT_B]`, from this setting on, behind the lines that
-/// are told on `out`, each once its setting stands. Behind each a line of `input` is waited for,
+/// The answer of `exchange drive BATCH PORT [PORT_B]`, from this setting on, after the lines that
+/// are told on `out`, each once its setting stands. After each a line of `input` is waited for,
 /// unless it goes on. Before the first a warning is told on `err`, where there is one.
 pub(crate) fn drive<R: AllocGlobal + Threads + Sync, P: Ports, I: Read, O: Write, E: Write>(
     rt: &R,
@@ -96,7 +96,7 @@ pub(crate) fn drive<R: AllocGlobal + Threads + Sync, P: Ports, I: Read, O: Write
     out: &mut O,
     warning: Option<String>,
     err: &mut E,
-) -> Result<Found, NoAnswer>
+) -> Result<JobResult, NoAnswer>
     ensures answer { HasTold (O.contents out.old) (O.contents out.new)
         (λ told found. let files = contents_in contents.now in
         IsDriveBy (source_in source.now (text_in files.schedule)) (text_in files.list) files.wiring
@@ -117,16 +117,16 @@ pub(crate) fn drive<R: AllocGlobal + Threads + Sync, P: Ports, I: Read, O: Write
         Ok(end) => {
             let failure = ports.take_failure();
             let lack = lack_of(rt.alloc(), names, failure, end.sight, reason);
-            Ok(Found {
+            Ok(JobResult {
                 lack,
-                ..Found::alone(end.answer)
+                ..JobResult::alone(end.answer)
             })
         }
         Err(fault) => Err(missed_by(fault, reason)),
     }
 }
 
-/// Why nothing is printed behind settings. A setting couldn't be told for this reason.
+/// Why nothing is printed after settings. A setting couldn't be told for this reason.
 fn missed_by(fault: DriveFault, reason: Option<io::Error>) -> NoAnswer
     ensures { IsNoAnswer result × IsMissedFor fault result }
 {
@@ -141,9 +141,9 @@ fn lack_of(
     alloc: Global,
     names: PortNames<'_>,
     failure: Option<PortFailure>,
-    sight: Option<Sight>,
+    sight: Option<OutputMismatch>,
     unread: Option<io::Error>,
-) -> Option<Lack> {
+) -> Option<IoFailure> {
     if let Some(failure) = failure {
         return port_lack(alloc, names, &failure).ok();
     }
@@ -158,7 +158,7 @@ fn port_lack(
     alloc: Global,
     names: PortNames<'_>,
     failure: &PortFailure,
-) -> Result<Lack, AllocError> {
+) -> Result<IoFailure, AllocError> {
     let port = match failure.port {
         PortName::A => names.port,
         PortName::B => names.port_b.unwrap_or(""),
@@ -173,23 +173,27 @@ fn port_lack(
         _ => failure.why.to_string(alloc)?,
     };
     let name = format!(in alloc; "{port}{end}")?;
-    Ok(Lack { name, why })
+    Ok(IoFailure { name, why })
 }
 
 /// What is told of an output that disagrees.
-fn sight_lack(alloc: Global, names: PortNames<'_>, sight: &Sight) -> Result<Lack, AllocError> {
+fn sight_lack(
+    alloc: Global,
+    names: PortNames<'_>,
+    sight: &OutputMismatch,
+) -> Result<IoFailure, AllocError> {
     let port = match sight.chip() {
         Chip::A => names.port,
         Chip::B => names.port_b.unwrap_or(""),
     };
     let name = format!(in alloc; "{port}")?;
     let why = sight.to_string(alloc)?;
-    Ok(Lack { name, why })
+    Ok(IoFailure { name, why })
 }
 
 /// What is told of standard input that can't be read.
-fn input_lack(alloc: Global, unread: &io::Error) -> Result<Lack, AllocError> {
+fn input_lack(alloc: Global, unread: &io::Error) -> Result<IoFailure, AllocError> {
     let name = format!(in alloc; "-")?;
     let why = unread.to_string(alloc)?;
-    Ok(Lack { name, why })
+    Ok(IoFailure { name, why })
 }

@@ -17,21 +17,21 @@ ghost use Rattle.exchange.specs.Outcomes.{HasTold, IsNothing, IsUnanswered, resp
 ghost use Rattle.named_files.specs.Notes.{IsNoAnswer, IsRefused};
 
 use crate::answered::{Answered, finished};
-use crate::beside::Beside;
+use crate::devices::Devices;
 use crate::driving::drive;
-use crate::lacks::{cut_lack, no_lacks, tell_lack, tell_lacks, torn_lack};
-use crate::peers::Peers;
+use crate::failures::{cut_lack, no_lacks, report_failure, report_failures, torn_lack};
+use crate::note_writer::NoteWriter;
 use crate::unserved::{close_outputs, without_sessions};
 use crate::warnings::{overlap_warning_of, tell_beside, warning_of};
 use client_session::NoListener;
 use command_words::{Job, PortJob, Request, SessionJob, Text, TextJob};
 use drive_answers::{PortNames, Ports};
 use exchange_limits::WorkerCount;
-use kept_sessions::{Found, Kept, host, serve, talk};
+use kept_sessions::{JobResult, Kept, host, serve, talk};
 use link_ends::{EndFault, SwitchEnd, answer_commands};
 use named_files::{
-    Apart, Contents, NoAnswer, Outputs, Receipts, Runtime, System, Unwritten, open_apart,
-    read_contents, reason_line, slice_of, source_with, tell_note, text_of,
+    Contents, DistinctFiles, NoAnswer, Outputs, Receipts, Runtime, System, Unwritten,
+    open_distinct, read_contents, reason_line, slice_of, source_with, tell_note, text_of,
 };
 use plan_answers::{Answer, answer_check, answer_direct, answer_draw, answer_plan, answer_prices};
 use rack_answers::{answer_apply, answer_orders, answer_run, answer_switch};
@@ -42,7 +42,7 @@ use std::io::{Read, Write};
 use std::thread::Threads;
 
 /// How a job ended, and what is left of what was opened for it to be written.
-pub(crate) struct Ended<C> {
+pub(crate) struct JobEnd<C> {
     pub(crate) end: Result<Answered, NoAnswer>,
     pub(crate) receipts: Receipts<C>,
 }
@@ -59,12 +59,12 @@ pub(crate) struct Ended<C> {
 pub(crate) fn answer_to<R: Runtime, S: System, P: Ports, I: Read, O: Write, E: Write>(
     rt: &R,
     system: &S,
-    peers: &mut Peers<P>,
+    peers: &mut Devices<P>,
     request: &Request,
     input: &mut I,
     out: &mut O,
     err: &mut E,
-) -> Ended<S::Receipt>
+) -> JobEnd<S::Receipt>
     requires limits { IsWithinLimits request.now.job }
     requires unserved { peers.old.endings.items ≡ [] }
     ensures { HasEnded (named_by (S.holds system.now) (S.leads system.now)) S.received
@@ -76,11 +76,11 @@ pub(crate) fn answer_to<R: Runtime, S: System, P: Ports, I: Read, O: Write, E: W
         result.end }
 {
     let (alloc, job) = (rt.alloc(), &request.job);
-    let (outputs, opened) = open_apart(system, alloc, job);
+    let (outputs, opened) = open_distinct(system, alloc, job);
     let (apart, contents) = match read_opened(system, alloc, job, opened, input) {
         Ok(read) => read,
         Err(missed) => {
-            return Ended {
+            return JobEnd {
                 end: Err(missed),
                 receipts: close_outputs(system, job, outputs),
             };
@@ -94,7 +94,7 @@ pub(crate) fn answer_to<R: Runtime, S: System, P: Ports, I: Read, O: Write, E: W
     } = answer_read(
         rt, system, peers, request, &apart, &contents, outputs, input, out, err,
     );
-    Ended {
+    JobEnd {
         end: finished(alloc, end, lost, job, &contents),
         receipts,
     }
@@ -105,9 +105,9 @@ fn read_opened<S: System, I: Read>(
     system: &S,
     alloc: Global,
     job: &Job,
-    opened: Result<Apart, NoAnswer>,
+    opened: Result<DistinctFiles, NoAnswer>,
     input: &mut I,
-) -> Result<(Apart, Contents), NoAnswer>
+) -> Result<(DistinctFiles, Contents), NoAnswer>
     requires apart { IfOk opened (λ apart. apart ≡ job.now) }
     requires note { IfErr opened (λ missed. IsRefused missed) }
     ensures apart { IfOk result (λ read. read.0 ≡ job.now) }
@@ -130,9 +130,9 @@ fn read_opened<S: System, I: Read>(
 fn answer_read<R: Runtime, S: System, P: Ports, I: Read, O: Write, E: Write>(
     rt: &R,
     system: &S,
-    peers: &mut Peers<P>,
+    peers: &mut Devices<P>,
     request: &Request,
-    apart: &Apart,
+    apart: &DistinctFiles,
     contents: &Contents,
     outputs: Outputs<'_, S::Stream>,
     input: &mut I,
@@ -215,8 +215,8 @@ fn answer_read<R: Runtime, S: System, P: Ports, I: Read, O: Write, E: Write>(
                     outputs,
                     &mut peers.endings,
                 );
-                tell_lacks(alloc, lacks, is_quiet, err);
-                tell_lack(
+                report_failures(alloc, lacks, is_quiet, err);
+                report_failure(
                     alloc,
                     cut_lack(alloc, rack, kept.cut).as_ref(),
                     is_quiet,
@@ -235,11 +235,11 @@ fn answer_read<R: Runtime, S: System, P: Ports, I: Read, O: Write, E: Write>(
                 &mut NoListener,
             ),
             SessionJob::Talk => {
-                let mut beside = Beside::new(alloc, rack.shape.as_str(), err);
+                let mut beside = NoteWriter::new(alloc, rack.shape.as_str(), err);
                 let kept = talk(rt, system, rack, contents, outputs, input, out, &mut beside);
                 // It does nothing when the program runs: the proof reads from it what `err` holds.
                 beside.into_stream();
-                tell_lack(
+                report_failure(
                     alloc,
                     cut_lack(alloc, rack, kept.cut).as_ref(),
                     is_quiet,
@@ -262,7 +262,7 @@ fn answer_ports<R: AllocGlobal + Threads + Sync, P: Ports, I: Read, O: Write, E:
     input: &mut I,
     out: &mut O,
     err: &mut E,
-) -> Result<Found, NoAnswer>
+) -> Result<JobResult, NoAnswer>
     requires { request.now.job ≡ OverPorts job.now }
     ensures response { HasTold (O.contents out.old) (O.contents out.new)
         (λ told found. IsPortAnswer job.now (contents_in contents.now) (I.remaining input.old)
@@ -308,7 +308,7 @@ fn answer_alone<R: AllocGlobal + Threads + Sync, E: Write>(
     job: &TextJob,
     contents: &Contents,
     err: &mut E,
-) -> Result<Found, NoAnswer>
+) -> Result<JobResult, NoAnswer>
     requires { request.now.job ≡ OfTexts job.now }
     ensures text { IfOk result (λ found.
         IsTextAnswer job.now (contents_in contents.now) found.answer) }
@@ -321,7 +321,7 @@ fn answer_alone<R: AllocGlobal + Threads + Sync, E: Write>(
     match job {
         TextJob::Replay { recorded, .. } => {
             let lack = torn_lack(alloc, recorded, found.torn);
-            tell_lack(alloc, lack.as_ref(), request.is_quiet, err);
+            report_failure(alloc, lack.as_ref(), request.is_quiet, err);
             Ok(found)
         }
         _ => {
@@ -337,7 +337,7 @@ fn answer_texts<R: AllocGlobal + Threads + Sync>(
     rt: &R,
     job: &TextJob,
     contents: &Contents,
-) -> Result<Found, AllocError>
+) -> Result<JobResult, AllocError>
     ensures { IfOk result (λ found.
         IsTextAnswer job.now (contents_in contents.now) found.answer) }
 {
@@ -349,13 +349,13 @@ fn answer_texts<R: AllocGlobal + Threads + Sync>(
             planning,
             workers,
             ..
-        } => Ok(Found::alone(answer_plan(rt, alloc, list, *planning, *workers)?)),
-        TextJob::Check { .. } => Ok(Found::alone(answer_check(alloc, list, schedule)?)),
+        } => Ok(JobResult::alone(answer_plan(rt, alloc, list, *planning, *workers)?)),
+        TextJob::Check { .. } => Ok(JobResult::alone(answer_check(alloc, list, schedule)?)),
         TextJob::Draw { settings, .. } => {
             let range = bytes_in(settings);
-            Ok(Found::alone(answer_draw(alloc, list, schedule, range)?))
+            Ok(JobResult::alone(answer_draw(alloc, list, schedule, range)?))
         }
-        TextJob::Prices { .. } => Ok(Found::alone(answer_prices(alloc, list, schedule)?)),
+        TextJob::Prices { .. } => Ok(JobResult::alone(answer_prices(alloc, list, schedule)?)),
         TextJob::Switch {
             source,
             has_two,
@@ -365,7 +365,7 @@ fn answer_texts<R: AllocGlobal + Threads + Sync>(
             let source = source_with(source, schedule);
             let wiring = slice_of(&contents.wiring);
             let answer = answer_switch(rt, alloc, *has_two, wiring, list, source, *workers)?;
-            Ok(Found::alone(answer))
+            Ok(JobResult::alone(answer))
         }
         TextJob::Orders {
             source,
@@ -375,13 +375,13 @@ fn answer_texts<R: AllocGlobal + Threads + Sync>(
         } => {
             let source = source_with(source, schedule);
             let answer = answer_orders(rt, alloc, list, source, *module, *workers)?;
-            Ok(Found::alone(answer))
+            Ok(JobResult::alone(answer))
         }
-        TextJob::Direct { .. } => Ok(Found::alone(answer_direct(alloc, list)?)),
+        TextJob::Direct { .. } => Ok(JobResult::alone(answer_direct(alloc, list)?)),
         TextJob::Apply { shape, .. } => {
             let shape = shape.as_str().as_bytes();
             let answer = answer_apply(alloc, shape, list, schedule)?;
-            Ok(Found::alone(answer))
+            Ok(JobResult::alone(answer))
         }
         TextJob::Run {
             shape,
@@ -392,13 +392,13 @@ fn answer_texts<R: AllocGlobal + Threads + Sync>(
             let shape = shape.as_str().as_bytes();
             let source = source_with(source, schedule);
             let answer = answer_run(rt, alloc, shape, list, source, image, *workers)?;
-            Ok(Found::alone(answer))
+            Ok(JobResult::alone(answer))
         }
         TextJob::Replay { shape, first, .. } => {
             let shape = bytes_in(shape);
             let workers = WorkerCount::ONE;
             let replayed = answer_replay(rt, alloc, shape, list, image, *first, workers)?;
-            Ok(Found::replayed(replayed))
+            Ok(JobResult::replayed(replayed))
         }
     }
 }
@@ -423,14 +423,14 @@ fn bytes_in(text: &Option<Text>) -> Option<&[u8]>
     }
 }
 
-/// The answer of `exchange c004`, behind its answers to enquiries on `out`. What it drops is told
+/// The answer of `exchange c004`, after its answers to enquiries on `out`. What it drops is told
 /// on `err`, and so is why standard input can't be read any further.
 fn c004<I: Read, O: Write, E: Write>(
     alloc: Global,
     input: &mut I,
     out: &mut O,
     err: &mut E,
-) -> Result<Found, NoAnswer>
+) -> Result<JobResult, NoAnswer>
     ensures answer { HasTold (O.contents out.old) (O.contents out.new)
         (λ told found. IsC004By (I.remaining input.old) told found.answer)
         IsNothing (IsC004Cut (I.remaining input.old)) result }
@@ -439,10 +439,10 @@ fn c004<I: Read, O: Write, E: Write>(
 {
     let mut end = SwitchEnd::new();
     match answer_commands(&mut end, input, out, err) {
-        Ok(()) => Ok(Found::alone(Answer::done(Vec::new(alloc)))),
+        Ok(()) => Ok(JobResult::alone(Answer::done(Vec::new(alloc)))),
         Err(EndFault::Read(error)) => {
             tell_note(&reason_line(alloc, "-", &error), false, err);
-            Ok(Found::alone(Answer::failed(Vec::new(alloc))))
+            Ok(JobResult::alone(Answer::failed(Vec::new(alloc))))
         }
         Err(EndFault::Write(error)) => Err(NoAnswer::Unwritten(Unwritten::from(error))),
     }

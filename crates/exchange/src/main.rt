@@ -22,12 +22,13 @@
 #![tactic(auto)]
 
 mod answered;
-mod beside;
+mod devices;
 mod driving;
+mod failures;
 mod jobs;
-mod lacks;
+mod laws;
 mod limits;
-mod peers;
+mod note_writer;
 mod promises;
 mod responding;
 mod texts;
@@ -35,10 +36,10 @@ mod unserved;
 mod warned;
 mod warnings;
 
+use crate::devices::Devices;
 use crate::limits::UNWRITTEN;
-use crate::peers::Peers;
 use crate::promises::answer;
-use crate::responding::Left;
+use crate::responding::ProgramExit;
 use named_files::{HostPorts, Unwritten};
 use std::fs::{File, OpenOptions};
 use std::os::fd::{AsRawFd, IntoRawFd};
@@ -52,8 +53,8 @@ fn main(rt: HostRuntime) -> ExitCode {
         return ExitCode::from(UNWRITTEN);
     }
     let arguments = command_line(&rt);
-    let mut peers = Peers::new(rt.alloc(), HostPorts::new(&rt));
-    let Left { code, receipts: _ } = answer(
+    let mut peers = Devices::new(rt.alloc(), HostPorts::new(&rt));
+    let ProgramExit { code, receipts: _ } = answer(
         &rt,
         &rt,
         &mut peers,

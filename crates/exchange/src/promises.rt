@@ -9,12 +9,14 @@
 //! and `answer_ports`, which by their bounds can't wait.
 
 ghost use Rattle.std.specs.Prelude.{◌≡◌, [], IfOk, OnErr};
+ghost use Rattle.std.specs.Io.KnownBytes.{Appends};
 ghost use Rattle.std.specs.Process.{exit_status};
 ghost use Rattle.command_words.specs.Jobs.{texts_of};
-ghost use Rattle.exchange.specs.Promises.{KeepsPromises, KeepsUnread, clients_of, front_of, kept_by, run_of};
+ghost use Rattle.exchange.specs.Promises.{KeepsPromises, KeepsUnread, clients_of, kept_by, run_of, world_of};
+ghost use Rattle.named_files.specs.Notes.{IsToldInPart};
 
-use crate::peers::Peers;
-use crate::responding::{Left, respond};
+use crate::devices::Devices;
+use crate::responding::{ProgramExit, respond};
 use drive_answers::Ports;
 use named_files::{Runtime, System};
 use std::io;
@@ -28,28 +30,28 @@ use std::io::{Read, Write};
 pub fn answer<R: Runtime, S: System, P: Ports, I: Read, O: Write, E: Write>(
     rt: &R,
     system: &S,
-    peers: &mut Peers<P>,
+    peers: &mut Devices<P>,
     arguments: io::Result<Vec<String>>,
     input: &mut I,
     out: &mut O,
     err: &mut E,
-) -> Left<S::Receipt>
+) -> ProgramExit<S::Receipt>
     requires { peers.old.endings.items ≡ [] }
     ensures arguments { IfOk arguments (λ w. KeepsPromises (S.leads system.now)
-        (run_of (S.holds system.now) (I.remaining input.old) (O.contents out.old)
-        (O.contents out.new) (texts_of w.items) (exit_status result.code))
-        (front_of (S.holds system.now) (I.remaining input.old) (O.contents out.old)
-        (O.contents out.new) (texts_of w.items))
+        (world_of (run_of (S.holds system.now) (I.remaining input.old)
+        (Appends (O.contents out.old) (O.contents out.new)) (texts_of w.items)
+        (exit_status result.code))
         (P.ways peers.old.ports) (P.ways peers.new.ports)
         (kept_by S.received result.receipts)
-        (clients_of (S.says system.now) (S.had system.now) peers.new.endings.items)) }
+        (clients_of (S.says system.now) (S.had system.now) peers.new.endings.items))
+        (IsToldInPart (O.contents out.old) (O.contents out.new))) }
     // Where the arguments can't be read as texts.
     ensures none { OnErr arguments (KeepsUnread
-        (run_of (S.holds system.now) (I.remaining input.old) (O.contents out.old)
-        (O.contents out.new) [] (exit_status result.code))
+        (world_of (run_of (S.holds system.now) (I.remaining input.old)
+        (Appends (O.contents out.old) (O.contents out.new)) [] (exit_status result.code))
         (P.ways peers.old.ports) (P.ways peers.new.ports)
         (kept_by S.received result.receipts)
-        (clients_of (S.says system.now) (S.had system.now) peers.new.endings.items)) }
+        (clients_of (S.says system.now) (S.had system.now) peers.new.endings.items))) }
 {
     respond(rt, system, peers, arguments, input, out, err)
 }

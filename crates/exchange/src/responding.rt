@@ -11,9 +11,9 @@ ghost use Rattle.named_files.specs.Outputs.{lost_none, IsUnwrittenTold};
 ghost use Rattle.exchange.specs.Ends.{IsLeft, IsNoneLeft, IsPrinted, leaving, streams_of, IsCutFor, IsEndForArguments, IsEndWithoutArguments, IsFaultCut, IsFaultEnd, IsUnwrittenOf};
 
 use crate::answered::Answered;
-use crate::jobs::{Ended, answer_to};
+use crate::devices::Devices;
+use crate::jobs::{JobEnd, answer_to};
 use crate::limits::{MISUSED, UNWRITTEN};
-use crate::peers::Peers;
 use byte_streams::write_bytes;
 use command_words::{ArgumentsFault, read_arguments};
 use drive_answers::Ports;
@@ -26,7 +26,7 @@ use std::io::{ErrorKind, Read, Write};
 use std::process::ExitCode;
 
 /// How the program ends, and what is left of what it opened to be written.
-pub struct Left<C> {
+pub struct ProgramExit<C> {
     /// The status that it ends with.
     pub code: ExitCode,
     /// What is left of the files of a record and of an image.
@@ -41,12 +41,12 @@ pub struct Left<C> {
 pub fn respond<R: Runtime, S: System, P: Ports, I: Read, O: Write, E: Write>(
     rt: &R,
     system: &S,
-    peers: &mut Peers<P>,
+    peers: &mut Devices<P>,
     arguments: io::Result<Vec<String>>,
     input: &mut I,
     out: &mut O,
     err: &mut E,
-) -> Left<S::Receipt>
+) -> ProgramExit<S::Receipt>
     requires { peers.old.endings.items ≡ [] }
     ensures arguments { IfOk arguments (λ w.
         ((exit_status result.code ≡ UNWRITTEN)
@@ -83,12 +83,12 @@ pub fn respond<R: Runtime, S: System, P: Ports, I: Read, O: Write, E: Write>(
                 err,
             );
             let code = status_of(end, err);
-            Left { code, receipts }
+            ProgramExit { code, receipts }
         }
         Err(error) => {
             let code = status_of(print_without_arguments(&error, out, err), err);
             let receipts = Receipts::none();
-            Left { code, receipts }
+            ProgramExit { code, receipts }
         }
     }
 }
@@ -130,7 +130,7 @@ fn print_without_arguments<O: Write, E: Write>(
 fn print_response<R: Runtime, S: System, P: Ports, I: Read, O: Write, E: Write>(
     rt: &R,
     system: &S,
-    peers: &mut Peers<P>,
+    peers: &mut Devices<P>,
     arguments: &[String],
     input: &mut I,
     out: &mut O,
@@ -157,7 +157,7 @@ fn print_response<R: Runtime, S: System, P: Ports, I: Read, O: Write, E: Write>(
 {
     match read_arguments(rt.alloc(), arguments) {
         Ok(request) => {
-            let Ended { end, receipts } = answer_to(rt, system, peers, &request, input, out, err);
+            let JobEnd { end, receipts } = answer_to(rt, system, peers, &request, input, out, err);
             let is_quiet = request.is_quiet;
             match end {
                 Ok(done) => (print_noted(done, is_quiet, out, err), receipts),

@@ -2,7 +2,7 @@
 
 use batch::position_of;
 use command_words::{Job, Text, TextJob};
-use kept_sessions::Found;
+use kept_sessions::JobResult;
 use named_files::{Contents, slice_of};
 use record_replay::RecordError;
 use refusal_notes::{Listing, Named, Opening, Texts};
@@ -63,7 +63,11 @@ fn of_record<'a>(
 
 /// The texts of a job's files and its words, with what its answer knows of a schedule, and of a
 /// record that is refused. Where a schedule is told of, that stands there, and else the image.
-pub(crate) fn texts_of<'a>(job: &'a Job, contents: &'a Contents, found: &'a Found) -> Texts<'a> {
+pub(crate) fn texts_of<'a>(
+    job: &'a Job,
+    contents: &'a Contents,
+    found: &'a JobResult,
+) -> Texts<'a> {
     let (files, error) = (job.files(), &found.error);
     let schedule = named(files.schedule, &contents.schedule);
     let texts = Texts {

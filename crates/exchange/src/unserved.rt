@@ -5,7 +5,7 @@ ghost use Rattle.named_files.specs.Outputs.{AreOpened, begins_with, is_live, los
 ghost use Rattle.exchange.specs.Keeping.{AreKept};
 
 use command_words::Job;
-use kept_sessions::{Found, Kept};
+use kept_sessions::{JobResult, Kept};
 use named_files::{Lost, NoAnswer, Outputs, Receipts, System, close_file};
 
 /// Closes the files that are open, where nothing went to them.
@@ -29,7 +29,7 @@ pub(crate) fn close_outputs<S: System>(
 pub(crate) fn without_sessions<S: System>(
     system: &S,
     job: &Job,
-    end: Result<Found, NoAnswer>,
+    end: Result<JobResult, NoAnswer>,
     outputs: Outputs<'_, S::Stream>,
 ) -> Kept<S::Receipt>
     requires { AreOpened S.Stream.contents (begins_with (S.holds system.now) (is_live job.now))

@@ -5,7 +5,7 @@ ghost use Rattle.exchange.specs.Warnings.{IsWarnedOnce};
 
 use named_files::tell_line;
 use std::io::{Read, Write};
-use switch_driver::{Halt, Lines, Stage};
+use switch_driver::{DriveObserver, Halt, Lines};
 
 /// A stage that tells lines of settings, and before the first of them another line on standard
 /// error, where there is one. So that is told once, and nowhere where no setting stands.
@@ -56,7 +56,7 @@ impl<I, O, E: Write> Warned<'_, '_, I, O, E> {
     }
 }
 
-impl<I: Read, O: Write, E: Write> Stage for Warned<'_, '_, I, O, E> {
+impl<I: Read, O: Write, E: Write> DriveObserver for Warned<'_, '_, I, O, E> {
     ghost use Rattle.exchange.specs.Warnings.{HasToldWarned};
 
     ghost hears = { λ old setting numbers result new.

@@ -1,6 +1,6 @@
 //! What is told on standard error beside answers: that two transfers write one block, by `plan`,
 //! `switch` and `drive`, and by `draw` that a picture is wider than common tools draw. Neither is a
-//! refusal, and it is told behind all that refuses.
+//! refusal, and it is told after all that refuses.
 
 ghost use Rattle.std.specs.Prelude.{◌≡◌, IfSome, string_bytes};
 ghost use Rattle.named_files.specs.Contents.{contents_in};

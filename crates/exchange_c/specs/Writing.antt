@@ -4,7 +4,7 @@ use Rattle.plan_answers.specs.Answers.{IsOnly}
 use Rattle.plan_answers.specs.Refusals.{Printed}
 use Rattle.exchange_c.specs.declared.status.TheConstants.{NO_ROOM, NO_MEMORY}
 
--- the bytes of the answer stand in front, under its status, and those behind are as they were
+-- the bytes of the answer stand in front, under its status, and those after are as they were
 pub record IsPut (answer : Printed) (old new : List ℕ) (count status : ℕ) : Type 0 where
   pub fits : length answer.text ≤ length old
   pub counted : count ≡ length answer.text

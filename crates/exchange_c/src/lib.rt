@@ -5,7 +5,7 @@
 //! wrote, or, where there was no room for them, those that it would write. It starts no thread,
 //! reads no file and prints nothing. What C has to keep to is said in `include/exchange.h`.
 //!
-//! An answer of the command of its name stands at the front of the caller's bytes, and those behind
+//! An answer of the command of its name stands at the front of the caller's bytes, and those after
 //! are as they were. Where there is no room, or no memory, all are as they were (`Leaves` of
 //! `specs/Writing.antt`). [`exchange_switch`] answers by a plan where the text of the schedule is
 //! empty, and else by that schedule (`IsSwitchedBy` of `specs/Switching.antt`), and

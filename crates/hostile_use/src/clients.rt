@@ -155,7 +155,7 @@ fn close_between<L: ExchangeName, R: Eprint>(
 }
 
 /// Puts what all sessions were told, in whatever order they ended, and then whether their exchange
-/// is closed, behind a text.
+/// is closed, after a text.
 fn push_all(text: &mut Vec<u8>, all: &[Told], closing: &str) -> Result<(), AllocError> {
     for told in all {
         push_told(text, told)?;

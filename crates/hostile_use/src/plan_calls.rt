@@ -49,9 +49,9 @@ pub fn fit_first<R: AllocGlobal + Eprint>(rt: &R) -> Option<Met> {
 pub enum PlanCall {
     /// `PairList::of_setting` and `numbers_of_setting` on row two-pushes.
     PairUp,
-    /// `run` behind its beginning, on row three-transfers, which has two settings.
+    /// `run` after its beginning, on row three-transfers, which has two settings.
     RunOn,
-    /// `run` behind its beginning, on row swap, whose blocks are held by then.
+    /// `run` after its beginning, on row swap, whose blocks are held by then.
     SwapOn,
 }
 
@@ -121,7 +121,7 @@ impl<'a, R: Eprint> Notice for Marking<'a, R> {
     }
 }
 
-/// `run` behind its beginning, of a plan of so many settings and words.
+/// `run` after its beginning, of a plan of so many settings and words.
 fn run_begun<R: AllocGlobal + Eprint + Threads + Sync>(
     rt: &R,
     planned: &Planned,

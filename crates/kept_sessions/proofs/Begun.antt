@@ -9,12 +9,12 @@ use Rattle.record_replay.specs.Replays.{IsRecordError}
 use Rattle.record_replay.specs.declared.fault.RecordError.{RecordError}
 use Rattle.record_replay.specs.declared.fault.RecordFault.TheVariants as fault
 use Rattle.kept_sessions.specs.Outcomes.{IsUnbegun, IsUnremade}
-use Rattle.kept_sessions.specs.declared.found.Cut.{Cut}
-use Rattle.kept_sessions.specs.declared.recording.Unbegun.{Unbegun}
-use Rattle.kept_sessions.specs.declared.recording.Unbegun.TheVariants.{Missed, Wrong}
+use Rattle.kept_sessions.specs.declared.job_result.Cut.{Cut}
+use Rattle.kept_sessions.specs.declared.recording.BeginError.{BeginError}
+use Rattle.kept_sessions.specs.declared.recording.BeginError.TheVariants.{Missed, Wrong}
 
 -- what can't be made again isn't gone on with
-pub unremade : (limit : ℕ) (held head text : List ℕ) (opening : Store) (error : RecordError) (what : Unbegun)
+pub unremade : (limit : ℕ) (held head text : List ℕ) (opening : Store) (error : RecordError) (what : BeginError)
     → held ≡ head ++ text → (error.fault ≢ fault.NoMemory → IsRecordError limit text opening None error) → IsUnremade error what → IsUnbegun true limit held head opening what
 unremade limit held head text opening error (Missed missed) is wrong told = told
 unremade limit held head text opening error (Wrong so) is wrong told = (refl, inr (text, error, is, wrong told.0, told.1))

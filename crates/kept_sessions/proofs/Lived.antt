@@ -15,7 +15,7 @@ use Rattle.book_record.proofs.Streams.{texts_append}
 use Rattle.plan_answers.specs.Refusals.{Printed}
 use Rattle.refusals.specs.declared.refusal.Refusal.{Refusal}
 use Rattle.command_words.specs.declared.jobs.RecordFile.{RecordFile}
-use Rattle.record_replay.specs.SessionRecords.{record_of}
+use Rattle.book_record.specs.Heads.{record_of}
 use Rattle.record_replay.proofs.Written.{record_append}
 use Rattle.session_answers.specs.Histories.{HaveOneHistory}
 use Rattle.session_answers.specs.HostAnswers.{KnownClients}
@@ -24,7 +24,7 @@ use Rattle.kept_sessions.specs.Live.{HasFront, IsHostOver, IsOver, IsOverAt, IsO
 use Rattle.kept_sessions.specs.Records.{BeginsFor, IsAsBegun, IsSoFar, record_front}
 use Rattle.named_files.specs.Outputs.{IsLeftOfAny}
 use Rattle.named_files.specs.Streams.{Closed, gone_at, gone_to}
-use Rattle.kept_sessions.specs.declared.live.Over.{Over}
+use Rattle.kept_sessions.specs.declared.live.FinishedSessions.{FinishedSessions}
 use Rattle.kept_sessions.specs.declared.live.Start.{Start}
 use Rattle.named_files.proofs.Named.{by_more}
 use Rattle.named_files.proofs.Written.{grown}
@@ -33,7 +33,7 @@ use Rattle.named_files.proofs.Written.{grown}
 pub same_account : (a : Account) → IsReady a → account a.opening a.history a.history a.machine true ≡ a
 same_account a ready = ap₂ (λ (es : List Entry) (whole : Bool). account a.opening a.history es a.machine whole) (sym ready.all) (sym ready.whole)
 
--- what a record tells of entries behind those of a book
+-- what a record tells of entries after those of a book
 pub front_on : (names : List Text) (was : Account) (opening : Store) (es added : List Entry) → opening ≡ was.opening → es ≡ was.history ++ added → record_of names opening es ≡ record_front names was ++ texts (length was.history) added
 front_on names was opening es added same are = ap₂ (record_of names) same are ∙ record_append names was.opening was.history added
 
@@ -80,7 +80,7 @@ so_far_in : {F : Type 0} (contents : F → Option (List ℕ)) (stream : Option F
 so_far_in contents None whole entries names was left opening same all text counted = tt
 so_far_in contents (Some file) whole entries names was left opening same all text counted = (so_far_at names was left (contents file) text whole opening same all, counted)
 
-pub so_far : {F : Type 0} (contents : F → Option (List ℕ)) (names : List Text) (was left : Account) (over : Over F) → IsOver contents names was left over
+pub so_far : {F : Type 0} (contents : F → Option (List ℕ)) (names : List Text) (was left : Account) (over : FinishedSessions F) → IsOver contents names was left over
     → IfSome over.stream (λ file. IsSoFar over.is_whole (record_front names left) (contents file) × (over.entries ≡ numbered (length left.history)))
 so_far {F} contents names was left over is = so_far_in contents over.stream over.is_whole over.entries names was left is.opening is.whole is.all is.text is.entries
 
@@ -110,7 +110,7 @@ text_named contents name text (Some f) (Some l) earlier stands all whole same fr
     let more : gone_at contents name l ≡ Some (text ++ put) = by_more name (contents f) (contents l) text put front w.appended in
     record { added = w.added; stand = w.stand; waiting = w.waiting; are = w.are; front = w.front; missing = w.missing; cut = w.cut; appended = subst (λ (o : Option (List ℕ)). Appends (Some text) o put) (sym more) refl; clean = w.clean }
 
-pub over_named : {F : Type 0} (contents : F → Option (List ℕ)) (name : Option Text) (names : List Text) (start : Start F) (left : Account) (over : Over F) → IsOverFrom contents start left over → HasFront (gone_at contents name) names start.book start.stream → IsOver (gone_at contents name) names start.book left over
+pub over_named : {F : Type 0} (contents : F → Option (List ℕ)) (name : Option Text) (names : List Text) (start : Start F) (left : Account) (over : FinishedSessions F) → IsOverFrom contents start left over → HasFront (gone_at contents name) names start.book start.stream → IsOver (gone_at contents name) names start.book left over
 over_named {F} contents name names start left over o front =
     let begun = begin_of contents start.stream in
     let at = o.1 begun.0 begun.1 in
@@ -147,7 +147,7 @@ entries_told None entries left is = tt
 entries_told (Some file) entries left is = is
 
 -- what sessions leave whose beginning had a stream
-pub over_recorded_from : {F : Type 0} (contents : F → Option (List ℕ)) (start : Start F) (stream : F) (left : Account) (over : Over F) → start.stream ≡ Some stream → is_some over.stream ≡ true → IsOverAt contents (contents stream) start.book left over → IsOverFrom contents start left over
+pub over_recorded_from : {F : Type 0} (contents : F → Option (List ℕ)) (start : Start F) (stream : F) (left : Account) (over : FinishedSessions F) → start.stream ≡ Some stream → is_some over.stream ≡ true → IsOverAt contents (contents stream) start.book left over → IsOverFrom contents start left over
 over_recorded_from {F} contents start stream left over is has at = (
   has ∙ sym (ap is_some is),
   λ before so. let same : contents stream ≡ before = subst (λ (o : Option F). IfSome o (λ file. contents file ≡ before)) is so in
@@ -155,7 +155,7 @@ over_recorded_from {F} contents start stream left over is has at = (
 )
 
 -- and whose beginning had none
-pub over_silent_from : {F : Type 0} (contents : F → Option (List ℕ)) (start : Start F) (left : Account) (over : Over F) → start.stream ≡ None → IsSettled start.book left → over.bare.machine ≡ left.machine → over.is_whole ≡ left.whole → over.stream ≡ None → IsOverFrom contents start left over
+pub over_silent_from : {F : Type 0} (contents : F → Option (List ℕ)) (start : Start F) (left : Account) (over : FinishedSessions F) → start.stream ≡ None → IsSettled start.book left → over.bare.machine ≡ left.machine → over.is_whole ≡ left.whole → over.stream ≡ None → IsOverFrom contents start left over
 over_silent_from {F} contents start left over is settled machine whole none = (
   ap is_some none ∙ sym (ap is_some is),
   λ before so. record { opening = settled.0; machine = machine; whole = whole; all = settled.1; text = subst (λ (o : Option F). IfSome o (λ file. IsStreamed before (contents file) start.book.history left.stands left.history left.whole)) (sym none) tt; entries = subst (λ (o : Option F). IfSome o (λ file. over.entries ≡ numbered (length left.history))) (sym none) tt },

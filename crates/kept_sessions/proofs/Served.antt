@@ -17,15 +17,15 @@ use Rattle.kept_sessions.specs.Keeping.{AreLiveKept}
 use Rattle.kept_sessions.specs.Records.{BeginsFor, IsCutFromRecord}
 use Rattle.named_files.specs.Streams.{Closed}
 use Rattle.kept_sessions.specs.Answers.{Sessions, hosting, loses, talking}
-use Rattle.kept_sessions.specs.declared.found.Cut.{Cut}
-use Rattle.kept_sessions.specs.declared.found.Found.{Found}
+use Rattle.kept_sessions.specs.declared.job_result.Cut.{Cut}
+use Rattle.kept_sessions.specs.declared.job_result.JobResult.{JobResult}
 use Rattle.kept_sessions.specs.declared.live.Kept.{Kept}
 use Rattle.named_files.specs.declared.lost.Lost.{Lost}
 use Rattle.named_files.specs.declared.notes.NoAnswer.{NoAnswer}
 use Rattle.named_files.specs.declared.outputs.Receipts.{Receipts}
 
 -- sessions that didn't begin
-unserved_of : {C : Type 0} (holds : List ℕ → List ℕ → Type 0) (received : C → Closed) (shared : SharedRack) (names : List Text) (image : Option (List ℕ)) (sessions : Printed → Sessions) (none : Type 0) (r : Result Found NoAnswer) (receipts : Receipts C) (lost : Lost) (cut : Option Cut)
+unserved_of : {C : Type 0} (holds : List ℕ → List ℕ → Type 0) (received : C → Closed) (shared : SharedRack) (names : List Text) (image : Option (List ℕ)) (sessions : Printed → Sessions) (none : Type 0) (r : Result JobResult NoAnswer) (receipts : Receipts C) (lost : Lost) (cut : Option Cut)
     → IsUnserved holds received shared names image (record { end = r; receipts = receipts; lost = lost; cut = cut }) → ((p : Printed) → (sessions p).unserved) → none → IsLived holds received shared names image sessions none (record { end = r; receipts = receipts; lost = lost; cut = cut })
 unserved_of holds received shared names image sessions none (Ok found) receipts lost cut is unserved so =
     record { answer = (None, (unserved found.answer, (is.answer.0, is.answer.1, inl is.answer.2)), is.left, tt); missed = tt }
@@ -43,7 +43,7 @@ pub record IsEnding (sessions : Printed → Sessions) (none : Type 0) (was left 
   pub so : (why : Refusal) → end ≡ Err why → none
   pub refused : (why : Refusal) → end ≡ Err why → why ≢ NoMemory → (p : Printed) → (sessions p).may_refuse why
 
-lived_of : {C : Type 0} (holds : List ℕ → List ℕ → Type 0) (received : C → Closed) (shared : SharedRack) (names : List Text) (image : Option (List ℕ)) (sessions : Printed → Sessions) (none : Type 0) (end : Result Printed Refusal) (was left : Account) (opening : Store) (r : Result Found NoAnswer) (receipts : Receipts C) (lost : Lost) (cut : Option Cut)
+lived_of : {C : Type 0} (holds : List ℕ → List ℕ → Type 0) (received : C → Closed) (shared : SharedRack) (names : List Text) (image : Option (List ℕ)) (sessions : Printed → Sessions) (none : Type 0) (end : Result Printed Refusal) (was left : Account) (opening : Store) (r : Result JobResult NoAnswer) (receipts : Receipts C) (lost : Lost) (cut : Option Cut)
     → IsRackOf shared.shape image opening → BeginsFor holds shared.record_out opening names was → IsToldBy end r → AreLiveKept holds received shared names (left_by end left) receipts lost → IsEnding sessions none was left end → IsCutFromRecord holds shared.record_out names was cut → IsLived holds received shared names image sessions none (record { end = r; receipts = receipts; lost = lost; cut = cut })
 lived_of holds received shared names image sessions none (Ok p) was left opening (Ok found) receipts lost cut rack begins told keeps ending cut_is =
     record { answer = (Some left, (opening, rack, was, begins, subst (λ (q : Printed). (sessions q).served was left) (sym told) (ending.done p refl)), keeps, (opening, was, begins, cut_is)); missed = tt }

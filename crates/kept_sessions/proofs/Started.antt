@@ -24,13 +24,13 @@ use Rattle.named_files.specs.Outputs.{IsLeftOfAny, IsOpened}
 use Rattle.kept_sessions.specs.Records.{BeginsAs, IsAsBegun, IsBegun, IsCutFrom, head_for, record_front}
 use Rattle.named_files.specs.Streams.{Closed, closed, gone_at, gone_to}
 use Rattle.kept_sessions.specs.Answers.{IsWrongStart}
-use Rattle.kept_sessions.specs.declared.found.Found.{Found}
+use Rattle.kept_sessions.specs.declared.job_result.JobResult.{JobResult}
 use Rattle.kept_sessions.specs.declared.live.Start.{Start}
-use Rattle.kept_sessions.specs.declared.live.Unstarted.{Unstarted}
+use Rattle.kept_sessions.specs.declared.live.StartFailure.{StartFailure}
 use Rattle.named_files.specs.declared.notes.NoAnswer.{NoAnswer}
 use Rattle.named_files.specs.declared.outputs.OutFile.{OutFile}
-use Rattle.kept_sessions.specs.declared.recording.Unbegun.{Unbegun}
-use Rattle.kept_sessions.specs.declared.recording.Unbegun.TheVariants.{Missed, Wrong}
+use Rattle.kept_sessions.specs.declared.recording.BeginError.{BeginError}
+use Rattle.kept_sessions.specs.declared.recording.BeginError.TheVariants.{Missed, Wrong}
 
 -- what has gone to a record's file that was cut, and to which a head was written
 pub cut_then : {E : Type 0} (r : Result Unit E) (old mid new : Option (List ℕ)) (held kept head : List ℕ) → ((name : Text) → gone_to name old ≡ Some held → gone_to name mid ≡ Some kept) → OnOk r (Appends mid new head) → OnOk r ((name : Text) → gone_to name old ≡ Some held → gone_to name new ≡ Some (kept ++ head))
@@ -106,7 +106,7 @@ started_in (Ok start) holds contents (Some file) rack names resumes out opened r
     }
 
 -- why they don't begin
-unbegun_for : (holds : List ℕ → List ℕ → Type 0) (file : RecordFile) (rack : Store) (names : List Text) (resumes : Bool) (held : List ℕ) (why : Unbegun) → resumes ≡ file.resumes → holds file.name held → IsUnbegun resumes (session_limit (length names)) held (head_for rack names) rack why → IsUnbegunFor holds (Some file) rack names why
+unbegun_for : (holds : List ℕ → List ℕ → Type 0) (file : RecordFile) (rack : Store) (names : List Text) (resumes : Bool) (held : List ℕ) (why : BeginError) → resumes ≡ file.resumes → holds file.name held → IsUnbegun resumes (session_limit (length names)) held (head_for rack names) rack why → IsUnbegunFor holds (Some file) rack names why
 unbegun_for holds file rack names resumes held (Missed missed) same has is = is
 unbegun_for holds file rack names resumes held (Wrong error) same has is = (sym same ∙ is.0, held, has, is.1)
 
@@ -116,7 +116,7 @@ left_in holds received file name names resumes held None named same has is = tt
 left_in holds received file name names resumes held (Some r) named same has is =
     (held, is.0, has, is.1 ∙ ap (λ (n : Text). closed n (Some is.0) false) named, subst (λ (b : Bool). (is.0 ≡ held) ⊎ IsBegun b held names is.0) same is.2)
 
-pub unstarted_in : {F C : Type 0} (r : Result (Start F) (Unstarted C)) (holds : List ℕ → List ℕ → Type 0) (contents : F → Option (List ℕ)) (received : C → Closed) (record_out : Option RecordFile) (rack : Store) (names : List Text) (resumes : Bool) (out : OutFile F)
+pub unstarted_in : {F C : Type 0} (r : Result (Start F) (StartFailure C)) (holds : List ℕ → List ℕ → Type 0) (contents : F → Option (List ℕ)) (received : C → Closed) (record_out : Option RecordFile) (rack : Store) (names : List Text) (resumes : Bool) (out : OutFile F)
     → IsOpened contents holds (option_map (λ (o : RecordFile). o.name) record_out) (Some out) → IfSome record_out (λ o. resumes ≡ o.resumes)
     → IfErr r (λ end. IsUnbegun resumes (session_limit (length names)) out.held.items (head_for rack names) rack end.why × IfSome end.receipt (λ r. (text : List ℕ) × (received r ≡ closed out.name.now (Some text) false) × ((text ≡ out.held.items) ⊎ IsBegun resumes out.held.items names text)))
     → IfErr r (IsUnstarted holds received record_out rack names)
@@ -137,19 +137,19 @@ started_none holds contents None rack names book none is =
     record { begins = is; ready = new_ready rack book is; stream = refl; front = tt; entries = ap (λ (a : Account). numbered (length a.history)) (sym is); cut = refl }
 
 -- the refusal of a rack
-pub wrong_rack : (r : Result Found NoAnswer) (holds : List ℕ → List ℕ → Type 0) (shared : SharedRack) (names : List Text) (image : Option (List ℕ)) (why : Refusal) → IfOk r (λ found. Refuses why found.answer) → (why ≢ NoMemory → IsWrongRack shared.shape image why)
+pub wrong_rack : (r : Result JobResult NoAnswer) (holds : List ℕ → List ℕ → Type 0) (shared : SharedRack) (names : List Text) (image : Option (List ℕ)) (why : Refusal) → IfOk r (λ found. Refuses why found.answer) → (why ≢ NoMemory → IsWrongRack shared.shape image why)
     → IfOk r (λ found. (refusal : Refusal) × Refuses refusal found.answer × IsWrongStart holds shared names image refusal)
 wrong_rack (Err e) holds shared names image why refuses wrong = tt
 wrong_rack (Ok found) holds shared names image why refuses wrong = (why, refuses, inl (wrong refuses.0))
 
 -- that of a record
-pub told_unbegun : (why : Unbegun) (r : Result Found NoAnswer) (holds : List ℕ → List ℕ → Type 0) (shared : SharedRack) (names : List Text) (image : Option (List ℕ)) (rack : Store) → IsRackOf shared.shape image rack → IsUnbegunFor holds shared.record_out rack names why → IsToldOf why r
+pub told_unbegun : (why : BeginError) (r : Result JobResult NoAnswer) (holds : List ℕ → List ℕ → Type 0) (shared : SharedRack) (names : List Text) (image : Option (List ℕ)) (rack : Store) → IsRackOf shared.shape image rack → IsUnbegunFor holds shared.record_out rack names why → IsToldOf why r
     → IfOk r (λ found. (refusal : Refusal) × Refuses refusal found.answer × IsWrongStart holds shared names image refusal)
 told_unbegun why (Err e) holds shared names image rack is unbegun told = tt
 told_unbegun (Missed missed) (Ok found) holds shared names image rack is unbegun told = absurd told
 told_unbegun (Wrong error) (Ok found) holds shared names image rack is unbegun told = (of_record error.fault, told, inr (rack, is, error.fault, unbegun, refl))
 
-pub told_missed : (why : Unbegun) (r : Result Found NoAnswer) (holds : List ℕ → List ℕ → Type 0) (shared : SharedRack) (names : List Text) (rack : Store) → IsUnbegunFor holds shared.record_out rack names why → IsToldOf why r → IfErr r IsRefused
+pub told_missed : (why : BeginError) (r : Result JobResult NoAnswer) (holds : List ℕ → List ℕ → Type 0) (shared : SharedRack) (names : List Text) (rack : Store) → IsUnbegunFor holds shared.record_out rack names why → IsToldOf why r → IfErr r IsRefused
 told_missed why (Ok found) holds shared names rack unbegun told = tt
 told_missed (Missed missed) (Err e) holds shared names rack unbegun told = subst IsRefused (sym told) unbegun
 told_missed (Wrong error) (Err e) holds shared names rack unbegun told = told

@@ -7,11 +7,11 @@ use Rattle.clap.specs.Words.{Text}
 use Rattle.batch_book.specs.History.{Account}
 use Rattle.book_record.specs.RecordText.{texts}
 use Rattle.book_record.specs.Streams.{IsWritten as IsStreamed}
-use Rattle.record_replay.specs.SessionRecords.{record_of}
+use Rattle.book_record.specs.Heads.{record_of, whole_record}
 use Rattle.kept_sessions.specs.Keeping.{HasAllTold, HasGrown}
 use Rattle.kept_sessions.specs.Live.{IsOver}
-use Rattle.kept_sessions.specs.Records.{IsSoFar, record_front, whole_record}
-use Rattle.kept_sessions.specs.declared.live.Over.{Over}
+use Rattle.kept_sessions.specs.Records.{IsSoFar, record_front}
+use Rattle.kept_sessions.specs.declared.live.FinishedSessions.{FinishedSessions}
 use Rattle.kept_sessions.proofs.Lived.{come_is, front_on}
 use Rattle.named_files.specs.Outputs.{IsFileWritten}
 use Rattle.named_files.proofs.Named.{by_more}
@@ -19,7 +19,7 @@ use Rattle.named_files.specs.Streams.{Closed, IsFrontOf, IsLeftOf, gone_by, gone
 use Rattle.named_files.specs.declared.lost.Reason.{Reason}
 use Rattle.named_files.proofs.Written.{grown}
 
--- what was written, or a front of it, was put behind what stood there
+-- what was written, or a front of it, was put after what stood there
 pub grown_by : {E : Type 0} (r : Result Unit E) (old new : Option (List ℕ)) (bytes : List ℕ) → OnOk r (Appends old new bytes) → OnErr r (IsCutShort old new bytes) → HasGrown old new
 grown_by (Ok u) old new bytes went cut = (bytes, went)
 grown_by (Err e) old new bytes went cut = (cut.front, cut.appended)
@@ -54,7 +54,7 @@ has_at names was left bytes after same w g =
           ∙ ap (λ (x : List ℕ). x ++ (w.front ++ g.0)) (sym (front_on names was left.opening left.stands w.added same w.stand))),
     )
 
-told_at : (names : List Text) (left : Account) (after : Option (List ℕ)) → IsFrontOf (whole_record names left) after → (rest : List ℕ) × (after ≡ Some (record_of names left.opening left.stands ++ rest)) → HasAllTold names left after
+told_at : (names : List Text) (left : Account) (after : Option (List ℕ)) → IsFrontOf (whole_record names left.opening left.history) after → (rest : List ℕ) × (after ≡ Some (record_of names left.opening left.stands ++ rest)) → HasAllTold names left after
 told_at names left after f has =
     let file = record_of names left.opening left.stands ++ has.0 in
     let same : f.0 ≡ file = (let e : Some f.0 ≡ Some file = sym f.3 ∙ has.1 in cc) in
@@ -62,14 +62,14 @@ told_at names left after f has =
 
 all_told_in : {F C : Type 0} (contents : F → Option (List ℕ)) (received : C → Closed) (name : Option Text) (names : List Text) (was left : Account) (stream : Option F) (recorded : Option C) (lost : Option Reason) → left.opening ≡ was.opening
     → IfSome stream (λ file. IsStreamed (Some (record_front names was)) (contents file) was.history left.stands left.history left.whole) → MatchOption stream (recorded ≡ None) (λ file. IfSome recorded (λ r. HasGrown (contents file) (received r).bytes))
-    → IsFileWritten received name (whole_record names left) recorded lost → IfSome recorded (λ r. HasAllTold names left (received r).bytes)
+    → IsFileWritten received name (whole_record names left.opening left.history) recorded lost → IfSome recorded (λ r. HasAllTold names left (received r).bytes)
 all_told_in contents received name names was left None None lost same text g written = tt
 all_told_in contents received name names was left None (Some r) lost same text g written = absurd cc
 all_told_in contents received name names was left (Some file) None lost same text g written = tt
 all_told_in contents received name names was left (Some file) (Some r) lost same text g written =
-    told_at names left (received r).bytes (front_written received name (whole_record names left) r lost written) (has_at names was left (contents file) (received r).bytes same text g)
+    told_at names left (received r).bytes (front_written received name (whole_record names left.opening left.history) r lost written) (has_at names was left (contents file) (received r).bytes same text g)
 
 -- so it is of the record of sessions
-pub all_told : {F C : Type 0} (contents : F → Option (List ℕ)) (received : C → Closed) (name : Option Text) (names : List Text) (was left : Account) (over : Over F) (recorded : Option C) (lost : Option Reason) → IsOver contents names was left over
-    → MatchOption over.stream (recorded ≡ None) (λ file. IfSome recorded (λ r. HasGrown (contents file) (received r).bytes)) → IsFileWritten received name (whole_record names left) recorded lost → IfSome recorded (λ r. HasAllTold names left (received r).bytes)
+pub all_told : {F C : Type 0} (contents : F → Option (List ℕ)) (received : C → Closed) (name : Option Text) (names : List Text) (was left : Account) (over : FinishedSessions F) (recorded : Option C) (lost : Option Reason) → IsOver contents names was left over
+    → MatchOption over.stream (recorded ≡ None) (λ file. IfSome recorded (λ r. HasGrown (contents file) (received r).bytes)) → IsFileWritten received name (whole_record names left.opening left.history) recorded lost → IfSome recorded (λ r. HasAllTold names left (received r).bytes)
 all_told contents received name names was left over recorded lost is = all_told_in contents received name names was left over.stream recorded lost is.opening is.text

@@ -9,12 +9,13 @@ use Rattle.command_words.specs.declared.jobs.SharedRack.{SharedRack}
 use Rattle.record_replay.specs.SessionRecords.{IsRecorded}
 use Rattle.named_files.specs.Contents.{Holding}
 use Rattle.named_files.specs.Streams.{Closed}
-use Rattle.kept_sessions.specs.Records.{IsAsBegun, whole_record}
+use Rattle.book_record.specs.Heads.{whole_record}
+use Rattle.kept_sessions.specs.Records.{IsAsBegun}
 use Rattle.named_files.specs.declared.lost.Lost.{Lost}
 use Rattle.named_files.specs.declared.outputs.Receipts.{Receipts}
 use Rattle.named_files.specs.Outputs.{HasNothingGone, IsFileWritten, IsUnput, lost_none}
 
--- something was put behind what stood there
+-- something was put after what stood there
 abbrev pub HasGrown : Option (List ℕ) → Option (List ℕ) → Type 0
 HasGrown before after = (more : List ℕ) × Appends before after more
 
@@ -29,7 +30,8 @@ HasAllTold names book text = (file : List ℕ) × (text ≡ Some file) × IsReco
 abbrev pub AreWritten : {C : Type 0} → (C → Closed) → Option Text → Option Text → List Text
     → Account → Receipts C → Lost → Type 0
 AreWritten received record_out image_out names left receipts lost =
-    IsFileWritten received record_out (whole_record names left) receipts.recorded lost.recorded
+    IsFileWritten received record_out (whole_record names left.opening left.history)
+    receipts.recorded lost.recorded
     × IsFileWritten received image_out (image_of left.machine.store) receipts.image lost.image
 
 -- The same of live sessions. Where an entry couldn't be recorded, or the record couldn't be ended,

@@ -23,11 +23,11 @@ use Rattle.kept_sessions.specs.Keeping.{AreLiveKept}
 use Rattle.named_files.specs.Outputs.{lost_none}
 use Rattle.kept_sessions.specs.Records.{BeginsFor, IsAsBegun, IsCutFromRecord, record_front}
 use Rattle.named_files.specs.Streams.{Closed}
-use Rattle.kept_sessions.specs.declared.found.Cut.{Cut}
+use Rattle.kept_sessions.specs.declared.job_result.Cut.{Cut}
 use Rattle.kept_sessions.specs.declared.live.Kept.{Kept}
-use Rattle.kept_sessions.specs.declared.live.Over.{Over}
+use Rattle.kept_sessions.specs.declared.live.FinishedSessions.{FinishedSessions}
 use Rattle.kept_sessions.specs.declared.live.Start.{Start}
-use Rattle.kept_sessions.specs.declared.live.Unstarted.{Unstarted}
+use Rattle.kept_sessions.specs.declared.live.StartFailure.{StartFailure}
 
 -- the stream of a record, where there is one, has what the record tells of this book
 abbrev pub HasFront : {F : Type 0} → (F → Option (List ℕ)) → List Text → Account → Option F → Type 0
@@ -40,7 +40,7 @@ pub record IsReady (book : Account) : Type 0 where
   pub all : book.stands ≡ book.history
   pub unstopped : AreUnstopped book.history
 
--- Sessions may begin with this book, behind which their record goes on, where they have one.
+-- Sessions may begin with this book, after which their record goes on, where they have one.
 pub record IsStarted {F : Type 0} (holds : Holding) (contents : F → Option (List ℕ))
     (record_out : Option RecordFile) (opening : Store) (names : List Text)
     (start : Start F) : Type 0 where
@@ -54,7 +54,7 @@ pub record IsStarted {F : Type 0} (holds : Holding) (contents : F → Option (Li
 -- they don't begin, and the file of their record is left so
 pub record IsUnstarted {C : Type 0} (holds : Holding) (received : C → Closed)
     (record_out : Option RecordFile) (opening : Store) (names : List Text)
-    (end : Unstarted C) : Type 0 where
+    (end : StartFailure C) : Type 0 where
   pub why : IsUnbegunFor holds record_out opening names end.why
   pub left : IsAsBegun holds received record_out names end.receipt
 
@@ -67,10 +67,10 @@ pub record IsUnserved {C : Type 0} (holds : Holding) (received : C → Closed) (
   pub left : AreLiveKept holds received rack names None kept.receipts kept.lost
 
 -- Sessions over one book left another, which is whole just where no flush failed: then none of its
--- entries waits. What a stream held is there, and behind it their entries that stand where they
+-- entries waits. What a stream held is there, and after it their entries that stand where they
 -- belong; where that aren't all, maybe a front of the text of the others.
 pub record IsOverAt {F : Type 0} (contents : F → Option (List ℕ)) (before : Option (List ℕ))
-    (was left : Account) (over : Over F) : Type 0 where
+    (was left : Account) (over : FinishedSessions F) : Type 0 where
   pub opening : left.opening ≡ was.opening
   pub machine : over.bare.machine ≡ left.machine
   pub whole : over.is_whole ≡ left.whole
@@ -80,14 +80,14 @@ pub record IsOverAt {F : Type 0} (contents : F → Option (List ℕ)) (before : 
   pub entries : IfSome over.stream (λ file. over.entries ≡ numbered (length left.history))
 
 -- the same from their beginning: they have a stream where that has one
-abbrev pub IsOverFrom : {F : Type 0} → (F → Option (List ℕ)) → Start F → Account → Over F → Type 0
+abbrev pub IsOverFrom : {F : Type 0} → (F → Option (List ℕ)) → Start F → Account → FinishedSessions F → Type 0
 IsOverFrom contents start left over =
     (is_some over.stream ≡ is_some start.stream)
     × ((before : Option (List ℕ)) → IfSome start.stream (λ file. contents file ≡ before)
     → IsOverAt contents before start.book left over)
 
 -- the same where the stream had what the record tells of the book
-abbrev pub IsOver : {F : Type 0} → (F → Option (List ℕ)) → List Text → Account → Account → Over F
+abbrev pub IsOver : {F : Type 0} → (F → Option (List ℕ)) → List Text → Account → Account → FinishedSessions F
     → Type 0
 IsOver contents names was left over =
     IsOverAt contents (Some (record_front names was)) was left over

@@ -1,9 +1,9 @@
 -- What is told where sessions don't begin, and where they have ended.
 use Rattle.std.specs.Prelude.{◌≡◌, ◌≢◌, ℕ, Bool, true, List, Option, Result, Ok, Err}
 use Rattle.named_files.specs.declared.notes.NoAnswer.{NoAnswer}
-use Rattle.kept_sessions.specs.declared.found.Found.{Found}
-use Rattle.kept_sessions.specs.declared.recording.Unbegun.{Unbegun}
-use Rattle.kept_sessions.specs.declared.recording.Unbegun.TheVariants.{Missed, Wrong}
+use Rattle.kept_sessions.specs.declared.job_result.JobResult.{JobResult}
+use Rattle.kept_sessions.specs.declared.recording.BeginError.{BeginError}
+use Rattle.kept_sessions.specs.declared.recording.BeginError.TheVariants.{Missed, Wrong}
 use Rattle.named_files.specs.Contents.{Holding}
 use Rattle.kept_sessions.specs.Records.{IsWrongFor, IsWrongRecord}
 use Rattle.clap.specs.Words.{Text}
@@ -18,31 +18,31 @@ use Rattle.named_files.specs.Notes.{IsRefused}
 
 -- why sessions don't begin on this rack whose record's file holds this: there is no answer, or the
 -- record is wrong
-abbrev pub IsUnbegun : Bool → ℕ → List ℕ → List ℕ → Store → Unbegun → Type 0
+abbrev pub IsUnbegun : Bool → ℕ → List ℕ → List ℕ → Store → BeginError → Type 0
 IsUnbegun resumes limit held head opening (Missed missed) = IsRefused missed
 IsUnbegun resumes limit held head opening (Wrong error) =
     (resumes ≡ true) × IsWrongRecord limit held head opening error.fault
 
 -- the same where their record goes to this file, or to none
-abbrev pub IsUnbegunFor : Holding → Option RecordFile → Store → List Text → Unbegun → Type 0
+abbrev pub IsUnbegunFor : Holding → Option RecordFile → Store → List Text → BeginError → Type 0
 IsUnbegunFor holds record_out opening names (Missed missed) = IsRefused missed
 IsUnbegunFor holds record_out opening names (Wrong error) =
     IsWrongFor holds record_out opening names error.fault
 
 -- what is told where a record can't be made again
-abbrev pub IsUnremade : RecordError → Unbegun → Type 0
+abbrev pub IsUnremade : RecordError → BeginError → Type 0
 IsUnremade error (Missed missed) = IsRefused missed
 IsUnremade error (Wrong told) = (error.fault ≢ fault.NoMemory) × (told.fault ≡ error.fault)
 
 -- what is told where sessions don't begin: the refusal of what is wrong with the record
-abbrev pub IsToldOf : Unbegun → Result Found NoAnswer → Type 0
+abbrev pub IsToldOf : BeginError → Result JobResult NoAnswer → Type 0
 IsToldOf (Missed missed) (Ok found) = ⊥
 IsToldOf (Missed missed) (Err told) = told ≡ missed
 IsToldOf (Wrong error) (Ok found) = Refuses (of_record error.fault) found.answer
 IsToldOf (Wrong error) (Err told) = IsRefused told
 
 -- what is told of sessions that have ended, or that were refused
-abbrev pub IsToldBy : Result Printed Refusal → Result Found NoAnswer → Type 0
+abbrev pub IsToldBy : Result Printed Refusal → Result JobResult NoAnswer → Type 0
 IsToldBy (Ok printed) (Ok found) = found.answer ≡ printed
 IsToldBy (Ok printed) (Err told) = ⊥
 IsToldBy (Err refusal) (Ok found) = Refuses refusal found.answer

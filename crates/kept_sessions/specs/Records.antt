@@ -6,15 +6,14 @@ use Rattle.module_memory.specs.Images.{image_of}
 use Rattle.module_memory.specs.Store.{Store}
 use Rattle.batch_book.specs.History.{Account, new_account}
 use Rattle.book_record.specs.Fronts.{last_lines}
-use Rattle.book_record.specs.Heads.{head_of, session_limit}
+use Rattle.book_record.specs.Heads.{head_of, record_of, session_limit}
 use Rattle.book_record.specs.Sums.{adler}
 use Rattle.record_replay.specs.Replays.{IsRecordError, IsRemade}
-use Rattle.record_replay.specs.SessionRecords.{record_of}
 use Rattle.record_replay.specs.declared.fault.RecordError.{RecordError}
 use Rattle.record_replay.specs.declared.fault.RecordFault.{RecordFault}
 use Rattle.record_replay.specs.declared.fault.RecordFault.TheVariants.{Head}
 use Rattle.command_words.specs.declared.jobs.RecordFile.{RecordFile}
-use Rattle.kept_sessions.specs.declared.found.Cut.{Cut}
+use Rattle.kept_sessions.specs.declared.job_result.Cut.{Cut}
 use Rattle.named_files.specs.Contents.{Holding}
 use Rattle.named_files.specs.Streams.{Closed, IsFrontOf, closed}
 
@@ -26,11 +25,7 @@ head_for opening names = head_of opening.shape (adler (image_of opening)) names
 abbrev pub record_front : List Text → Account → List ℕ
 record_front names book = record_of names book.opening book.history
 
--- the whole record of a book whose sessions have ended
-abbrev pub whole_record : List Text → Account → List ℕ
-whole_record names book = record_front names book ++ last_lines (length book.history)
-
--- the head stands there, and the entries behind it, of sessions below this, were made again
+-- the head stands there, and the entries after it, of sessions below this, were made again
 pub record IsResumed (limit : ℕ) (held head : List ℕ) (opening : Store)
     (was : Account) : Type 0 where
   pub text : List ℕ
@@ -41,7 +36,7 @@ pub record IsResumed (limit : ℕ) (held head : List ℕ) (opening : Store)
 
 -- The file holds as much of the head as may have been written, or all of it: sessions begin anew.
 -- Else, where they are to go on, the head of the same rack and the same clients stands there, and
--- the entries behind it were made again.
+-- the entries after it were made again.
 abbrev pub BeginsAs : Bool → List ℕ → Store → List Text → Account → Type 0
 BeginsAs resumes held opening names was =
     ((missing : List ℕ) × (head_for opening names ≡ held ++ missing) × (was ≡ new_account opening))
@@ -85,7 +80,7 @@ IsCommonFront one other n =
     × ((byte : ℕ) → slice_get one n ≡ Some byte → slice_get other n ≢ Some byte)
 
 -- what is wrong with a record that is to have this head, by which the numbers of its sessions are
--- below this: it has another, or this is wrong behind it
+-- below this: it has another, or this is wrong after it
 abbrev pub IsWrongRecord : ℕ → List ℕ → List ℕ → Store → RecordFault → Type 0
 IsWrongRecord limit held head opening fault =
     (((text : List ℕ) → held ≢ head ++ text) × (fault ≡ Head))

@@ -11,11 +11,11 @@
 //! (`specs/Answers.antt`).
 #![tactic(auto)]
 
-mod found;
+mod job_result;
 mod live;
 mod recording;
 mod sessions;
 
-pub use found::{Cut, Found};
+pub use job_result::{Cut, JobResult};
 pub use live::Kept;
 pub use sessions::{host, serve, talk};

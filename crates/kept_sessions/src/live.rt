@@ -22,9 +22,9 @@ ghost use Rattle.named_files.specs.Outputs.{AreNamed, AreOpened, IsFileWritten, 
 ghost use Rattle.kept_sessions.specs.Records.{BeginsAs, BeginsFor, IsBegun, IsCutFrom, IsSoFar, head_for, record_front};
 ghost use Rattle.named_files.specs.Streams.{IsWrittenBy, closed, gone_at, gone_by, gone_to};
 
-use crate::found::{Cut, Found};
-use crate::recording::{Begun, Unbegun, begin, new_book};
-use batch_book::{BareBook, Book, History, Silent};
+use crate::job_result::{Cut, JobResult};
+use crate::recording::{BeginError, Begun, begin, new_book};
+use batch_book::{BareBook, Book, EntryLog, Silent};
 use book_record::{StreamName, Streamed, last_lines, stream_off};
 use byte_streams::write_bytes;
 use command_words::{SharedRack, Text};
@@ -45,7 +45,7 @@ use std::thread::Threads;
 
 /// What comes of sessions, and what is left of what was opened for them to be written.
 pub struct Kept<C> {
-    pub end: Result<Found, NoAnswer>,
+    pub end: Result<JobResult, NoAnswer>,
     pub receipts: Receipts<C>,
     pub lost: Lost,
     /// What was cut off from the record with which sessions went on.
@@ -64,8 +64,8 @@ pub(crate) struct Start<F> {
 }
 
 /// Why they don't begin.
-pub(crate) struct Unstarted<C> {
-    pub(crate) why: Unbegun,
+pub(crate) struct StartFailure<C> {
+    pub(crate) why: BeginError,
     /// What the file of their record held.
     pub(crate) held: Vec<u8>,
     /// What is left of that.
@@ -73,7 +73,7 @@ pub(crate) struct Unstarted<C> {
 }
 
 /// What sessions leave.
-pub(crate) struct Over<F> {
+pub(crate) struct FinishedSessions<F> {
     pub(crate) end: Result<Answer, Refusal>,
     pub(crate) bare: BareBook,
     /// How many entries the book has, where there is a stream.
@@ -110,14 +110,14 @@ fn write_front<S: System>(
 /// Sessions don't begin, since this is left of their record's file.
 fn not_started<S: System>(
     system: &S,
-    why: Unbegun,
+    why: BeginError,
     held: Vec<u8>,
     file: S::Stream,
-) -> Unstarted<S::Receipt>
+) -> StartFailure<S::Receipt>
     ensures why { result.why ≡ why }
     ensures receipt { IsLeftOfAny S.Stream.contents S.received (Some file) result.receipt }
 {
-    Unstarted {
+    StartFailure {
         why,
         held,
         receipt: Some(system.close(file)),
@@ -134,7 +134,7 @@ fn start_in<R: Threads + Sync, S: System>(
     names: &[Text],
     workers: WorkerCount,
     out: OutFile<'_, S::Stream>,
-) -> Result<Start<S::Stream>, Unstarted<S::Receipt>>
+) -> Result<Start<S::Stream>, StartFailure<S::Receipt>>
     requires number { IsNumber (length names.now) }
     requires contents { gone_to out.name.now (S.Stream.contents out.file) ≡ Some out.held.items }
     ensures started { IfOk result (λ start.
@@ -187,7 +187,7 @@ fn start_in<R: Threads + Sync, S: System>(
             cut,
         }),
         Err(error) => {
-            let why = Unbegun::Missed(unread(alloc, name, &error));
+            let why = BeginError::Missed(unread(alloc, name, &error));
             Err(not_started(system, why, held, file))
         }
     }
@@ -213,7 +213,7 @@ fn start_on<R: Threads + Sync, S: System>(
     names: &[Text],
     workers: WorkerCount,
     out: Option<OutFile<'_, S::Stream>>,
-) -> Result<Start<S::Stream>, Unstarted<S::Receipt>>
+) -> Result<Start<S::Stream>, StartFailure<S::Receipt>>
     requires number { IsNumber (length names.now) }
     requires opened { IsOpened S.Stream.contents (S.holds system.now) (recorded_in shared.now) out }
     requires named { name_of out ≡ recorded_in shared.now }
@@ -240,8 +240,8 @@ fn start_on<R: Threads + Sync, S: System>(
                 stream: None,
                 cut: None,
             }),
-            Err(error) => Err(Unstarted {
-                why: Unbegun::from(error),
+            Err(error) => Err(StartFailure {
+                why: BeginError::from(error),
                 held: Vec::new(alloc),
                 receipt: None,
             }),
@@ -250,22 +250,22 @@ fn start_on<R: Threads + Sync, S: System>(
 }
 
 /// The refusal of what is wrong, where it isn't want of memory.
-fn refused(alloc: Global, refusal: Refusal) -> Result<Found, NoAnswer>
+fn refused(alloc: Global, refusal: Refusal) -> Result<JobResult, NoAnswer>
     ensures answer { IfOk result (λ found. Refuses refusal found.answer) }
     ensures missed { IfErr result IsRefused }
 {
-    Ok(Found::alone(Answer::refused(alloc, refusal)?))
+    Ok(JobResult::alone(Answer::refused(alloc, refusal)?))
 }
 
 /// What is told where sessions don't begin.
-fn found_of(alloc: Global, why: Unbegun, held: Vec<u8>) -> Result<Found, NoAnswer>
+fn found_of(alloc: Global, why: BeginError, held: Vec<u8>) -> Result<JobResult, NoAnswer>
     ensures { IsToldOf why result }
 {
     match why {
-        Unbegun::Missed(missed) => Err(missed),
-        Unbegun::Wrong(error) => {
+        BeginError::Missed(missed) => Err(missed),
+        BeginError::Wrong(error) => {
             let found = refused(alloc, refusal_of(error.fault))?;
-            Ok(Found {
+            Ok(JobResult {
                 error: Some(error),
                 held: Some(held),
                 ..found
@@ -316,7 +316,7 @@ pub(crate) fn begin_live<'a, R: AllocGlobal + Threads + Sync, S: System>(
     };
     match start_on(rt, system, alloc, rack, shared, names, workers, recorded) {
         Ok(start) => Ok((start, image)),
-        Err(Unstarted { why, held, receipt }) => Err(Kept {
+        Err(StartFailure { why, held, receipt }) => Err(Kept {
             end: found_of(alloc, why, held),
             receipts: Receipts {
                 recorded: receipt,
@@ -329,7 +329,10 @@ pub(crate) fn begin_live<'a, R: AllocGlobal + Threads + Sync, S: System>(
 }
 
 /// What sessions leave that have no record.
-pub(crate) fn over_silent<F>(end: Result<Answer, Refusal>, book: Book<Silent>) -> Over<F>
+pub(crate) fn over_silent<F>(
+    end: Result<Answer, Refusal>,
+    book: Book<Silent>,
+) -> FinishedSessions<F>
     ensures end { result.end ≡ end }
     ensures machine { result.bare.machine ≡ book.machine }
     ensures whole { result.is_whole ≡ book.whole }
@@ -337,7 +340,7 @@ pub(crate) fn over_silent<F>(end: Result<Answer, Refusal>, book: Book<Silent>) -
 {
     let is_whole = book.log().is_whole();
     let (bare, _) = book.part();
-    Over {
+    FinishedSessions {
         end,
         bare,
         entries: 0,
@@ -350,7 +353,7 @@ pub(crate) fn over_silent<F>(end: Result<Answer, Refusal>, book: Book<Silent>) -
 pub(crate) fn over_recorded<F: Write + Send, N: StreamName + Send>(
     end: Result<Answer, Refusal>,
     book: Book<Streamed<F, N>>,
-) -> Over<F>
+) -> FinishedSessions<F>
     ensures end { result.end ≡ end }
     ensures machine { result.bare.machine ≡ book.machine }
     ensures whole { result.is_whole ≡ book.whole }
@@ -361,7 +364,7 @@ pub(crate) fn over_recorded<F: Write + Send, N: StreamName + Send>(
 {
     let is_whole = book.log().is_whole();
     let (bare, stream, entries) = stream_off(book);
-    Over {
+    FinishedSessions {
         end,
         bare,
         entries,
@@ -489,7 +492,7 @@ pub(crate) fn end_live<S: System>(
     system: &S,
     alloc: Global,
     shared: &SharedRack,
-    over: Over<S::Stream>,
+    over: FinishedSessions<S::Stream>,
     image: Option<OutFile<'_, S::Stream>>,
     cut: Option<Cut>,
 ) -> Kept<S::Receipt>
@@ -505,7 +508,7 @@ pub(crate) fn end_live<S: System>(
         → AreLiveKept (S.holds system.now) S.received shared.now names (left_by over.end left)
         result.receipts result.lost }
 {
-    let Over {
+    let FinishedSessions {
         end,
         bare,
         entries,
@@ -518,7 +521,7 @@ pub(crate) fn end_live<S: System>(
                 system, alloc, shared, &bare, stream, entries, is_whole, image,
             );
             Kept {
-                end: Ok(Found::alone(answer)),
+                end: Ok(JobResult::alone(answer)),
                 receipts,
                 lost,
                 cut,

@@ -11,7 +11,7 @@ ghost use Rattle.kept_sessions.specs.Live.{IsReady};
 ghost use Rattle.kept_sessions.specs.Outcomes.{IsUnbegun, IsUnremade};
 ghost use Rattle.kept_sessions.specs.Records.{BeginsAs, IsCommonFront, IsCutFrom, IsCutOf, IsResumed, head_for, record_front};
 
-use crate::found::Cut;
+use crate::job_result::Cut;
 use batch_book::{Book, Silent};
 use book_record::{head_text, last_lines, session_limit, sum_of};
 use command_words::Text;
@@ -32,7 +32,7 @@ pub(crate) struct Begun {
     pub(crate) entries: u64,
     /// How many bytes of the file stay.
     pub(crate) kept: usize,
-    /// What is written behind them.
+    /// What is written after them.
     pub(crate) head: Vec<u8>,
     /// What of the file isn't kept, but for its last lines.
     pub(crate) cut: Option<Cut>,
@@ -40,23 +40,23 @@ pub(crate) struct Begun {
 
 /// Why sessions don't begin.
 #[derive(Drop)]
-pub(crate) enum Unbegun {
+pub(crate) enum BeginError {
     /// There is no answer.
     Missed(NoAnswer),
     /// The record is wrong.
     Wrong(RecordError),
 }
 
-impl From<AllocError> for Unbegun {
+impl From<AllocError> for BeginError {
     ghost use Rattle.std.specs.Prelude.{◌≡◌, None};
     ghost use Rattle.named_files.specs.declared.notes.NoAnswer.TheVariants.{Refused};
-    ghost use Rattle.kept_sessions.specs.declared.recording.Unbegun.TheVariants.{Missed};
+    ghost use Rattle.kept_sessions.specs.declared.recording.BeginError.TheVariants.{Missed};
     ghost use Rattle.named_files.specs.declared.unanswered.Unanswered.TheVariants.{NoMemory};
 
     ghost from_gives = { λ _ unbegun. unbegun ≡ Missed (Refused NoMemory None) };
 
-    fn from(error: AllocError) -> Unbegun {
-        Unbegun::Missed(NoAnswer::from(error))
+    fn from(error: AllocError) -> BeginError {
+        BeginError::Missed(NoAnswer::from(error))
     }
 }
 
@@ -103,14 +103,14 @@ pub(crate) fn new_book(alloc: Global, rack: Rack) -> Result<Book<Silent>, AllocE
     }
 }
 
-/// What is wrong behind a head of so many bytes, as it is told of the whole record.
-fn wrong_behind(head: usize, error: RecordError) -> Unbegun
+/// What is wrong after a head of so many bytes, as it is told of the whole record.
+fn wrong_after(head: usize, error: RecordError) -> BeginError
     ensures { IsUnremade error result }
 {
     if error.fault == RecordFault::NoMemory {
-        return Unbegun::from(AllocError);
+        return BeginError::from(AllocError);
     }
-    Unbegun::Wrong(RecordError {
+    BeginError::Wrong(RecordError {
         fault: error.fault,
         offset: head.saturating_add(error.offset),
         due: error.due,
@@ -162,7 +162,7 @@ fn resume<R: Threads + Sync>(
     head: Vec<u8>,
     limit: usize,
     workers: WorkerCount,
-) -> Result<(Book<Silent>, u64, usize), Unbegun>
+) -> Result<(Book<Silent>, u64, usize), BeginError>
     ensures resumed { IfOk result (λ r. (resumed : IsResumed limit held.now head.items rack r.0)
         × (r.2 ≡ length held.now - length resumed.rest)) }
     ensures entries { IfOk result (λ r. r.1 ≡ numbered (length r.0.history)) }
@@ -171,7 +171,7 @@ fn resume<R: Threads + Sync>(
     ensures unbegun { IfErr result (IsUnbegun true limit held.now head.items rack) }
 {
     let Some(text) = behind(held, head.as_slice()) else {
-        return Err(Unbegun::Wrong(other_head(held, head)));
+        return Err(BeginError::Wrong(other_head(held, head)));
     };
     match replay(rt, alloc, rack, text, limit, None, workers) {
         Ok(
@@ -190,12 +190,12 @@ fn resume<R: Threads + Sync>(
                 held.len().saturating_sub(rest.len()),
             ))
         }
-        Err(error) => Err(wrong_behind(head.len(), error)),
+        Err(error) => Err(wrong_after(head.len(), error)),
     }
 }
 
-/// The line that begins behind this front of a text, counted from 1.
-fn line_behind(front: &[u8]) -> usize
+/// The line that begins after this front of a text, counted from 1.
+fn line_after(front: &[u8]) -> usize
     ensures { result ≡ count_by (λ byte. byte == line_feed) front.now + 1 }
 {
     front.iter().filter(|byte| **byte == b'\n').count() + 1
@@ -217,7 +217,7 @@ fn cut_of(held: &[u8], kept: usize, entries: u64) -> Option<Cut>
         return None;
     }
     Some(Cut {
-        line: line_behind(front),
+        line: line_after(front),
         bytes: rest.len(),
     })
 }
@@ -233,7 +233,7 @@ pub(crate) fn begin<R: Threads + Sync>(
     names: &[Text],
     held: &[u8],
     workers: WorkerCount,
-) -> Result<Begun, Unbegun>
+) -> Result<Begun, BeginError>
     requires { IsNumber (length names.now) }
     ensures begins { IfOk result (λ begun.
         BeginsAs resumes held.now rack names.now begun.book) }
@@ -262,7 +262,7 @@ pub(crate) fn begin<R: Threads + Sync>(
         });
     }
     if !resumes {
-        return Err(Unbegun::Missed(holds_more(alloc, name)));
+        return Err(BeginError::Missed(holds_more(alloc, name)));
     }
     let limit = session_limit(names.len());
     let (book, entries, kept) = resume(rt, alloc, rack, held, head, limit, workers)?;

@@ -1,6 +1,7 @@
 //! The jobs that have sessions.
 
 ghost use Rattle.std.specs.Prelude.{◌≡◌, [], List, ℕ, Option, None, IfErr, IfOk, is_some, length, true};
+ghost use Rattle.book_record.specs.Heads.{whole_record};
 ghost use Rattle.book_record.specs.Sums.{numbered};
 ghost use Rattle.std.specs.Io.KnownBytes.{Appends};
 ghost use Rattle.batch_book.specs.History.{Account};
@@ -15,12 +16,11 @@ ghost use Rattle.kept_sessions.specs.Live.{IsHostOver, IsLived, IsOverAt, IsOver
 ghost use Rattle.named_files.specs.Notes.{IsRefused};
 ghost use Rattle.named_files.specs.Outputs.{AreNamed, AreOpened, IsFileWritten, IsOpened, is_new, lost_none, name_of};
 ghost use Rattle.kept_sessions.specs.Keeping.{AreScriptsKept};
-ghost use Rattle.kept_sessions.specs.Records.{whole_record};
 ghost use Rattle.kept_sessions.specs.Answers.{hosting, talking};
 
-use crate::found::Found;
+use crate::job_result::JobResult;
 use crate::live::{
-    Kept, Over, Start, begin_live, end_live, keep_image, over_recorded, over_silent,
+    FinishedSessions, Kept, Start, begin_live, end_live, keep_image, over_recorded, over_silent,
 };
 use batch_book::{Book, History, Silent};
 use book_record::{StreamName, stream_on, write_record};
@@ -29,8 +29,8 @@ use client_session::Listener;
 use command_words::{SharedRack, Text};
 use exchange_limits::WorkerCount;
 use named_files::{
-    Apart, ClientFiles, Contents, FileStreams, Lack, Lost, NoAnswer, OutFile, Outputs, Reason,
-    Receipts, Runtime, System, close_file, keep_file, slice_of,
+    ClientFiles, Contents, DistinctFiles, FileStreams, IoFailure, Lost, NoAnswer, OutFile, Outputs,
+    Reason, Receipts, Runtime, System, close_file, keep_file, slice_of,
 };
 use plan_answers::Answer;
 use refusals::Refusal;
@@ -50,8 +50,8 @@ fn keep_record<S: System>(
     out: Option<OutFile<'_, S::Stream>>,
 ) -> (Option<S::Receipt>, Option<Reason>)
     requires { IsOpened S.Stream.contents is_new (name_of out) out }
-    ensures { IsFileWritten S.received (name_of out.entry) (whole_record [] book.now) result.0
-        result.1 }
+    ensures { IsFileWritten S.received (name_of out.entry)
+        (whole_record [] book.now.opening book.now.history) result.0 result.1 }
 {
     let Some(out) = out else {
         return (None, None);
@@ -125,7 +125,7 @@ pub fn serve<R: Runtime, S: System>(
         Ok(Served { answer, book }) => {
             let (receipts, lost) = keep_scripts(system, alloc, &book, outputs);
             Kept {
-                end: Ok(Found::alone(answer)),
+                end: Ok(JobResult::alone(answer)),
                 receipts,
                 lost,
                 cut: None,
@@ -179,7 +179,7 @@ fn host_recorded<N: StreamName + Send, R: Clock + Threads + Wait + Sync, S: Syst
     workers: WorkerCount,
     streams: &FileStreams<'_, S>,
     endings: &mut Vec<Ending<PassedBytes>>,
-) -> Over<S::Stream>
+) -> FinishedSessions<S::Stream>
     requires held { S.Stream.contents stream ≡ N.held }
     requires earlier { book.history ≡ N.earlier }
     requires entries { entries ≡ numbered (length book.history) }
@@ -210,7 +210,7 @@ fn host_from<R: Clock + Threads + Wait + Sync, S: System>(
     workers: WorkerCount,
     streams: &FileStreams<'_, S>,
     endings: &mut Vec<Ending<PassedBytes>>,
-) -> Over<S::Stream>
+) -> FinishedSessions<S::Stream>
     requires clients { CanBeServed streams.now.clients.now }
     requires ready { IsReady start.book }
     requires entries { start.entries ≡ numbered (length start.book.history) }
@@ -243,10 +243,10 @@ pub fn host<R: Runtime, S: System>(
     system: &S,
     shared: &SharedRack,
     clients: &[Text],
-    apart: &Apart,
+    apart: &DistinctFiles,
     workers: WorkerCount,
     contents: &Contents,
-    unopened: &[OnceLock<Lack>],
+    unopened: &[OnceLock<IoFailure>],
     outputs: Outputs<'_, S::Stream>,
     endings: &mut Vec<Ending<PassedBytes>>,
 ) -> Kept<S::Receipt>
@@ -326,7 +326,7 @@ fn talk_recorded<
     input: &mut I,
     out: &mut O,
     listener: &mut H,
-) -> Over<F>
+) -> FinishedSessions<F>
     requires held { F.contents stream ≡ N.held }
     requires earlier { book.history ≡ N.earlier }
     requires entries { entries ≡ numbered (length book.history) }
@@ -352,7 +352,7 @@ fn talk_from<R: Clock + Threads + Wait + Sync, F: Write + Send, I: Read, O: Writ
     input: &mut I,
     out: &mut O,
     listener: &mut H,
-) -> Over<F>
+) -> FinishedSessions<F>
     requires ready { IsReady start.book }
     requires entries { start.entries ≡ numbered (length start.book.history) }
     ensures session { (told : List ℕ) × (left : Account)
@@ -379,7 +379,7 @@ fn talk_from<R: Clock + Threads + Wait + Sync, F: Write + Send, I: Read, O: Writ
     }
 }
 
-/// What comes of `exchange talk SHAPE`, behind a session over `input` and `out`, of whose refusals
+/// What comes of `exchange talk SHAPE`, after a session over `input` and `out`, of whose refusals
 /// the listener is told.
 pub fn talk<R: Runtime, S: System, I: Read, O: Write, H: Listener>(
     rt: &R,

@@ -113,23 +113,23 @@ pub one_hex8 : (a b : ℕ) → IsWord a → IsWord b → hex8 a ≡ hex8 b → a
 unfolding hex8
 one_hex8 a b small less e = one_number_in_hex 8 a b (omega (arith, small)) (omega (arith, less)) e
 
--- ---- behind what was read
+-- ---- after what was read
 
 pub none_as : (o : Option ℕ) (P Q : Type 0) → (P → Q) → IfNone o P → IfNone o Q
 none_as None P Q f p = f p
 none_as (Some x) P Q f p = tt
 
--- what stands behind a word that was read
-pub behind_word : (line word rest more : List ℕ) → line ≡ word ++ rest → line ≡ word ++ more → rest ≡ more
-behind_word line word rest more e f = append_cancel_left word rest more (sym e ∙ f)
+-- what stands after a word that was read
+pub after_word : (line word rest more : List ℕ) → line ≡ word ++ rest → line ≡ word ++ more → rest ≡ more
+after_word line word rest more e f = append_cancel_left word rest more (sym e ∙ f)
 
--- what stands behind a number and a space
-pub behind_number : (bytes rest more : List ℕ) (n m : ℕ) → IsNumber n × (bytes ≡ number n space ++ rest) → IsNumber m → bytes ≡ number m space ++ more → rest ≡ more
-behind_number bytes rest more n m e fits f = (one_number n m space rest more e.0 fits space_ends (sym e.1 ∙ f)).1
+-- what stands after a number and a space
+pub after_number : (bytes rest more : List ℕ) (n m : ℕ) → IsNumber n × (bytes ≡ number n space ++ rest) → IsNumber m → bytes ≡ number m space ++ more → rest ≡ more
+after_number bytes rest more n m e fits f = (one_number n m space rest more e.0 fits space_ends (sym e.1 ∙ f)).1
 
--- what stands behind a word in digits and a space
-pub behind_hex8 : (bytes rest more : List ℕ) (v w : ℕ) → bytes ≡ hex8 v ++ space ∷ rest → bytes ≡ hex8 w ++ space ∷ more → rest ≡ more
-behind_hex8 bytes rest more v w e f =
+-- what stands after a word in digits and a space
+pub after_hex8 : (bytes rest more : List ℕ) (v w : ℕ) → bytes ≡ hex8 v ++ space ∷ rest → bytes ≡ hex8 w ++ space ∷ more → rest ≡ more
+after_hex8 bytes rest more v w e f =
     let cut : (x : ℕ) (l : List ℕ) → drop 9 (hex8 x ++ space ∷ l) ≡ l = λ x l. ap (λ n. drop (n + 1) (hex8 x ++ space ∷ l)) (sym (length-hex8 x)) ∙ drop-append-add (hex8 x) (space ∷ l) 1 in
     sym (cut v rest) ∙ ap (drop 9) (sym e ∙ f) ∙ cut w more
 
@@ -137,7 +137,7 @@ behind_hex8 bytes rest more v w e f =
 pub hex8_in_front : (v w : ℕ) (rest more : List ℕ) → hex8 v ++ rest ≡ hex8 w ++ more → hex8 v ≡ hex8 w
 hex8_in_front v w rest more e = sym (take_at (hex8 v) rest 8 (length-hex8 v)) ∙ ap (take 8) e ∙ take_at (hex8 w) more 8 (length-hex8 w)
 
--- what stands behind the module of a line that pokes
-pub behind_poke : (line rest after : List ℕ) (m n a w : ℕ) → line ≡ codes "poke " ++ rest → IsNumber m × (rest ≡ number m space ++ after) → IsNumber n → line ≡ codes "poke " ++ (number n space ++ (hex8 a ++ space ∷ hex8 w)) → after ≡ hex8 a ++ space ∷ hex8 w
-behind_poke line rest after m n a w e read fits f =
-    behind_number rest after (hex8 a ++ space ∷ hex8 w) m n read fits (behind_word line (codes "poke ") rest (number n space ++ (hex8 a ++ space ∷ hex8 w)) e f)
+-- what stands after the module of a line that pokes
+pub after_poke : (line rest after : List ℕ) (m n a w : ℕ) → line ≡ codes "poke " ++ rest → IsNumber m × (rest ≡ number m space ++ after) → IsNumber n → line ≡ codes "poke " ++ (number n space ++ (hex8 a ++ space ∷ hex8 w)) → after ≡ hex8 a ++ space ∷ hex8 w
+after_poke line rest after m n a w e read fits f =
+    after_number rest after (hex8 a ++ space ∷ hex8 w) m n read fits (after_word line (codes "poke ") rest (number n space ++ (hex8 a ++ space ∷ hex8 w)) e f)

@@ -1,13 +1,13 @@
 //! The words of a line: numbers in decimal digits and words of 32 bits in hexadecimal ones.
 //!
-//! They are read from the left, each with the rest behind it, and put one behind another into a
+//! They are read from the left, each with the rest after it, and put one after another into a
 //! [`Line`]. Neither takes memory, so that a reply whose call was made is never lost for want of
 //! it.
 //!
 //! [`Line::put`], [`Line::put_number`], [`Line::put_numbered`] and [`Line::put_hex8`] put just these
-//! bytes or digits behind what stands there. [`word_from_hex8`] reads eight hexadecimal digits in lower case as the word
+//! bytes or digits after what stands there. [`word_from_hex8`] reads eight hexadecimal digits in lower case as the word
 //! that they spell, and nothing else (`hex8` of `specs/HexWords.antt`). [`number_and_rest`],
-//! [`hex8_and_rest`] and [`behind`] read what a line begins with, exactly where it begins so.
+//! [`hex8_and_rest`] and [`after`] read what a line begins with, exactly where it begins so.
 #![tactic(auto)]
 
 mod hex;

@@ -60,7 +60,7 @@ impl Line {
         &self.bytes[..self.len]
     }
 
-    /// Puts a byte behind the others.
+    /// Puts a byte after the others.
     fn push(&mut self, byte: u8)
         requires { length self.old < LINE_ROOM }
         ensures { self.new ≡ self.old ++ byte ∷ [] }
@@ -69,7 +69,7 @@ impl Line {
         self.len += 1;
     }
 
-    /// Puts these bytes behind the others. Takes time by their number.
+    /// Puts these bytes after the others. Takes time by their number.
     pub fn put(&mut self, text: &[u8])
         requires { length self.old + length text.now ≤ LINE_ROOM }
         ensures { self.new ≡ self.old ++ text.now }
@@ -79,7 +79,7 @@ impl Line {
         self.len = end;
     }
 
-    /// Puts the digits of a number behind the others.
+    /// Puts the digits of a number after the others.
     fn put_digits(&mut self, n: u64)
         requires { length self.old + length (decimal n) ≤ LINE_ROOM }
         ensures { self.new ≡ self.old ++ decimal n }
@@ -92,7 +92,7 @@ impl Line {
         self.push(b'0' + (n % 10) as u8);
     }
 
-    /// Puts a number behind the others, in decimal digits.
+    /// Puts a number after the others, in decimal digits.
     pub fn put_number(&mut self, n: u64)
         requires { length self.old + NUMBER_ROOM ≤ LINE_ROOM }
         ensures text { self.new ≡ self.old ++ decimal n }
@@ -101,7 +101,7 @@ impl Line {
         self.put_digits(n);
     }
 
-    /// Puts words and a number behind the others.
+    /// Puts words and a number after the others.
     pub fn put_numbered(&mut self, words: &[u8], n: usize)
         requires { length self.old + (length words.now + NUMBER_ROOM) ≤ LINE_ROOM }
         ensures text { self.new ≡ self.old ++ (words.now ++ decimal n) }
@@ -111,7 +111,7 @@ impl Line {
         self.put_number(n as u64);
     }
 
-    /// Puts a word behind the others, in eight hexadecimal digits.
+    /// Puts a word after the others, in eight hexadecimal digits.
     pub fn put_hex8(&mut self, word: u32)
         requires { length self.old + HEX_DIGITS ≤ LINE_ROOM }
         ensures text { self.new ≡ self.old ++ hex8 word }

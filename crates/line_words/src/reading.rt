@@ -8,7 +8,7 @@ use crate::hex::word_from_hex8;
 use crate::limits::HEX_DIGITS;
 use batch::{number_from_digits, position_of};
 
-/// What stands behind these bytes, where the line begins with them.
+/// What stands after these bytes, where the line begins with them.
 pub fn behind<'a>(line: &'a [u8], front: &[u8]) -> Option<&'a [u8]>
     ensures { MatchOption result ((rest : List ℕ) → line.entry.now ≢ front.now ++ rest)
         (λ rest. line.entry.now ≡ front.now ++ rest.now) }
@@ -16,7 +16,7 @@ pub fn behind<'a>(line: &'a [u8], front: &[u8]) -> Option<&'a [u8]>
     line.strip_prefix(front)
 }
 
-/// A number with a space behind it, and the rest.
+/// A number with a space after it, and the rest.
 pub fn number_and_rest(line: &[u8]) -> Option<(usize, &[u8])>
     ensures some { IfSome result (λ x. IsNumber x.0 × (line.now ≡ number x.0 space ++ x.1.now)) }
     ensures none { IfNone result (BeginsWithNoNumber line.now space) }
@@ -26,7 +26,7 @@ pub fn number_and_rest(line: &[u8]) -> Option<(usize, &[u8])>
     Some((n, &line[at + 1..]))
 }
 
-/// A word in eight hexadecimal digits with a space behind it, and the rest.
+/// A word in eight hexadecimal digits with a space after it, and the rest.
 pub fn hex8_and_rest(line: &[u8]) -> Option<(u32, &[u8])>
     ensures some { IfSome result (λ x. IsWord x.0 × (line.now ≡ hex8 x.0 ++ space ∷ x.1.now)) }
     ensures none { IfNone result (BeginsWithNoHex8 line.now space) }

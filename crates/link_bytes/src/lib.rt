@@ -4,7 +4,7 @@
 //! [`frame`] gives the bits of a byte's packet, `packet_bits` of `specs/Line.antt`. Any bits have
 //! one reading: the packets among them, and what has come of the next one, or that a packet had no
 //! stop bit (`laws::one_reading`). [`BitReader::feed`] gives each packet at its last bit, and no
-//! others (`HasRead` of `specs/Reading.antt`). It tells a fault exactly where the bit behind eight
+//! others (`HasRead` of `specs/Reading.antt`). It tells a fault exactly where the bit after eight
 //! data bits is high, and at each bit from then on. An end of a link, a [`HalfLink`], has at most
 //! one byte unacknowledged. It sends exactly where there is none, hands on each byte that comes,
 //! and refuses just an acknowledge that nothing waits for.

@@ -1,13 +1,15 @@
 -- What has come of a command, and one more byte.
-use Rattle.std.proofs.Common.{◌≡◌, ◌<◌, ◌≤◌, ◌+◌, ℕ, suc, List, [], ◌∷◌, ◌++◌, get_or, length, take, drop, refl, sym, ap, ◌∙◌, subst, arith, append_assoc, append-nil, length-append, Option, Some, None}
+use Rattle.std.proofs.Common.{◌≡◌, ◌<◌, ◌≤◌, ◌+◌, ℕ, List, [], ◌∷◌, ◌++◌, get_or, length, take, drop, refl, sym, ap, ◌∙◌, subst, arith, append-nil, length-append, Option, Some, None}
 use Rattle.std.proofs.lemmas.List.{take-append-drop}
-use Rattle.std.proofs.Math.Seq.{drop-cons, take-append_seam, take-append-add}
+use Rattle.std.proofs.Math.Seq.{take-append_seam, take-append-add}
 use Rattle.std.specs.Option.{option_to_list}
 use Rattle.c004_commands.specs.Commands.{row, IsCommandFront, Spells}
 use Rattle.c004_commands.specs.Reader.{GoesOn}
 use Rattle.c004_commands.specs.declared.command.Command.{Command}
 use Rattle.c004_commands.specs.declared.command.Command.TheVariants.{Connect, Join, Enquire, Settle, Reset, Cut, CutPair}
+use Rattle.c004_commands.proofs.Readings.{longer_text}
 use Rattle.c004_commands.proofs.Rows.{no_row}
+use Rattle.crossbar.proofs.Carrying.{take_more}
 use Rattle.crossbar.specs.Switch.{after, answer}
 use Rattle.link_ends.specs.End.{EndState, HasTaken}
 
@@ -28,7 +30,7 @@ front_fits rest r = omega (arith, row_fits r.command, ap length r.row_is, length
 pub nothing_whole : (rest : List ℕ) → IsCommandFront rest → Spells rest [] rest
 nothing_whole rest front = record { whole = refl; ports = tt; partial = front }
 
--- a byte that ends no command stands behind what had come
+-- a byte that ends no command stands after what had come
 pub more_begun : (rest left : List ℕ) (byte : ℕ) (given : Option Command) → given ≡ None → IsCommandFront rest → GoesOn rest byte given left → left ≡ rest ++ byte ∷ []
 more_begun rest left byte None is front on = sym (on rest [] (nothing_whole rest front)).whole
 more_begun rest left byte (Some c) is front on = absurd (cc)
@@ -44,27 +46,17 @@ ended rest (x ∷ xs) byte c front e =
     absurd (no_row c (take (length xs) (x ∷ xs)) rest front
     (sym (take-append_seam rest (byte ∷ [])) ∙ ap (take (length rest)) e ∙ ap (λ (n : ℕ). take n (row c ++ x ∷ xs)) long ∙ take-append-add (row c) (x ∷ xs) (length xs)))
 
--- behind a byte that ends a command nothing has come of the next
+-- after a byte that ends a command nothing has come of the next
 pub none_begun : (rest left : List ℕ) (byte : ℕ) (c : Command) → IsCommandFront rest → GoesOn rest byte (Some c) left → left ≡ []
 none_begun rest left byte c front on = ended rest left byte c front (row_first rest left byte c front on)
-
-split_at : (bytes : List ℕ) (k : ℕ) → k < length bytes → bytes ≡ take k bytes ++ get_or bytes k 0 ∷ drop (suc k) bytes
-split_at bytes k h = sym (take-append-drop k bytes) ∙ ap (λ (t : List ℕ). take k bytes ++ t) (drop-cons bytes k 0 h)
-
-behind : (a : List ℕ) (b : ℕ) (more : List ℕ) → a ++ b ∷ more ≡ (a ++ b ∷ []) ++ more
-behind a b more = sym (append_assoc a (b ∷ []) more)
 
 -- no byte of less than a command ends one
 pub none_ends : (bytes come left : List ℕ) (k : ℕ) (c : Command) → k < length bytes → come ≡ take k bytes → IsCommandFront come → GoesOn come (get_or bytes k 0) (Some c) left → IsCommandFront bytes → ⊥
 none_ends bytes come left k c h is front on whole =
-    no_row c (left ++ drop (suc k) bytes) bytes whole
-    (split_at bytes k h ∙ ap (λ (t : List ℕ). t ++ get_or bytes k 0 ∷ drop (suc k) bytes) (sym is) ∙ behind come (get_or bytes k 0) (drop (suc k) bytes)
-    ∙ ap (λ (t : List ℕ). t ++ drop (suc k) bytes) (row_first come left (get_or bytes k 0) c front on) ∙ append_assoc (row c) left (drop (suc k) bytes))
-
--- the text that goes on to less than a command
-pub goes_on_to : (bytes come : List ℕ) (k : ℕ) → k < length bytes → come ≡ take k bytes → IsCommandFront bytes → Spells (come ++ get_or bytes k 0 ∷ drop (suc k) bytes) [] bytes
-goes_on_to bytes come k h is whole =
-    subst (λ (t : List ℕ). Spells t [] bytes) (split_at bytes k h ∙ ap (λ (t : List ℕ). t ++ get_or bytes k 0 ∷ drop (suc k) bytes) (sym is)) (nothing_whole bytes whole)
+    let parts : bytes ≡ (come ++ get_or bytes k 0 ∷ []) ++ drop (k + 1) bytes = rw is (sym (take-append-drop (k + 1) bytes) ∙ ap (λ (t : List ℕ). t ++ drop (k + 1) bytes) (take_more bytes k h)) in
+    let longer = longer_text (come ++ get_or bytes k 0 ∷ []) (drop (k + 1) bytes) (c ∷ []) [] left bytes (on come [] (nothing_whole come front)) (subst (λ (t : List ℕ). Spells t [] bytes) parts (nothing_whole bytes whole)) in
+    let none : [] ≡ c ∷ longer.later = longer.others_are in
+    cc
 
 module _ (old new : EndState) (rest left : List ℕ) (byte : ℕ) (given : Option Command) (front : IsCommandFront rest) (same : rest ≡ old.begun) (on : GoesOn rest byte given left) where
   goes_on_between : left ≡ new.begun → GoesOn old.begun byte given new.begun

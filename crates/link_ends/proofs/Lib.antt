@@ -1,4 +1,3 @@
-pub mod Running
 pub mod Outputs
 pub mod Begun
 pub mod Fronts

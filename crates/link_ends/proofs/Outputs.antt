@@ -1,5 +1,5 @@
 -- The byte of an output, written and read.
-use Rattle.std.proofs.Common.{◌≡◌, ◌<◌, ◌≤◌, ◌+◌, ◌-◌, ℕ, Bool, true, false, cond, lt-ltb, List, get_or, length, refl, sym, ap, ◌∙◌, arith, Some, None, map, set, length-set, nat_lt}
+use Rattle.std.proofs.Common.{◌≡◌, ◌<◌, ◌≤◌, ◌+◌, ◌-◌, ℕ, true, false, cond, List, get_or, length, refl, sym, ap, ◌∙◌, arith, Option, Some, None, SomeIff, map, set, length-set, nat_lt}
 use Rattle.std.proofs.lemmas.Bool.Decides.{nat_tests}
 use Rattle.std.proofs.lemmas.List.{get_or-map, length-map, map-set}
 use Rattle.std.proofs.lemmas.List.Elements.{All-set}
@@ -68,14 +68,7 @@ pub answer_at : (outputs : List ℕ) (i : ℕ) → list_all is_answer outputs �
 answer_at outputs i all h =
     sym (answer-input (get_or outputs i 0) (AllPass-from_list_all is_answer outputs all i 0 h)) ∙ ap answer_byte (input_at outputs i h)
 
--- an output whose byte has top bit 0 has none
-pub source-loose : (outputs : List ℕ) (i : ℕ) → i < length outputs → get_or outputs i 0 < CONNECTED → None ≡ get (sources_of (map input_of outputs)) i
-source-loose outputs i h low =
-    let test : nat_lt (get_or outputs i 0) CONNECTED ≡ true = lt-ltb (get_or outputs i 0) CONNECTED low in
-    ap (λ (b : Bool). cond b None (Some (get_or outputs i 0 - CONNECTED))) (sym test) ∙ input_at outputs i h
-
--- and any other has the input below that bit
-pub source-fed : (outputs : List ℕ) (i : ℕ) → i < length outputs → CONNECTED ≤ get_or outputs i 0 → Some (get_or outputs i 0 - CONNECTED) ≡ get (sources_of (map input_of outputs)) i
-source-fed outputs i h high =
-    let test : nat_lt (get_or outputs i 0) CONNECTED ≡ false = grind (arith, nat_tests) in
-    ap (λ (b : Bool). cond b None (Some (get_or outputs i 0 - CONNECTED))) (sym test) ∙ input_at outputs i h
+-- what is left of a byte of which the top bit is taken off, if it is 1
+pub input_is : (o : Option ℕ) (byte : ℕ) → SomeIff o (CONNECTED ≤ byte) (byte - CONNECTED) → o ≡ input_of byte
+input_is None byte less = let low : nat_lt byte CONNECTED ≡ true = grind (arith, nat_tests) in rw low refl
+input_is (Some i) byte so = let high : nat_lt byte CONNECTED ≡ false = grind (arith, nat_tests) in rw (high, so.1) refl

@@ -31,8 +31,8 @@ kept_end s =
 abbrev pub new_switch_end : EndState
 new_switch_end = record { switch = idle; begun = [] }
 
--- so many bytes may have come of a command, and behind them stand zeros
-pub record HasZerosBehind (count : ℕ) (bytes : List ℕ) : Type 0 where
+-- so many bytes may have come of a command, and after them stand zeros
+pub record HasZerosAfter (count : ℕ) (bytes : List ℕ) : Type 0 where
   pub most : count ≤ MOST_BEGUN
   pub zeros : (k : ℕ) → count ≤ k → k < MOST_BEGUN → slice_index bytes k ≡ 0
 
@@ -42,5 +42,5 @@ pub record IsSwitchState (s : SwitchState) : Type 0 where
   pub answers : IsTrue (list_all is_answer s.outputs)
   pub room : length s.begun ≡ MOST_BEGUN
   pub begun : IsCommandFront (command_begun s)
-  pub behind : HasZerosBehind s.begun_count s.begun
+  pub behind : HasZerosAfter s.begun_count s.begun
   pub connecting : s.connecting ≤ 1

@@ -5,7 +5,7 @@ use Rattle.line_words.specs.HexWords.{hex2}
 use Rattle.c004_commands.specs.declared.reader.CommandFault.{CommandFault}
 use Rattle.c004_commands.specs.declared.reader.CommandFault.TheVariants.{UnknownCommand, BadPort}
 
--- `byte N is XX`, behind the program's name and that of what is read
+-- `byte N is XX`, after the program's name and that of what is read
 abbrev pub byte_words : ℕ → ℕ → List ℕ
 byte_words place byte =
     codes "exchange: standard input: byte " ++ decimal place ++ codes " is " ++ hex2 byte

@@ -18,12 +18,7 @@ impl SwitchState {
         if output >= PORTS {
             return Err(AskFault::NoPort);
         }
-        let answer = self.outputs[usize::from(output)];
-        if answer < CONNECTED {
-            Ok(None)
-        } else {
-            Ok(Some(answer - CONNECTED))
-        }
+        Ok(self.outputs[usize::from(output)].checked_sub(CONNECTED))
     }
 
     /// Whether two links feed each other, and the switch is ready. Takes constant time.

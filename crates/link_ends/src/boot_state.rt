@@ -19,7 +19,7 @@ pub const MOST_BEGUN: usize = POKE_BYTES - 1;
 #[repr(C)]
 #[derive(Clone, Copy, Debug, PartialEq, Eq)]
 pub struct BootState {
-    /// The bytes that have come of a message. What stands behind them has no effect.
+    /// The bytes that have come of a message. What stands after them has no effect.
     pub begun: [u8; MOST_BEGUN],
     /// How many bytes have come of it, 0 to [`MOST_BEGUN`].
     pub begun_count: u8,

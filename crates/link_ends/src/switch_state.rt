@@ -4,7 +4,7 @@ ghost use Rattle.std.specs.Prelude.{◌≡◌, ◌↔◌, IsTrue, MatchOption};
 ghost use Rattle.std.specs.List.{list_all};
 ghost use Rattle.c004_commands.specs.Commands.{IsCommandFront};
 ghost use Rattle.link_ends.specs.SwitchBytes.{is_answer};
-ghost use Rattle.link_ends.specs.SwitchStates.{IsSwitchState, command_begun, kept_end, new_switch_end, HasZerosBehind};
+ghost use Rattle.link_ends.specs.SwitchStates.{IsSwitchState, command_begun, kept_end, new_switch_end, HasZerosAfter};
 
 use c004_commands::{CONNECTED, CommandReader, LONGEST_COMMAND, PORTS};
 
@@ -22,7 +22,7 @@ pub struct SwitchState {
     /// What each output answers an enquiry: the input that feeds it, with the top bit 1, or 0 where
     /// none does.
     pub outputs: [u8; OUTPUTS],
-    /// The bytes that have come of a command, with zeros behind them.
+    /// The bytes that have come of a command, with zeros after them.
     pub begun: [u8; MOST_BEGUN],
     /// How many bytes have come of it, 0 to [`MOST_BEGUN`].
     pub begun_count: u8,
@@ -53,15 +53,15 @@ impl SwitchState {
         if self.connecting > 1 || !are_answers(&self.outputs) {
             return None;
         }
-        if !self.has_zeros_behind() {
+        if !self.has_zeros_after() {
             return None;
         }
         reader_of(&self.begun[..usize::from(self.begun_count)])
     }
 
-    /// Whether at most so many bytes have come as may come, and zeros stand behind them.
-    fn has_zeros_behind(&self) -> bool
-        ensures { IsTrue result ↔ HasZerosBehind self.now.begun_count self.now.begun }
+    /// Whether at most so many bytes have come as may come, and zeros stand after them.
+    fn has_zeros_after(&self) -> bool
+        ensures { IsTrue result ↔ HasZerosAfter self.now.begun_count self.now.begun }
     {
         match self.begun_count {
             0 => self.begun[0] == 0 && self.begun[1] == 0,

@@ -1,4 +1,4 @@
--- The lines of a certificate part, behind those of the settings.
+-- The lines of a certificate part, after those of the settings.
 use Rattle.std.proofs.Common.{inr, ◌≡◌, ◌≢◌, ℕ, ◌+◌, ◌<◌, List, [], ◌∷◌, ◌++◌, length, get_or, drop, All, Option, Some, None, refl, sym, ap, ◌∙◌, append_assoc, arith}
 use Rattle.std.specs.Prelude.{codes, IfSome, IsSome}
 use Rattle.std.proofs.lemmas.List.{append-nil, nil_from_length}
@@ -11,7 +11,7 @@ use Rattle.link_graph.specs.declared.schedule_fault.ScheduleFault.TheVariants.{L
 use Rattle.link_graph.specs.Certificates.{Naming, naming, IsNaming}
 use Rattle.link_graph.specs.ScheduleText.{CanName, numbers, busiest_line, named_line, naming_lines, certificate_lines, text_of}
 use Rattle.link_graph.specs.ScheduleFaults.{HasFirstLine, IsLine, Begins, IsFirstBad, AreCertified, AreNamed, IsFaultBelow, IsLineFault}
-use Rattle.link_graph.proofs.Parts.{bad_here, bad_line, cut_short, behind, bad_behind, fault_behind, one_read, busiest_line_within}
+use Rattle.link_graph.proofs.Parts.{bad_here, bad_line, cut_short, behind, bad_after, fault_after, one_read, busiest_line_within}
 use Rattle.link_graph.proofs.LinkLines.{numbers_injective}
 
 -- `busiest none`
@@ -62,8 +62,8 @@ none_named above text line rest ts read spelled empty =
         omega (arith, a.some, ap length (numbers_injective [] a.transfers (All-nil IsNumber) a.fit same))
 
 -- nothing follows the named transfers
-pub behind_named : (above : ℕ) (text line rest ts : List ℕ) → HasFirstLine text line rest → All IsNumber ts → line ≡ named_line ts → 0 < length ts → 0 < length rest → IsFaultBelow above AreNamed text (Line (above + 2))
-behind_named above text line rest ts read fit spelled some more = (2, refl, bad_behind AreNamed (line ∷ []) text rest 1 (lines_within line read.0) (one_read text line rest read.1) bad)
+pub after_named : (above : ℕ) (text line rest ts : List ℕ) → HasFirstLine text line rest → All IsNumber ts → line ≡ named_line ts → 0 < length ts → 0 < length rest → IsFaultBelow above AreNamed text (Line (above + 2))
+after_named above text line rest ts read fit spelled some more = (2, refl, bad_after AreNamed (line ∷ []) text rest 1 (lines_within line read.0) (one_read text line rest read.1) bad)
   where
     bad : IsFirstBad (behind (line ∷ []) AreNamed) rest 1
     bad = bad_here (behind (line ∷ []) AreNamed) rest
@@ -114,8 +114,8 @@ behind_none other more (Some named) spelled = by_link named.link spelled
 pub no_naming : IsNaming (naming None [])
 no_naming = record { both = (λ h. absurd cc, λ less. absurd (omega (arith, less))) }
 
-pub behind_no_link : (above : ℕ) (text line rest : List ℕ) → HasFirstLine text line rest → line ≡ none_line → 0 < length rest → IsFaultBelow above AreCertified text (Line (above + 2))
-behind_no_link above text line rest read spelled more = (2, refl, bad_behind AreCertified (line ∷ []) text rest 1 (lines_within line read.0) (one_read text line rest read.1) bad)
+pub after_no_link : (above : ℕ) (text line rest : List ℕ) → HasFirstLine text line rest → line ≡ none_line → 0 < length rest → IsFaultBelow above AreCertified text (Line (above + 2))
+after_no_link above text line rest read spelled more = (2, refl, bad_after AreCertified (line ∷ []) text rest 1 (lines_within line read.0) (one_read text line rest read.1) bad)
   where
     bad : IsFirstBad (behind (line ∷ []) AreCertified) rest 1
     bad = bad_here (behind (line ∷ []) AreCertified) rest
@@ -142,5 +142,5 @@ named_back link lines (Some named) fits is spelled = by_link named.link is.both.
 -- a fault of the named transfers is one of the part
 pub named_fault : (above : ℕ) (text line rest : List ℕ) (link : Link) (fault : ScheduleFault) → HasFirstLine text line rest → (link.«module» < MAX_MODULES) × (line ≡ busiest_line link) → IsFaultBelow (above + 1) AreNamed rest fault → IsFaultBelow above AreCertified text fault
 named_fault above text line rest link fault read named f =
-    fault_behind AreCertified AreNamed (busiest_line link ∷ []) above (above + 1) text rest fault (lines_within (busiest_line link) (busiest_line_within link named.0)) (one_read text (busiest_line link) rest (read.1 ∙ ap (λ (l : List ℕ). l ++ line_feed ∷ rest) named.1)) refl
+    fault_after AreCertified AreNamed (busiest_line link ∷ []) above (above + 1) text rest fault (lines_within (busiest_line link) (busiest_line_within link named.0)) (one_read text (busiest_line link) rest (read.1 ∙ ap (λ (l : List ℕ). l ++ line_feed ∷ rest) named.1)) refl
     (λ lines a. named_there link lines named.0 a) (λ lines a. named_back link lines a.certificate a.names_fit a.link_named a.spelled) f

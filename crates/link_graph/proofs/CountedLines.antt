@@ -1,4 +1,4 @@
--- The lines of the settings, behind the line that counts them.
+-- The lines of the settings, after the line that counts them.
 use Rattle.std.proofs.Common.{inl, ◌≡◌, ◌≢◌, ℕ, ◌+◌, ◌-◌, ◌<◌, ◌≤◌, List, [], ◌∷◌, ◌++◌, length, get_or, drop, map, replicate, All, None, refl, sym, ap, subst, ◌∙◌, append_assoc, arith}
 use Rattle.std.specs.Prelude.{codes}
 use Rattle.std.proofs.lemmas.List.{append-nil, length-append, length-map, length-replicate, map-append, map_push, get_or_at, get_or_append_left, get_or-map, drop_at, length_push}
@@ -8,7 +8,7 @@ use Rattle.link_graph.specs.declared.schedule_fault.ScheduleFault.{ScheduleFault
 use Rattle.link_graph.specs.declared.schedule_fault.ScheduleFault.TheVariants.{Line, NoMemory}
 use Rattle.link_graph.specs.ScheduleText.{said, setting_line, certificate_lines, text_of}
 use Rattle.link_graph.specs.ScheduleFaults.{HasFirstLine, IsLine, Begins, IsFirstBad, AreCounted, AreCertified, HasToKeep, IsFaultBelow, IsLineFault}
-use Rattle.link_graph.proofs.Parts.{bad_line, cut_short, behind, bad_behind, setting_lines_within}
+use Rattle.link_graph.proofs.Parts.{bad_line, cut_short, behind, bad_after, setting_lines_within}
 
 -- the lines of these settings stand at the front of the text, and then the rest
 pub record AreListed (text : List ℕ) (lists : List (List ℕ)) (rest : List ℕ) : Type 0 where
@@ -77,18 +77,18 @@ settings_left count lists less c =
 
 fault_here : (count : ℕ) (text : List ℕ) (lists : List (List ℕ)) (rest : List ℕ) (k n : ℕ) → AreListed text lists rest → length lists ≡ k → n ≡ k + 2 → IsFirstBad (behind (map setting_line lists) (AreCounted count)) rest 1 → IsFaultBelow 1 (AreCounted count) text (Line n)
 fault_here count text lists rest k n so_far counted at bad =
-    (length (map setting_line lists) + 1, omega (arith, length-map lists setting_line), bad_behind (AreCounted count) (map setting_line lists) text rest 1 (setting_lines_within lists so_far.fit) so_far.spelled bad)
+    (length (map setting_line lists) + 1, omega (arith, length-map lists setting_line), bad_after (AreCounted count) (map setting_line lists) text rest 1 (setting_lines_within lists so_far.fit) so_far.spelled bad)
 
 pub no_setting_line : (count : ℕ) (text : List ℕ) (lists : List (List ℕ)) (rest : List ℕ) (k n : ℕ) → IsNumber count → k < count → AreListed text lists rest → length lists ≡ k → n ≡ k + 2 → IsLine rest → IsFaultBelow 1 (AreCounted count) text (Line n)
 no_setting_line count text lists rest k n fits less so_far counted at within =
     fault_here count text lists rest k n so_far counted at (cut_short (behind (map setting_line lists) (AreCounted count)) rest within (begins_next count lists fits so_far.fit (omega arith)) (λ _. settings_left count lists (omega arith)))
 
-keeps : (count : ℕ) (text : List ℕ) (lists : List (List ℕ)) (rest line after ts behind_them : List ℕ) → IsNumber count → length lists < count → AreListed text lists rest → rest ≡ line ++ line_feed ∷ after → All IsNumber ts → line ≡ setting_line ts ++ behind_them → HasToKeep (AreCounted count) text
-keeps count text lists rest line after ts behind_them fits less so_far parts fit spelled = record {
+keeps : (count : ℕ) (text : List ℕ) (lists : List (List ℕ)) (rest line after ts after_them : List ℕ) → IsNumber count → length lists < count → AreListed text lists rest → rest ≡ line ++ line_feed ∷ after → All IsNumber ts → line ≡ setting_line ts ++ after_them → HasToKeep (AreCounted count) text
+keeps count text lists rest line after ts after_them fits less so_far parts fit spelled = record {
   before = map setting_line lists;
   line = setting_line ts;
-  rest = behind_them ++ line_feed ∷ after;
-  parts = so_far.spelled ∙ ap (λ (x : List ℕ). text_of (map setting_line lists) ++ x) (parts ∙ ap (λ (x : List ℕ). x ++ line_feed ∷ after) spelled ∙ append_assoc (setting_line ts) behind_them (line_feed ∷ after));
+  rest = after_them ++ line_feed ∷ after;
+  parts = so_far.spelled ∙ ap (λ (x : List ℕ). text_of (map setting_line lists) ++ x) (parts ∙ ap (λ (x : List ℕ). x ++ line_feed ∷ after) spelled ∙ append_assoc (setting_line ts) after_them (line_feed ∷ after));
   good = subst (Begins (AreCounted count)) (map_push setting_line lists ts) (begins_settings count (lists ++ ts ∷ []) fits (All-push (All IsNumber) lists ts so_far.fit fit) (omega (arith, length_push lists ts)));
   kept = (ts, inl refl);
 }

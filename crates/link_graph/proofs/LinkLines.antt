@@ -42,7 +42,7 @@ numbers_lack [] fit = All-nil (λ c. c ≢ line_feed)
 numbers_lack (t ∷ ts) fit =
     All-append (λ c. c ≢ line_feed) (codes " " ++ decimal t) (numbers ts) (All-append (λ c. c ≢ line_feed) (codes " ") (decimal t) (word_lacks line_feed (codes " ") refl) (digits_lack line_feed t (omega arith) (All-head IsNumber t ts fit))) (numbers_lack ts (All-tail IsNumber t ts fit))
 
--- ---- numbers behind spaces
+-- ---- numbers after spaces
 
 starts_numbers : (ts rest : List ℕ) → Starts space rest → Starts space (numbers ts ++ rest)
 starts_numbers [] rest starts = starts
@@ -81,7 +81,7 @@ numbers_injective ts us ft fu same =
 
 -- ---- reading them
 
--- the digits up to the next space, and what stands behind them
+-- the digits up to the next space, and what stands after them
 pub cut_number : (digits : List ℕ) (end n : ℕ) → take end digits ≡ decimal n → digits ≡ decimal n ++ drop end digits
 cut_number digits end n read = sym (take-append-drop end digits) ∙ ap (λ (x : List ℕ). x ++ drop end digits) read
 
@@ -117,7 +117,7 @@ kept words ts rest after n so_far next =
     let more = read_more words ts rest (ts ++ n ∷ []) after n so_far next refl in
     record { transfers = ts ++ n ∷ []; rest = after; some = omega (arith, length-append ts (n ∷ [])); fit = more.fit; spelled = more.spelled }
 
--- a fault of the words behind the first is one of the line
+-- a fault of the words after the first is one of the line
 pub line_fault : (at : ℕ) (word line words : List ℕ) (fault : ScheduleFault) → line ≡ word ++ words → IsLineFault at [] words fault → IsLineFault at word line fault
 line_fault at word line words (Line n) parts f = (f.0, λ ts fit same. f.1 ts fit (append_cancel_left word words (numbers ts) (sym parts ∙ same)))
 line_fault at word line words NoMemory parts f = record {
@@ -149,7 +149,7 @@ one_end Three Three x y same = (refl, ap (drop 1) (sym (ends_at 3 x (omega arith
 one_end Zero Three x y same = absurd (apart x y (sym (ends_at 0 x (omega arith)) ∙ same ∙ ends_at 3 y (omega arith)))
 one_end Three Zero x y same = absurd (apart y x (sym (ends_at 0 y (omega arith)) ∙ sym same ∙ ends_at 3 x (omega arith)))
 
--- what stands behind `busiest link `
+-- what stands after `busiest link `
 pub link_parts : (link : Link) → busiest_line link ≡ codes "busiest link " ++ (decimal (end_number link.end) ++ (codes " module " ++ decimal link.«module»))
 link_parts link = simp append_assoc
 

@@ -46,7 +46,7 @@ not_matchings batch settings k link clash all = shared_no_matching batch clash.s
 
 -- ---- one first fault of each kind
 
--- the other list goes on behind x
+-- the other list goes on after x
 pub record Further (before : List ℕ) (x : ℕ) (other : List ℕ) : Type 0 where
   pub more : List ℕ
   pub list : other ≡ before ++ x ∷ more

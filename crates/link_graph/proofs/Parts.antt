@@ -42,30 +42,30 @@ bad_line P text line rest read good unwanted = bad_here P text good
 pub cut_short : (P : List (List ℕ) → Type 0) (text : List ℕ) → IsLine text → Begins P [] → (text ≡ [] → P [] → ⊥) → IsFirstBad P text 1
 cut_short P text within good unfinished = bad_here P text good (λ line after more inside parts. absurd (no_break text line after within parts)) unfinished
 
--- what a part wants behind its first lines
+-- what a part wants after its first lines
 abbrev pub behind : List (List ℕ) → (List (List ℕ) → Type 0) → List (List ℕ) → Type 0
 behind ls P more = P (ls ++ more)
 
-begins_behind : (P : List (List ℕ) → Type 0) (ls lines : List (List ℕ)) → Begins (behind ls P) lines → Begins P (ls ++ lines)
-begins_behind P ls lines b = record { more = b.more; wanted = subst P (sym (append_assoc ls lines b.more)) b.wanted }
+begins_after : (P : List (List ℕ) → Type 0) (ls lines : List (List ℕ)) → Begins (behind ls P) lines → Begins P (ls ++ lines)
+begins_after P ls lines b = record { more = b.more; wanted = subst P (sym (append_assoc ls lines b.more)) b.wanted }
 
-behind_begins : (P : List (List ℕ) → Type 0) (ls lines : List (List ℕ)) → Begins P (ls ++ lines) → Begins (behind ls P) lines
-behind_begins P ls lines b = record { more = b.more; wanted = subst P (append_assoc ls lines b.more) b.wanted }
+after_begins : (P : List (List ℕ) → Type 0) (ls lines : List (List ℕ)) → Begins P (ls ++ lines) → Begins (behind ls P) lines
+after_begins P ls lines b = record { more = b.more; wanted = subst P (append_assoc ls lines b.more) b.wanted }
 
 more_text : (text rest : List ℕ) (ls before : List (List ℕ)) (after : List ℕ) → text ≡ text_of ls ++ rest → rest ≡ text_of before ++ after → text ≡ text_of (ls ++ before) ++ after
 more_text text rest ls before after parts more =
     parts ∙ ap (λ (x : List ℕ). text_of ls ++ x) more ∙ sym (append_assoc (text_of ls) (text_of before) after) ∙ ap (λ (x : List ℕ). x ++ after) (sym (text_of-append ls before))
 
--- the first fault of what stands behind good lines is that of the whole
-pub bad_behind : (P : List (List ℕ) → Type 0) (ls : List (List ℕ)) (text rest : List ℕ) (m : ℕ) → All IsLine ls → text ≡ text_of ls ++ rest → IsFirstBad (behind ls P) rest m → IsFirstBad P text (length ls + m)
-bad_behind P ls text rest m within parts bad = record {
+-- the first fault of what stands after good lines is that of the whole
+pub bad_after : (P : List (List ℕ) → Type 0) (ls : List (List ℕ)) (text rest : List ℕ) (m : ℕ) → All IsLine ls → text ≡ text_of ls ++ rest → IsFirstBad (behind ls P) rest m → IsFirstBad P text (length ls + m)
+bad_after P ls text rest m within parts bad = record {
   before = ls ++ bad.before;
   rest = bad.rest;
   parts = more_text text rest ls bad.before bad.rest parts bad.parts;
   within_lines = All-append IsLine ls bad.before within bad.within_lines;
   number = omega (arith, bad.number, length-append ls bad.before);
-  good = begins_behind P ls bad.before bad.good;
-  next_unwanted = λ line after inside more begins. bad.next_unwanted line after inside more (behind_begins P ls (bad.before ++ line ∷ []) (subst (Begins P) (append_assoc ls bad.before (line ∷ [])) begins));
+  good = begins_after P ls bad.before bad.good;
+  next_unwanted = λ line after inside more begins. bad.next_unwanted line after inside more (after_begins P ls (bad.before ++ line ∷ []) (subst (Begins P) (append_assoc ls bad.before (line ∷ [])) begins));
   unfinished = bad.unfinished;
 }
 
@@ -82,20 +82,20 @@ bad_same P Q text m there back bad = record {
   unfinished = λ empty whole. bad.unfinished empty (back bad.before whole);
 }
 
-pub keep_behind : (P Q : List (List ℕ) → Type 0) (ls : List (List ℕ)) (text rest : List ℕ) → text ≡ text_of ls ++ rest → ((lines : List (List ℕ)) → Q lines → P (ls ++ lines)) → HasToKeep Q rest → HasToKeep P text
-keep_behind P Q ls text rest parts there k = record {
+pub keep_after : (P Q : List (List ℕ) → Type 0) (ls : List (List ℕ)) (text rest : List ℕ) → text ≡ text_of ls ++ rest → ((lines : List (List ℕ)) → Q lines → P (ls ++ lines)) → HasToKeep Q rest → HasToKeep P text
+keep_after P Q ls text rest parts there k = record {
   before = ls ++ k.before;
   line = k.line;
   rest = k.rest;
   parts = more_text text rest ls k.before (k.line ++ k.rest) parts k.parts;
-  good = subst (Begins P) (sym (append_assoc ls k.before (k.line ∷ []))) (begins_behind P ls (k.before ++ k.line ∷ []) (record { more = k.good.more; wanted = there ((k.before ++ k.line ∷ []) ++ k.good.more) k.good.wanted }));
+  good = subst (Begins P) (sym (append_assoc ls k.before (k.line ∷ []))) (begins_after P ls (k.before ++ k.line ∷ []) (record { more = k.good.more; wanted = there ((k.before ++ k.line ∷ []) ++ k.good.more) k.good.wanted }));
   kept = k.kept;
 }
 
 -- the same for either fault, where so many lines stand above
-pub fault_behind : (P Q : List (List ℕ) → Type 0) (ls : List (List ℕ)) (above lower : ℕ) (text rest : List ℕ) (fault : ScheduleFault) → All IsLine ls → text ≡ text_of ls ++ rest → lower ≡ above + length ls → ((lines : List (List ℕ)) → Q lines → P (ls ++ lines)) → ((lines : List (List ℕ)) → P (ls ++ lines) → Q lines) → IsFaultBelow lower Q rest fault → IsFaultBelow above P text fault
-fault_behind P Q ls above lower text rest (Line n) within parts at there back f = (length ls + f.0, omega (arith, f.1, at), bad_behind P ls text rest f.0 within parts (bad_same Q (behind ls P) rest f.0 there back f.2))
-fault_behind P Q ls above lower text rest NoMemory within parts at there back f = keep_behind P Q ls text rest parts there f
+pub fault_after : (P Q : List (List ℕ) → Type 0) (ls : List (List ℕ)) (above lower : ℕ) (text rest : List ℕ) (fault : ScheduleFault) → All IsLine ls → text ≡ text_of ls ++ rest → lower ≡ above + length ls → ((lines : List (List ℕ)) → Q lines → P (ls ++ lines)) → ((lines : List (List ℕ)) → P (ls ++ lines) → Q lines) → IsFaultBelow lower Q rest fault → IsFaultBelow above P text fault
+fault_after P Q ls above lower text rest (Line n) within parts at there back f = (length ls + f.0, omega (arith, f.1, at), bad_after P ls text rest f.0 within parts (bad_same Q (behind ls P) rest f.0 there back f.2))
+fault_after P Q ls above lower text rest NoMemory within parts at there back f = keep_after P Q ls text rest parts there f
 
 -- one line that was read
 pub one_read : (text line rest : List ℕ) → text ≡ line ++ line_feed ∷ rest → text ≡ text_of (line ∷ []) ++ rest

@@ -17,7 +17,7 @@ use Rattle.link_graph.specs.ScheduleText.{Said, said, CanName, CanSay, Says, set
 use Rattle.link_graph.specs.ScheduleFaults.{HasFirstLine, IsLine, Begins, AreSaid, AreCounted, AreCertified, IsFirstBadLine, IsFaultOf, IsFaultBelow}
 use Rattle.link_graph.proofs.LineBreaks.{first_of, goes_on, one_list}
 use Rattle.link_graph.proofs.LinkLines.{All-behind, word_lacks, numbers_injective, link_parts, one_end, one_module}
-use Rattle.link_graph.proofs.Parts.{bad_line, cut_short, bad_behind, bad_same, behind, fault_behind, one_read, settings_line_within, setting_lines_within, busiest_line_within, named_line_within}
+use Rattle.link_graph.proofs.Parts.{bad_line, cut_short, bad_after, bad_same, behind, fault_after, one_read, settings_line_within, setting_lines_within, busiest_line_within, named_line_within}
 use Rattle.link_graph.proofs.CountedLines.{certified_there, certified_back, same_behind}
 use Rattle.link_graph.proofs.CertificateLines.{none_line}
 
@@ -51,10 +51,10 @@ said_back count lines fits a = record {
   spelled = ap (drop 1) a.spelled;
 }
 
--- a fault behind the first line is one of the text
+-- a fault after the first line is one of the text
 pub counted_fault : (text line rest : List ℕ) (count : ℕ) (fault : ScheduleFault) → HasFirstLine text line rest → IsNumber count × (line ≡ settings_line count) → IsFaultBelow 1 (AreCounted count) rest fault → IsFaultOf text fault
 counted_fault text line rest count (Line n) read counted f =
-    rw f.1 (bad_behind AreSaid (settings_line count ∷ []) text rest f.0 (All-cons IsLine (settings_line count) [] (settings_line_within count counted.0) (All-nil IsLine)) (one_read text (settings_line count) rest (headed text line rest count read.1 counted.1))
+    rw f.1 (bad_after AreSaid (settings_line count ∷ []) text rest f.0 (All-cons IsLine (settings_line count) [] (settings_line_within count counted.0) (All-nil IsLine)) (one_read text (settings_line count) rest (headed text line rest count read.1 counted.1))
     (bad_same (AreCounted count) (behind (settings_line count ∷ []) AreSaid) rest f.0 (said_there count) (λ lines a. said_back count lines counted.0 a) f.2))
   where
     headed : (bytes first more : List ℕ) (n : ℕ) → bytes ≡ first ++ line_feed ∷ more → first ≡ settings_line n → bytes ≡ settings_line n ++ line_feed ∷ more
@@ -67,11 +67,11 @@ counted_fault text line rest count NoMemory read counted f = record {
   keeps = f;
 }
 
--- and so is a fault behind the settings
+-- and so is a fault after the settings
 pub certified_fault : (text line rest : List ℕ) (count : ℕ) (lists : List (List ℕ)) (after : List ℕ) (fault : ScheduleFault) → HasFirstLine text line rest → IsNumber count × (line ≡ settings_line count) → length lists ≡ count → All (All IsNumber) lists → rest ≡ text_of (map setting_line lists) ++ after → IsFaultBelow (count + 1) AreCertified after fault → IsFaultOf text fault
 certified_fault text line rest count lists after fault read counted long fit spelled f =
     counted_fault text line rest count fault read counted
-    (fault_behind (AreCounted count) AreCertified (map setting_line lists) 1 (count + 1) rest after fault (setting_lines_within lists fit) spelled (omega (arith, length-map lists setting_line)) (λ lines a. certified_there count lists lines counted.0 long fit a) (λ lines a. certified_back count lists lines long a) f)
+    (fault_after (AreCounted count) AreCertified (map setting_line lists) 1 (count + 1) rest after fault (setting_lines_within lists fit) spelled (omega (arith, length-map lists setting_line)) (λ lines a. certified_there count lists lines counted.0 long fit a) (λ lines a. certified_back count lists lines long a) f)
 
 -- ---- what a text says
 
@@ -99,8 +99,8 @@ one_settings (s ∷ a) (t ∷ b) x y fa fb long same =
 
 one_link : (a b : Link) → a.«module» < MAX_MODULES → b.«module» < MAX_MODULES → busiest_line a ≡ busiest_line b → a ≡ b
 one_link a b la lb same =
-    let behind_word = append_cancel_left (codes "busiest link ") _ _ (sym (link_parts a) ∙ same ∙ link_parts b) in
-    let end = one_end a.end b.end _ _ behind_word in
+    let after_word = append_cancel_left (codes "busiest link ") _ _ (sym (link_parts a) ∙ same ∙ link_parts b) in
+    let end = one_end a.end b.end _ _ after_word in
     let number = one_module a.«module» b.«module» (omega arith) (omega arith) end.1 in
     ap (λ (e : End). record { end = e; «module» = a.«module» }) end.0 ∙ ap (λ (m : ℕ). record { end = b.end; «module» = m }) number
 
@@ -139,9 +139,9 @@ pub one_said : (text : List ℕ) (a b : Said) → Says text a → Says text b �
 one_said text a b sa sb =
     let lines : said_lines a ≡ said_lines b = one_list (said_lines a) (said_lines b) (said_lines_within a sa.can_say) (said_lines_within b sb.can_say) (sym sa.spelled ∙ sb.spelled) in
     let count = one_count (length a.settings) (length b.settings) sa.can_say.settings_fit.count sb.can_say.settings_fit.count (first_same _ _ lines) in
-    let behind_first : map setting_line a.settings ++ certificate_lines a.certificate ≡ map setting_line b.settings ++ certificate_lines b.certificate = ap (drop 1) lines in
-    let settings = one_settings a.settings b.settings _ _ sa.can_say.settings_fit.transfers sb.can_say.settings_fit.transfers count behind_first in
-    let certificate = one_certificate a.certificate b.certificate sa.can_say.names_fit sb.can_say.names_fit sa.can_say.link_named sb.can_say.link_named (same_behind (map setting_line a.settings) (map setting_line b.settings) _ _ (length-map a.settings setting_line ∙ count ∙ sym (length-map b.settings setting_line)) behind_first) in
+    let after_first : map setting_line a.settings ++ certificate_lines a.certificate ≡ map setting_line b.settings ++ certificate_lines b.certificate = ap (drop 1) lines in
+    let settings = one_settings a.settings b.settings _ _ sa.can_say.settings_fit.transfers sb.can_say.settings_fit.transfers count after_first in
+    let certificate = one_certificate a.certificate b.certificate sa.can_say.names_fit sb.can_say.names_fit sa.can_say.link_named sb.can_say.link_named (same_behind (map setting_line a.settings) (map setting_line b.settings) _ _ (length-map a.settings setting_line ∙ count ∙ sym (length-map b.settings setting_line)) after_first) in
     ap (λ (x : List (List ℕ)). said x a.certificate) settings ∙ ap (said b.settings) certificate
 
 -- ---- one first line at fault

@@ -21,8 +21,8 @@ pub record Begins (Wanted : List (List ℕ) → Type 0) (lines : List (List ℕ)
   pub wanted : Wanted (lines ++ more)
 
 -- Line n of the text, counted from 1, is the first that isn't wanted in its place: the lines before
--- it are, and the line behind them is not.
--- Where no whole line stands behind them, as the last line feed is missing or the text ends too
+-- it are, and the line after them is not.
+-- Where no whole line stands after them, as the last line feed is missing or the text ends too
 -- early, that is line n too.
 pub record IsFirstBad (Wanted : List (List ℕ) → Type 0) (text : List ℕ) (n : ℕ) : Type 0 where
   pub before : List (List ℕ)
@@ -45,23 +45,23 @@ pub record AreSaid (lines : List (List ℕ)) : Type 0 where
 abbrev pub IsFirstBadLine : List ℕ → ℕ → Type 0
 IsFirstBadLine text n = IsFirstBad AreSaid text n
 
--- ---- the same behind the first lines
+-- ---- the same after the first lines
 
--- lines that may stand behind the line that counts the settings
+-- lines that may stand after the line that counts the settings
 pub record AreCounted (count : ℕ) (lines : List (List ℕ)) : Type 0 where
   pub says : Said
   pub can_say : CanSay says
   pub counted : length says.settings ≡ count
   pub spelled : lines ≡ map setting_line says.settings ++ certificate_lines says.certificate
 
--- lines that may stand behind those of the settings
+-- lines that may stand after those of the settings
 pub record AreCertified (lines : List (List ℕ)) : Type 0 where
   pub certificate : Option Naming
   pub names_fit : CanName certificate
   pub link_named : IfSome certificate IsNaming
   pub spelled : lines ≡ certificate_lines certificate
 
--- the line that may stand behind that of the busiest link
+-- the line that may stand after that of the busiest link
 pub record AreNamed (lines : List (List ℕ)) : Type 0 where
   pub transfers : List ℕ
   pub some : 0 < length transfers
@@ -75,7 +75,7 @@ abbrev pub IsKept : List ℕ → Type 0
 IsKept line =
     (ts : List ℕ) × ((line ≡ setting_line ts) ⊎ ((line ≡ named_line ts) × (0 < length ts)))
 
--- behind lines that are wanted, the front of a line stands that has to be kept
+-- after lines that are wanted, the front of a line stands that has to be kept
 pub record HasToKeep (Wanted : List (List ℕ) → Type 0) (text : List ℕ) : Type 0 where
   pub before : List (List ℕ)
   pub line : List ℕ
@@ -84,7 +84,7 @@ pub record HasToKeep (Wanted : List (List ℕ) → Type 0) (text : List ℕ) : T
   pub good : Begins Wanted (before ++ line ∷ [])
   pub kept : IsKept line
 
--- The first line is good, and something behind it has to be kept. Reading any other text needs no
+-- The first line is good, and something after it has to be kept. Reading any other text needs no
 -- memory.
 pub record NeedsMemory (text : List ℕ) : Type 0 where
   pub count : ℕ
@@ -103,7 +103,7 @@ abbrev pub IsFaultBelow : ℕ → (List (List ℕ) → Type 0) → List ℕ → 
 IsFaultBelow above Wanted text (Line n) = (m : ℕ) × (n ≡ above + m) × IsFirstBad Wanted text m
 IsFaultBelow above Wanted text NoMemory = HasToKeep Wanted text
 
--- a word, numbers behind it, one at least, and then the rest
+-- a word, numbers after it, one at least, and then the rest
 pub record BeginsWithNumbers (word line : List ℕ) : Type 0 where
   pub transfers : List ℕ
   pub rest : List ℕ
@@ -111,7 +111,7 @@ pub record BeginsWithNumbers (word line : List ℕ) : Type 0 where
   pub fit : All IsNumber transfers
   pub spelled : line ≡ (word ++ numbers transfers) ++ rest
 
--- the line with this number isn't the word with numbers behind it, or it begins so where memory was
+-- the line with this number isn't the word with numbers after it, or it begins so where memory was
 -- wanted
 abbrev pub IsLineFault : ℕ → List ℕ → List ℕ → ScheduleFault → Type 0
 IsLineFault at word line (Line n) =
@@ -120,11 +120,11 @@ IsLineFault at word line NoMemory = BeginsWithNumbers word line
 
 -- ---- what the readers of the parts find
 
--- the text's first line, without its line feed, and what stands behind it
+-- the text's first line, without its line feed, and what stands after it
 abbrev pub HasFirstLine : List ℕ → List ℕ → List ℕ → Type 0
 HasFirstLine text line rest = IsLine line × (text ≡ line ++ line_feed ∷ rest)
 
--- the number that the words begin with, behind a space, and the rest, which is nothing or begins
+-- the number that the words begin with, after a space, and the rest, which is nothing or begins
 -- with a space
 abbrev pub HasFirstNumber : List ℕ → ℕ → List ℕ → Type 0
 HasFirstNumber words n rest =

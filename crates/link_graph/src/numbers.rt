@@ -1,4 +1,4 @@
-//! Numbers of a text, each behind a space.
+//! Numbers of a text, each after a space.
 
 ghost use Rattle.std.specs.Prelude.{◌≡◌, ◌<◌, ◌≤◌, ◌+◌, ◌/◌, ◌%◌, ◌++◌, OnOk};
 ghost use Rattle.link_graph.specs.ScheduleText.{spaced};
@@ -35,7 +35,7 @@ fn digit(n: usize) -> u8
     b'0' + n as u8
 }
 
-/// Puts a number of at most three digits at the end of a text, behind a space.
+/// Puts a number of at most three digits at the end of a text, after a space.
 #[inline(always)]
 fn push_short(text: &mut Vec<u8>, n: usize) -> Result<(), AllocError>
     requires { n < 1000 }
@@ -52,7 +52,7 @@ fn push_short(text: &mut Vec<u8>, n: usize) -> Result<(), AllocError>
     text.extend_from_slice(&[b' ', hundreds, tens, ones])
 }
 
-/// Puts a number of four digits at the end of a text, behind a space.
+/// Puts a number of four digits at the end of a text, after a space.
 #[inline(always)]
 fn push_four(text: &mut Vec<u8>, n: usize) -> Result<(), AllocError>
     requires least { 1000 ≤ n }
@@ -64,7 +64,7 @@ fn push_four(text: &mut Vec<u8>, n: usize) -> Result<(), AllocError>
     text.extend_from_slice(&[b' ', thousands, hundreds, tens, ones])
 }
 
-/// Puts a number of any length at the end of a text, behind a space.
+/// Puts a number of any length at the end of a text, after a space.
 fn push_long(text: &mut Vec<u8>, n: usize) -> Result<(), AllocError>
     ensures { OnOk result (text.new.items ≡ text.old.items ++ spaced n) }
 {
@@ -75,7 +75,7 @@ fn push_long(text: &mut Vec<u8>, n: usize) -> Result<(), AllocError>
     text.extend_from_slice(&[digit(n % 10)])
 }
 
-/// Puts a number at the end of a text, behind a space. Most of writing a plan is done here, so it
+/// Puts a number at the end of a text, after a space. Most of writing a plan is done here, so it
 /// is inlined, and only a number of five digits or more takes a call.
 #[inline(always)]
 pub(crate) fn push_number(text: &mut Vec<u8>, n: usize) -> Result<(), AllocError>

@@ -15,7 +15,7 @@ use crate::schedule_fault::ScheduleFault;
 use batch::{MAX_MODULES, number_from_digits, position_of};
 use std::alloc::Global;
 
-/// The line that the text begins with, without its line feed, and what stands behind it.
+/// The line that the text begins with, without its line feed, and what stands after it.
 pub(crate) fn next_line(text: &[u8]) -> Option<(&[u8], &[u8])>
     ensures some { IfSome result (λ x. HasFirstLine text.now x.0.now x.1.now) }
     ensures none { IfNone result (IsLine text.now) }
@@ -24,7 +24,7 @@ pub(crate) fn next_line(text: &[u8]) -> Option<(&[u8], &[u8])>
     Some((&text[..at], &text[at + 1..]))
 }
 
-/// The number that the words begin with, behind a space, and the words behind it.
+/// The number that the words begin with, after a space, and the words after it.
 fn next_number(words: &[u8]) -> Option<(usize, &[u8])>
     ensures some { IfSome result (λ x. HasFirstNumber words.now x.0 x.1.now) }
     ensures none { IfNone result (AreNoNumbers words.now) }
@@ -52,8 +52,8 @@ fn numbers_of(alloc: Global, words: &[u8], at: usize) -> Result<Vec<usize>, Sche
     Ok(numbers)
 }
 
-/// The numbers behind the word that line `at` begins with.
-fn numbers_behind(
+/// The numbers after the word that line `at` begins with.
+fn numbers_after(
     alloc: Global,
     word: &[u8],
     line: &[u8],
@@ -76,7 +76,7 @@ pub(crate) fn settings_count(line: &[u8]) -> Option<usize>
     number_from_digits(line.strip_prefix(b"settings ")?)
 }
 
-/// The lists of as many settings as counted, and what stands behind their lines.
+/// The lists of as many settings as counted, and what stands after their lines.
 pub(crate) fn settings(
     alloc: Global,
     text: &[u8],
@@ -94,13 +94,13 @@ pub(crate) fn settings(
         let Some((line, after)) = next_line(rest) else {
             return Err(ScheduleFault::Line(k + 2));
         };
-        lists.push(numbers_behind(alloc, b"setting", line, k + 2)?)?;
+        lists.push(numbers_after(alloc, b"setting", line, k + 2)?)?;
         rest = after;
     }
     Ok((lists, rest))
 }
 
-/// The end of a link that these bytes begin with, and what stands behind it.
+/// The end of a link that these bytes begin with, and what stands after it.
 fn link_end(bytes: &[u8]) -> Option<(End, &[u8])>
     ensures some { IfSome result (λ x. bytes.now ≡ decimal (end_number x.0) ++ x.1.now) }
     ensures none { IfNone result (HasNoFirstEnd bytes.now) }
@@ -112,7 +112,7 @@ fn link_end(bytes: &[u8]) -> Option<(End, &[u8])>
     Some((End::Three, rest))
 }
 
-/// The number of a module, behind its word.
+/// The number of a module, after its word.
 fn link_module(bytes: &[u8]) -> Option<usize>
     ensures some { IfSome result (λ m. (m < MAX_MODULES) × (bytes.now ≡ module_words m)) }
     ensures none { IfNone result ((m : ℕ) → m < MAX_MODULES → bytes.now ≢ module_words m) }
@@ -152,7 +152,7 @@ fn link_certificate(
     let Some((line, rest)) = next_line(text) else {
         return Err(ScheduleFault::Line(above + 1));
     };
-    let transfers = numbers_behind(alloc, b"named", line, above + 1)?;
+    let transfers = numbers_after(alloc, b"named", line, above + 1)?;
     let Some(certificate) = Certificate::of(link, transfers) else {
         return Err(ScheduleFault::Line(above + 1));
     };

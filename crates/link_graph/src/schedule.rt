@@ -87,7 +87,7 @@ impl Schedule {
     }
 
     /// The schedule's text: the line `settings S`, then a line `setting t t ..` for each of the S
-    /// settings. The certificate part, where a certificate is handed in, stands behind them: the
+    /// settings. The certificate part, where a certificate is handed in, stands after them: the
     /// lines `busiest link E module M` and `named t t ..`, or the line `busiest none`.
     ///
     /// S and each transfer number must have at most nine digits, and the link must be one of a
@@ -108,7 +108,7 @@ impl Schedule {
     /// certificate where the text has the certificate part.
     ///
     /// Gives what the text says, or its first line at fault. Want of memory is answered only where
-    /// a setting or a number behind a good first line had to be kept. Takes time linear in the
+    /// a setting or a number after a good first line had to be kept. Takes time linear in the
     /// length of the text.
     pub fn read(
         alloc: Global,

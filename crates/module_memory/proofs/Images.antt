@@ -76,7 +76,7 @@ image_more blocks b rest bytes n e h =
 pub room_left : (m b w n all left : ℕ) → left + 4 * w * n ≡ all → all ≡ 4 * (m * b * w) → n < m * b → 4 * w ≤ left
 room_left m b w n all left e f l = let more : n + 1 ≤ m * b = omega arith in omega (arith, mul-le-mul_left (4 * w) more)
 
--- ---- parts of one length, one behind the other
+-- ---- parts of one length, one after the other
 
 -- all of them
 pub parts_length : {X : Type 0} (f : X → List ℕ) (n : ℕ) (xs : List X) (d : X) → ((i : ℕ) → i < length xs → length (f (get_or xs i d)) ≡ n) → length (flat_map f xs) ≡ n * length xs

@@ -9,7 +9,7 @@ ghost use Rattle.module_memory.specs.Address.{IsSiteOf, fault_of};
 use crate::fault::MemoryFault;
 use batch::{Place, Shape};
 
-/// The address at which the window of each module begins: the first one behind the two kilobytes of
+/// The address at which the window of each module begins: the first one after the two kilobytes of
 /// an IMS T414's memory on the chip (data sheet, memory map). That the window begins here is this
 /// project's choice.
 pub const WINDOW_START: u32 = 0x8000_0800;

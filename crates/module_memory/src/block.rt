@@ -60,7 +60,7 @@ impl Block {
         Ok(Block { words })
     }
 
-    /// Writes the bytes of its words behind these, of each word the least significant first.
+    /// Writes the bytes of its words after these, of each word the least significant first.
     pub fn write_bytes(&self, bytes: &mut Vec<u8>) -> Result<(), AllocError>
         ensures bytes { IfOk result
             (λ _. bytes.new.items ≡ bytes.old.items ++ bytes_of_block self.now) }

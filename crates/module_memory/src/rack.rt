@@ -192,7 +192,7 @@ impl Rack {
     }
 
     /// Parts the rack: the block at each of the places becomes a bay that owns its words, and the
-    /// rest stays behind. Words are moved and not copied, but for the held blocks: before any block
+    /// rest stays after. Words are moved and not copied, but for the held blocks: before any block
     /// becomes a bay, each of these is copied into the rest. One place may be held more than once.
     /// Where a fault is answered the rack comes back as it was.
     ///

@@ -1,5 +1,6 @@
 -- The flags of the blocks that transfers change.
 use Rattle.std.proofs.Common.{ℕ, Bool, true, false, not, ◌&&◌, ◌||◌, ◌≡◌, ◌≢◌, ◌<◌, List, [], ◌∷◌, ◌++◌, length, get_or, set, replicate, refl, sym, ap, ap₂, ◌∙◌, append_assoc, subst, inl, inr, get_or-set_same, get_or-set_other}
+use Rattle.std.proofs.Math.Bool.{and-not_self, or-false, or-true}
 use Rattle.std.proofs.lemmas.Bool.{false≢true}
 use Rattle.std.proofs.lemmas.List.Folds.{list_any-append}
 use Rattle.batch.proofs.HeldSources.{same_place_tells}
@@ -13,25 +14,13 @@ use Rattle.module_memory.proofs.Repeats.{none_up}
 use Rattle.module_orders.specs.Flags.{AreChanged}
 use Rattle.module_orders.specs.Orders.{changed_by, changes}
 
-pub or_false : (b : Bool) → (b || false) ≡ b
-or_false true = refl
-or_false false = refl
-
-pub or_true : (b : Bool) → (b || true) ≡ true
-or_true true = refl
-or_true false = refl
-
 pub changed_by-push : (ts : List Transfer) (t : Transfer) (p : Place) → changed_by (ts ++ t ∷ []) p ≡ (changed_by ts p || changes t p)
 changed_by-push ts t p =
-    list_any-append (λ (x : Transfer). changes x p) ts (t ∷ []) ∙ ap (λ (b : Bool). changed_by ts p || b) (or_false (changes t p))
+    list_any-append (λ (x : Transfer). changes x p) ts (t ∷ []) ∙ ap (λ (b : Bool). changed_by ts p || b) (or-false (changes t p))
 
 -- a transfer of a block to itself changes nothing
 pub changes-self : (t : Transfer) (p : Place) → source_of t ≡ destination_of t → changes t p ≡ false
-changes-self t p e = ap (λ (q : Place). same_place (destination_of t) p && not (same_place q p)) e ∙ never (same_place (destination_of t) p)
-  where
-    never : (b : Bool) → (b && not b) ≡ false
-    never true = refl
-    never false = refl
+changes-self t p e = ap (λ (q : Place). same_place (destination_of t) p && not (same_place q p)) e ∙ and-not_self (same_place (destination_of t) p)
 
 -- any other changes the block that it writes, and that alone
 pub changes-own : (t : Transfer) → source_of t ≢ destination_of t → changes t (destination_of t) ≡ true
@@ -63,19 +52,19 @@ changed_more ts t flags k at hd ne l h p hp =
           let here : place_index widest p ≡ k = ap (place_index widest) (sym s.1) ∙ sym at in
           let up : get_or (set flags k true) k false ≡ true = get_or-set_same flags k true false l in
           let of_t : changes t p ≡ true = ap (changes t) (sym s.1) ∙ changes-own t ne in
-          ap (λ (n : ℕ). get_or (set flags k true) n false) here ∙ up ∙ sym (changed_by-push ts t p ∙ ap (λ (b : Bool). changed_by ts p || b) of_t ∙ or_true (changed_by ts p))
+          ap (λ (n : ℕ). get_or (set flags k true) n false) here ∙ up ∙ sym (changed_by-push ts t p ∙ ap (λ (b : Bool). changed_by ts p || b) of_t ∙ or-true (changed_by ts p))
       | inr s ↦
           let apart : place_index widest p ≢ k = λ e. s.1 (same_place_from_index widest d p hd hp (sym at ∙ sym e)) in
           get_or-set_other flags k (place_index widest p) true false apart ∙ h p hp
-          ∙ sym (changed_by-push ts t p ∙ ap (λ (b : Bool). changed_by ts p || b) (changes-other t p s.1) ∙ or_false (changed_by ts p))
+          ∙ sym (changed_by-push ts t p ∙ ap (λ (b : Bool). changed_by ts p || b) (changes-other t p s.1) ∙ or-false (changed_by ts p))
     ]
 
 -- one more that changes nothing
 pub changed_skip : (ts : List Transfer) (t : Transfer) (flags : List Bool) → source_of t ≡ destination_of t → AreChanged ts flags → AreChanged (ts ++ t ∷ []) flags
 changed_skip ts t flags e h p hp =
-    h p hp ∙ sym (changed_by-push ts t p ∙ ap (λ (b : Bool). changed_by ts p || b) (changes-self t p e) ∙ or_false (changed_by ts p))
+    h p hp ∙ sym (changed_by-push ts t p ∙ ap (λ (b : Bool). changed_by ts p || b) (changes-self t p e) ∙ or-false (changed_by ts p))
 
--- the same behind others
+-- the same after others
 pub then_one : (before ts all : List Transfer) (t : Transfer) (flags : List Bool) → all ≡ ts ++ t ∷ [] → AreChanged ((before ++ ts) ++ t ∷ []) flags → AreChanged (before ++ all) flags
 then_one before ts all t flags e h = subst (λ (xs : List Transfer). AreChanged xs flags) (append_assoc before ts (t ∷ []) ∙ ap (λ (xs : List Transfer). before ++ xs) (sym e)) h
 

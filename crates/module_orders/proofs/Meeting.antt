@@ -1,8 +1,8 @@
 -- Each order comes from a transfer, and each transfer gives two that meet.
-use Rattle.std.proofs.Common.{ℕ, Bool, true, false, cond, ◌==◌, ◌≡◌, ◌≢◌, ◌<◌, List, [], length, map, get_or, None, refl, sym, ap, ap₂, ◌∙◌, subst, arith, inl, inr, eq-eqb}
+use Rattle.std.proofs.Common.{◌++◌, ℕ, Bool, true, false, cond, ◌==◌, ◌≡◌, ◌≢◌, ◌<◌, List, [], length, map, get_or, None, refl, sym, ap, ap₂, ◌∙◌, subst, arith, inl, inr, eq-eqb}
 use Rattle.std.specs.Prelude.{All, Contains, filter, nat_lt}
 use Rattle.std.specs.List.{flat_map, range_with_len}
-use Rattle.std.proofs.lemmas.Bool.{and_from, and_parts, cases_lt, eqb-true, false≢true, lt-ltb, false_from_ne_true}
+use Rattle.std.proofs.lemmas.Bool.{and_from, and_parts, cases_order, eqb-true, false≢true, lt-ltb}
 use Rattle.std.proofs.lemmas.List.{get_or_default}
 use Rattle.std.proofs.lemmas.List.Elements.{All-contains, Contains-append_cases, Contains-append_left, Contains-append_right}
 use Rattle.std.proofs.lemmas.Option.{slice_get-get_or}
@@ -13,6 +13,7 @@ use Rattle.batch.specs.declared.transfer.Place.{Place}
 use Rattle.batch.specs.declared.transfer.Transfer.{Transfer}
 use Rattle.link_graph.specs.Counts.{module_at}
 use Rattle.link_graph.specs.Equal.{same_end}
+use Rattle.link_graph.proofs.Users.{uses_at}
 use Rattle.link_graph.specs.Uses.{IsMatching, Uses}
 use Rattle.link_graph.specs.declared.link.End.{End}
 use Rattle.link_graph.specs.declared.link.End.TheVariants.{Zero, Three}
@@ -60,17 +61,20 @@ over_is changed k end batch numbers m o c =
     let number = in_map (transfer_at batch) numbers one.0 among.0 in
     (number.0, number.1, ap (module_at end) number.2 ∙ eqb-true (module_at end one.0) m among.1, sym one.2 ∙ ap h (sym number.2))
 
+-- an order at both ends is at one of them
+pub of_end : (part : End → List Order) (o : Order) → Contains (part Zero ++ part Three) o → (end : End) × Contains (part end) o
+of_end part o c = elim (Contains-append_cases (part Zero) (part Three) o c) [ inl a ↦ (Zero, a) | inr b ↦ (Three, b) ]
+
 pub before_is : (batch : List Transfer) (settings : List (List ℕ)) (m : ℕ) (o : Order) → Contains (orders_before batch settings (length settings) m) o → (k : ℕ) (link : Link) → o.setting ≡ k → o.end ≡ link.end → m ≡ link.«module»
     → (t : ℕ) × IsOver batch settings k link t × (o ≡ given batch settings k link.end t)
 before_is batch settings m o c k link when over number =
     let one = in_flat_map (orders_in batch settings m) (range_with_len 0 (length settings)) o c in
     let n = one.0 in
-    let ts = setting_of batch (numbers_in settings n) in
     let changed = is_changed batch settings n in
-    let found : (end : End) → Contains (orders_over changed n end ts m) o → (t : ℕ) × IsOver batch settings k link t × (o ≡ given batch settings k link.end t) = λ end d. (
-    let f = over_is changed n end batch (numbers_in settings n) m o d in
+    let side = of_end (λ (e : End). orders_over changed n e (setting_of batch (numbers_in settings n)) m) o one.2 in
+    let f = over_is changed n side.0 batch (numbers_in settings n) m o side.1 in
     let same_k : n ≡ k = sym (ap (λ (x : Order). x.setting) f.3) ∙ when in
-    let same_end : end ≡ link.end = sym (ap (λ (x : Order). x.end) f.3) ∙ over in (
+    let same_end : side.0 ≡ link.end = sym (ap (λ (x : Order). x.end) f.3) ∙ over in (
       f.0,
       record {
         within = subst (λ (x : ℕ). x < length settings) same_k (in_range (length settings) n one.1);
@@ -79,11 +83,6 @@ before_is batch settings m o c k link when over number =
       },
       f.3 ∙ ap₂ (λ (x : ℕ) (e : End). given batch settings x e f.0) same_k same_end,
     )
-    ) in
-    elim (Contains-append_cases (orders_over changed n Zero ts m) (orders_over changed n Three ts m) o one.2) [
-      | inl a ↦ found Zero a
-      | inr b ↦ found Three b
-    ]
 
 -- what the tests of orders tell
 same_end_tells : (a b : End) → same_end a b ≡ true → a ≡ b
@@ -126,15 +125,15 @@ given_over changed k end batch numbers t c =
     let among = to_filter (λ y. module_at end y == m) (setting_of batch numbers) x (to_map (transfer_at batch) numbers t c) (eq-eqb m m refl) in
     to_map (λ y. order_at (changed (source_of y)) k end y) (filter (λ y. module_at end y == m) (setting_of batch numbers)) x among
 
+-- those at one end are among those at both
+either_end : (part : End → List Order) (end : End) (o : Order) → Contains (part end) o → Contains (part Zero ++ part Three) o
+either_end part Zero o c = Contains-append_left (part Zero) (part Three) o c
+either_end part Three o c = Contains-append_right (part Zero) (part Three) o c
+
 in_setting : (batch : List Transfer) (settings : List (List ℕ)) (k : ℕ) (end : End) (t : ℕ) → Contains (numbers_in settings k) t → Contains (orders_in batch settings (module_at end (transfer_at batch t)) k) (given batch settings k end t)
-in_setting batch settings k Zero t c =
-    let m = module_at Zero (transfer_at batch t) in
-    let ts = setting_of batch (numbers_in settings k) in
-    Contains-append_left (orders_over (is_changed batch settings k) k Zero ts m) (orders_over (is_changed batch settings k) k Three ts m) (given batch settings k Zero t) (given_over (is_changed batch settings k) k Zero batch (numbers_in settings k) t c)
-in_setting batch settings k Three t c =
-    let m = module_at Three (transfer_at batch t) in
-    let ts = setting_of batch (numbers_in settings k) in
-    Contains-append_right (orders_over (is_changed batch settings k) k Zero ts m) (orders_over (is_changed batch settings k) k Three ts m) (given batch settings k Three t) (given_over (is_changed batch settings k) k Three batch (numbers_in settings k) t c)
+in_setting batch settings k end t c =
+    let part = λ (e : End). orders_over (is_changed batch settings k) k e (setting_of batch (numbers_in settings k)) (module_at end (transfer_at batch t)) in
+    either_end part end (given batch settings k end t) (given_over (is_changed batch settings k) k end batch (numbers_in settings k) t c)
 
 -- a module has the order
 pub is_given : (batch : List Transfer) (settings : List (List ℕ)) (k : ℕ) (end : End) (t : ℕ) → k < length settings → Contains (numbers_in settings k) t → Contains (orders_before batch settings (length settings) (module_at end (transfer_at batch t))) (given batch settings k end t)
@@ -164,27 +163,18 @@ gives batch settings k end t l c low =
 
 -- ---- one transfer uses a link in a setting
 
-uses_at : (batch : List Transfer) (end : End) (t m : ℕ) → t < length batch → module_at end (transfer_at batch t) ≡ m → Uses batch t (record { end = end; «module» = m })
-uses_at batch Zero t m l at = (transfer_at batch t, slice_get-get_or batch t no_transfer l, inl (ap (λ (n : ℕ). record { end = Zero; «module» = n }) (sym at)))
-uses_at batch Three t m l at = (transfer_at batch t, slice_get-get_or batch t no_transfer l, inr (ap (λ (n : ℕ). record { end = Three; «module» = n }) (sym at)))
-
 -- two numbers of a matching that use one link are one
 pub one_number : (batch : List Transfer) (numbers : List ℕ) (end : End) (t u : ℕ) → IsMatching batch numbers → All (λ n. n < length batch) numbers → Contains numbers t → Contains numbers u → module_at end (transfer_at batch t) ≡ module_at end (transfer_at batch u) → t ≡ u
 one_number batch numbers end t u matching known ct cu same =
-    let m = module_at end (transfer_at batch u) in
-    let link : Link = record { end = end; «module» = m } in
-    let uses_t : Uses batch t link = uses_at batch end t m (All-contains (λ n. n < length batch) numbers t known ct) same in
-    let uses_u : Uses batch u link = uses_at batch end u m (All-contains (λ n. n < length batch) numbers u known cu) refl in
-    let at_t : get_or numbers ct.0 0 ≡ t = get_or_default numbers ct.0 0 t ct.1 ∙ ct.2 in
-    let at_u : get_or numbers cu.0 0 ≡ u = get_or_default numbers cu.0 0 u cu.1 ∙ cu.2 in
-    let apart : (a b : ℕ) (x y : ℕ) → a < b → b < length numbers → get_or numbers a 0 ≡ x → get_or numbers b 0 ≡ y → Uses batch x link → Uses batch y link → ⊥ = λ a b x y less within ex ey ux uy.
-    (matching a b 0 less within).none_common link (subst (λ (n : ℕ). Uses batch n link) (sym ex) ux) (subst (λ (n : ℕ). Uses batch n link) (sym ey) uy) in
-    elim (cases_lt ct.0 cu.0) [
-      | inl less ↦ absurd (apart ct.0 cu.0 t u less cu.1 at_t at_u uses_t uses_u)
-      | inr up ↦ elim (cases_lt cu.0 ct.0) [
-        | inl less ↦ absurd (apart cu.0 ct.0 u t less ct.1 at_u at_t uses_u uses_t)
-        | inr false_from_ne_true ↦ let here : ct.0 ≡ cu.0 = omega arith in sym at_t ∙ ap (λ (k : ℕ). get_or numbers k 0) here ∙ at_u
+    let link = link_at end (transfer_at batch u) in
+    let at : (v : ℕ) (c : Contains numbers v) → get_or numbers c.0 0 ≡ v = λ v c. get_or_default numbers c.0 0 v c.1 ∙ c.2 in
+    let uses : (v : ℕ) (c : Contains numbers v) → module_at end (transfer_at batch v) ≡ link.«module» → Uses batch (get_or numbers c.0 0) link = λ v c is. (
+    subst (λ (n : ℕ). Uses batch n link) (sym (at v c)) (uses_at batch v link (transfer_at batch v) (slice_get-get_or batch v no_transfer (All-contains (λ n. n < length batch) numbers v known c)) is)
+    ) in
+    elim (cases_order ct.0 cu.0) [
+      | inl here ↦ sym (at t ct) ∙ ap (λ (k : ℕ). get_or numbers k 0) here ∙ at u cu
+      | inr other ↦ elim other [
+        | inl less ↦ absurd ((matching ct.0 cu.0 0 less cu.1).none_common link (uses t ct same) (uses u cu refl))
+        | inr less ↦ absurd ((matching cu.0 ct.0 0 less ct.1).none_common link (uses u cu refl) (uses t ct same))
       ]
     ]
-
--- ---- both ends of a transfer

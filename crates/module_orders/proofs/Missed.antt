@@ -2,9 +2,9 @@
 use Rattle.std.proofs.Common.{ℕ, zero, suc, Bool, true, false, not, ◌==◌, ◌&&◌, ◌*◌, replicate, ◌⊎◌, ◌≡◌, ◌≢◌, ◌≤◌, ◌<◌, ◌+◌, List, [], ◌∷◌, length, map, take, drop, get_or, set, refl, sym, ap, ◌∙◌, subst, arith, inl, inr, add-one, length-set, get_or-set_same, get_or-set_other}
 use Rattle.std.specs.Prelude.{⊤, All, Contains}
 use Rattle.std.specs.List.{concat, list_any, range_with_len}
-use Rattle.std.proofs.lemmas.Bool.{and_parts, cases_eq, cases_lt, eqb-true, false≢true}
+use Rattle.std.proofs.lemmas.Bool.{and_parts, cases_eq, cases_lt, eqb-true, false≢true, or_parts}
 use Rattle.std.proofs.lemmas.List.{get_or-replicate, get_or_default, length-drop, length-map, length-replicate, set-get_or}
-use Rattle.std.proofs.lemmas.List.Elements.{All-contains, All-head, All-tail, Contains-append_cases, Contains-get_or}
+use Rattle.std.proofs.lemmas.List.Elements.{All-head, All-tail, Contains-append_cases, Contains-get_or}
 use Rattle.batch.proofs.Lists.{at_cons}
 use Rattle.batch.proofs.HeldSources.{same_place_tells}
 use Rattle.batch.proofs.Places.{place_from_parts, place_index_below}
@@ -34,7 +34,7 @@ use Rattle.module_orders.specs.declared.order.Order.{Order}
 use Rattle.module_orders.proofs.Changing.{changes-own, told_apart}
 use Rattle.module_orders.proofs.Meeting.{before_is, given, link_at, told_is}
 use Rattle.module_orders.proofs.Members.{in_any, in_filter, in_map, none_from, to_map}
-use Rattle.module_orders.proofs.Obeyed.{Stands, before, changed_up, here_is, known_number, late_in, or_none, pair_at, sends_word}
+use Rattle.module_orders.proofs.Obeyed.{Stands, before, changed_up, here_is, known_number, late_in, pair_at, sends_word}
 use Rattle.module_orders.proofs.Steps.{led_by}
 use Rattle.module_orders.proofs.Uncopied.{late_without, passes_without, words_without}
 
@@ -91,7 +91,7 @@ module _ (batch : List Transfer) (settings : List (List ℕ)) (opening : Store) 
 
   -- nothing has changed a block by then that nothing changes in the setting either
   both_kept : (k : ℕ) (q : Place) → k < length settings → changed_by (before batch settings (k + 1)) q ≡ false → (changed_by (before batch settings k) q ≡ false) × (changed_by (setting_of batch (numbers_in settings k)) q ≡ false)
-  both_kept k q l none = or_none (changed_by (before batch settings k) q) (changed_by (setting_of batch (numbers_in settings k)) q) (sym (changed_up batch settings k q l) ∙ none)
+  both_kept k q l none = or_parts (changed_by (before batch settings k) q) (changed_by (setting_of batch (numbers_in settings k)) q) (sym (changed_up batch settings k q l) ∙ none)
 
   begin : (k : ℕ) (now : Store) → k < length settings → IsGoing opening (before batch settings k) now → In k now
   begin k now l g = record { whole = g.whole; same = g.same; kept = λ q hq none. g.kept q hq (both_kept k q l none).0 }
@@ -263,7 +263,7 @@ module _ (batch : List Transfer) (settings : List (List ℕ)) (opening : Store) 
 
   -- ---- a setting
 
-  -- what has come of the one and of the other, before a setting and behind it
+  -- what has come of the one and of the other, before a setting and after it
   abbrev IsWrittenNow : IsBetween batch settings p → ℕ → Store → Type 0
   IsWrittenNow b k s = Written b s ⊎ (k ≡ b.written_in)
 
@@ -448,9 +448,8 @@ between batch settings p up =
 pub each_copy_is_needed : EachCopyIsNeeded
 each_copy_is_needed batch settings shape p apart schedule is places up =
     let b = between batch settings p up in
-    let number : (k t : ℕ) → k < length settings → Contains (numbers_in settings k) t → t < length batch = λ k t l c. All-contains (λ n. n < length batch) (numbers_in settings k) t (schedule.no_other k [] l) c in
-    let reader = number b.read_in b.reader b.read_within b.reads in
-    let writer = number b.written_in b.writer (omega (arith, b.no_later, b.read_within)) b.writes in
+    let reader = known_number batch settings b.read_in b.reader schedule b.read_within b.reads in
+    let writer = known_number batch settings b.written_in b.writer schedule (omega (arith, b.no_later, b.read_within)) b.writes in
     let hp : HasPlace shape p = subst (HasPlace shape) b.source (places b.reader reader).0 in
     let zeros = zeros_of shape in
     let opening = ones_in shape p in

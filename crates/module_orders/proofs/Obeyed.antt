@@ -1,8 +1,8 @@
 -- Modules that obey move the words of transfers, and so place all blocks.
-use Rattle.std.proofs.Common.{ℕ, suc, Bool, true, false, cond, ◌==◌, ◌||◌, ◌≡◌, ◌≢◌, ◌<◌, ◌+◌, List, [], ◌∷◌, ◌++◌, length, map, take, drop, get_or, slice_index, refl, sym, ap, ap₂, ◌∙◌, subst, arith, inl, inr, add-one, append_assoc}
+use Rattle.std.proofs.Common.{◌↔◌, ℕ, suc, Bool, true, false, cond, ◌==◌, ◌||◌, ◌≡◌, ◌≢◌, ◌<◌, ◌+◌, List, [], ◌∷◌, ◌++◌, length, map, take, drop, get_or, slice_index, refl, sym, ap, ap₂, ◌∙◌, subst, arith, inl, inr, add-one, append_assoc}
 use Rattle.std.specs.Prelude.{All, Contains}
 use Rattle.std.specs.List.{concat}
-use Rattle.std.proofs.lemmas.Bool.{cases_lt, false≢true}
+use Rattle.std.proofs.lemmas.Bool.{cases_order, false≢true, or_parts}
 use Rattle.std.proofs.lemmas.List.{drop_more, get_or-map, length-drop, length-map, take-append-drop, map-append}
 use Rattle.std.proofs.lemmas.List.Elements.{All-contains, All-head, Contains-get_or}
 use Rattle.std.proofs.lemmas.List.Sums.{sum_by-append}
@@ -11,7 +11,7 @@ use Rattle.batch.proofs.Lists.{concat_more}
 use Rattle.batch.specs.Extent.{Extent}
 use Rattle.batch.specs.Overlap.{no_transfer, transfer_at}
 use Rattle.batch.specs.Places.{HasPlace, destination_of, source_of}
-use Rattle.batch.specs.declared.limits.TheConstants.{MAX_MODULES}
+use Rattle.batch.specs.declared.limits.TheConstants.{MAX_BLOCKS, MAX_MODULES}
 use Rattle.batch.specs.declared.transfer.Kind.{Kind}
 use Rattle.batch.specs.declared.transfer.Kind.TheVariants.{Push, Pull}
 use Rattle.batch.specs.declared.transfer.Place.{Place}
@@ -21,6 +21,7 @@ use Rattle.link_graph.proofs.Firsts.{all_left, all_right}
 use Rattle.link_graph.proofs.Once.{is_known, is_once}
 use Rattle.link_graph.specs.Certificates.{AreDistinct}
 use Rattle.link_graph.specs.Counts.{module_at}
+use Rattle.link_graph.specs.Links.{other_end}
 use Rattle.link_graph.specs.Schedules.{IsScheduleOf}
 use Rattle.link_graph.specs.declared.link.End.{End}
 use Rattle.link_graph.specs.declared.link.End.TheVariants.{Zero, Three}
@@ -36,7 +37,7 @@ use Rattle.module_orders.specs.Obeying.{AreObeyedFrom, AreObeyedIn, HasOrder, Pa
 use Rattle.module_orders.specs.Orders.{RackTold, changed_by, changes, is_changed, order_at, sending}
 use Rattle.module_orders.specs.declared.order.Act.TheVariants.{Receive}
 use Rattle.module_orders.specs.declared.order.Order.{Order}
-use Rattle.module_orders.proofs.Asides.{is_aside_from, sender, sender_is}
+use Rattle.module_orders.proofs.Asides.{aside_by}
 use Rattle.module_orders.proofs.Changing.{changes-own}
 use Rattle.module_orders.proofs.Meeting.{given, gives, link_at, one_number, origin}
 use Rattle.module_orders.proofs.Members.{none_from}
@@ -53,23 +54,16 @@ sends_some : (late : Bool) → sending late ≢ Receive
 sends_some true e = absurd cc
 sends_some false e = absurd cc
 
--- from the initiator to the responder passes what a push sends
-forth : (aside : Place → List ℕ) (late : Bool) (k j : ℕ) (old new : Store) (kind : Kind) (i o r f : ℕ)
+-- what passes between the ends, from the one that sends, is what the transfer sends
+across : (aside : Place → List ℕ) (late : Bool) (k j : ℕ) (old new : Store) (end : End) (kind : Kind) (i o r f : ℕ)
     → let x : Transfer = record { kind = kind; initiator = i; own_block = o; responder = r; far_block = f } in
-    let sent = order_at late k Zero x in
-    let received = order_at late k Three x in
-    sent.act ≢ Receive → new ≡ set_word old (block_there (link_at Three x) received) j (slice_index (words_sent aside old sent.act (block_there (link_at Zero x) sent)) j) → new ≡ sends_word aside late x j old
-forth aside late k j old new Push i o r f some e = e
-forth aside late k j old new Pull i o r f some e = absurd (some refl)
-
--- and from the responder to the initiator what a pull sends
-back : (aside : Place → List ℕ) (late : Bool) (k j : ℕ) (old new : Store) (kind : Kind) (i o r f : ℕ)
-    → let x : Transfer = record { kind = kind; initiator = i; own_block = o; responder = r; far_block = f } in
-    let sent = order_at late k Three x in
-    let received = order_at late k Zero x in
-    sent.act ≢ Receive → new ≡ set_word old (block_there (link_at Zero x) received) j (slice_index (words_sent aside old sent.act (block_there (link_at Three x) sent)) j) → new ≡ sends_word aside late x j old
-back aside late k j old new Push i o r f some e = absurd (some refl)
-back aside late k j old new Pull i o r f some e = e
+    let sent = order_at late k end x in
+    let received = order_at late k (other_end end) x in
+    sent.act ≢ Receive → new ≡ set_word old (block_there (link_at (other_end end) x) received) j (slice_index (words_sent aside old sent.act (block_there (link_at end x) sent)) j) → new ≡ sends_word aside late x j old
+across aside late k j old new Zero Push i o r f some e = e
+across aside late k j old new Zero Pull i o r f some e = absurd (some refl)
+across aside late k j old new Three Push i o r f some e = absurd (some refl)
+across aside late k j old new Three Pull i o r f some e = e
 
 -- ---- the transfers of a setting
 
@@ -108,51 +102,36 @@ passes_is : (batch : List Transfer) (settings : List (List ℕ)) (k t j : ℕ) (
 passes_is batch settings k t j aside old new schedule l c p =
     let x = transfer_at batch t in
     let late = late_in batch settings k t in
-    let between : (from to : End) → Passes (all_told batch settings) aside k j (link_at from x) (link_at to x) old new
-    → ((order_at late k from x).act ≢ Receive) × (new ≡ set_word old (block_there (link_at to x) (order_at late k to x)) j (slice_index (words_sent aside old (order_at late k from x).act (block_there (link_at from x) (order_at late k from x))) j)) = λ from to q. (
-    let sent : q.sent ≡ given batch settings k from t = its_order batch settings k t from q.sent schedule l c q.sends in
-    let received : q.received ≡ given batch settings k to t = its_order batch settings k t to q.received schedule l c q.receives in (
-      subst (λ (o : Order). o.act ≢ Receive) sent q.is_sent,
-      q.passed ∙ ap₂ (λ (s r : Order). set_word old (block_there (link_at to x) r) j (slice_index (words_sent aside old s.act (block_there (link_at from x) s)) j)) sent received,
-    )
+    let by : (end : End) → Passes (all_told batch settings) aside k j (link_at end x) (link_at (other_end end) x) old new → new ≡ sends_word aside late x j old = λ end q. (
+    let sent = its_order batch settings k t end q.sent schedule l c q.sends in
+    let received = its_order batch settings k t (other_end end) q.received schedule l c q.receives in
+    across aside late k j old new end x.kind x.initiator x.own_block x.responder x.far_block (subst (λ (o : Order). o.act ≢ Receive) sent q.is_sent)
+    (q.passed ∙ ap₂ (λ (s r : Order). set_word old (block_there (link_at (other_end end) x) r) j (slice_index (words_sent aside old s.act (block_there (link_at end x) s)) j)) sent received)
     ) in
-    elim p [
-      | inl q ↦ let b = between Zero Three q in forth aside late k j old new x.kind x.initiator x.own_block x.responder x.far_block b.0 b.1
-      | inr q ↦ let b = between Three Zero q in back aside late k j old new x.kind x.initiator x.own_block x.responder x.far_block b.0 b.1
-    ]
+    elim p [ inl q ↦ by Zero q | inr q ↦ by Three q ]
 
 -- and that can pass
 pub can_pass : (told : RackTold) (aside : Place → List ℕ) (late : Bool) (k j : ℕ) (old new : Store) (kind : Kind) (i o r f : ℕ)
     → let x : Transfer = record { kind = kind; initiator = i; own_block = o; responder = r; far_block = f } in
-    HasOrder told k (link_at Zero x) (order_at late k Zero x) → HasOrder told k (link_at Three x) (order_at late k Three x) → new ≡ sends_word aside late x j old → PassesOver told aside k j (joined_pair x) old new
-can_pass told aside late k j old new Push i o r f has0 has3 e =
+    ((end : End) → HasOrder told k (link_at end x) (order_at late k end x)) → new ≡ sends_word aside late x j old → PassesOver told aside k j (joined_pair x) old new
+can_pass told aside late k j old new Push i o r f has e =
     let x : Transfer = record { kind = Push; initiator = i; own_block = o; responder = r; far_block = f } in
-    inl (record { sent = order_at late k Zero x; received = order_at late k Three x; sends = has0; receives = has3; is_sent = sends_some late; is_received = refl; passed = e })
-can_pass told aside late k j old new Pull i o r f has0 has3 e =
+    inl (record { sent = order_at late k Zero x; received = order_at late k Three x; sends = has Zero; receives = has Three; is_sent = sends_some late; is_received = refl; passed = e })
+can_pass told aside late k j old new Pull i o r f has e =
     let x : Transfer = record { kind = Pull; initiator = i; own_block = o; responder = r; far_block = f } in
-    inr (record { sent = order_at late k Three x; received = order_at late k Zero x; sends = has3; receives = has0; is_sent = sends_some late; is_received = refl; passed = e })
+    inr (record { sent = order_at late k Three x; received = order_at late k Zero x; sends = has Three; receives = has Zero; is_sent = sends_some late; is_received = refl; passed = e })
+
+-- the orders of a transfer, and its source
+pub has_given : (batch : List Transfer) (settings : List (List ℕ)) (opening : Store) (k t : ℕ) → CanObey batch settings opening → k < length settings → Stands batch settings k t → (end : End) → HasOrder (all_told batch settings) k (link_at end (transfer_at batch t)) (given batch settings k end t)
+has_given batch settings opening k t can l c end = gives batch settings k end t l c (low batch settings opening end t can (known_number batch settings k t can.schedule l c))
+
+pub source_low : (batch : List Transfer) (settings : List (List ℕ)) (opening : Store) (k t : ℕ) → CanObey batch settings opening → k < length settings → Stands batch settings k t → (source_of (transfer_at batch t)).block < MAX_BLOCKS
+source_low batch settings opening k t can l c = omega (arith, (can.places t (known_number batch settings k t can.schedule l c)).0.in_blocks, can.whole.within.few_blocks)
 
 is_passed : (batch : List Transfer) (settings : List (List ℕ)) (opening : Store) (k t j : ℕ) (aside : Place → List ℕ) (old new : Store) → CanObey batch settings opening → k < length settings → Stands batch settings k t → new ≡ sends_word aside (late_in batch settings k t) (transfer_at batch t) j old → PassesOver (all_told batch settings) aside k j (joined_pair (transfer_at batch t)) old new
 is_passed batch settings opening k t j aside old new can l c e =
     let x = transfer_at batch t in
-    let known = known_number batch settings k t can.schedule l c in
-    can_pass (all_told batch settings) aside (late_in batch settings k t) k j old new x.kind x.initiator x.own_block x.responder x.far_block
-    (gives batch settings k Zero t l c (low batch settings opening Zero t can known))
-    (gives batch settings k Three t l c (low batch settings opening Three t can known)) e
-
--- ---- what has been copied aside
-
-pub aside_there : (batch : List Transfer) (settings : List (List ℕ)) (opening : Store) (k t : ℕ) → CanObey batch settings opening → k < length settings → Stands batch settings k t → late_in batch settings k t ≡ true
-    → let p = source_of (transfer_at batch t) in aside_of (all_told batch settings) opening p ≡ block_of opening p
-aside_there batch settings opening k t can l c late =
-    let x = transfer_at batch t in
-    let p = source_of x in
-    let end = sender x.kind in
-    let is = sender_is x.kind x.initiator x.own_block x.responder x.far_block (late_in batch settings k t) k in
-    let known = known_number batch settings k t can.schedule l c in
-    let has = gives batch settings k end t l c (low batch settings opening end t can known) in
-    ap (λ (b : Bool). cond b (block_of opening p) [])
-    (is_aside_from (all_told batch settings) k (link_at end x) (given batch settings k end t) p has is.0 is.1 (is.2 ∙ ap sending late) (omega (arith, (can.places t known).0.in_blocks, can.whole.within.few_blocks)))
+    can_pass (all_told batch settings) aside (late_in batch settings k t) k j old new x.kind x.initiator x.own_block x.responder x.far_block (has_given batch settings opening k t can l c) e
 
 -- ---- blocks that no transfer has changed
 
@@ -169,10 +148,6 @@ unchanged_now opening s now ts m p h hp agrees none = elim (find_destination ts 
       ]
   | inr unwritten ↦ h.others p hp unwritten ∙ agrees
 ]
-
-pub or_none : (a b : Bool) → (a || b) ≡ false → (a ≡ false) × (b ≡ false)
-or_none true b e = absurd (false≢true (sym e))
-or_none false b e = (refl, e)
 
 pub none_changes : (ts : List Transfer) (p : Place) → changed_by ts p ≡ false → (i : ℕ) → i < length ts → changes (transfer_at ts i) p ≡ false
 none_changes ts p none i l = none_from (λ t. changes t p) ts (transfer_at ts i) none (Contains-get_or ts i no_transfer l)
@@ -208,9 +183,9 @@ reads_opening batch settings opening k s now m t b h c =
     let p = source_of (transfer_at batch t) in
     let aside = aside_of (all_told batch settings) opening in
     elim (late_in batch settings k t) as (λ late. late_in batch settings k t ≡ late → words_sent aside now (sending late) p ≡ block_of opening p) [
-      | true ↦ λ e. aside_there batch settings opening k t b.can b.within c e
+      | true ↦ λ e. aside_by (all_told batch settings) opening k (late_in batch settings k t) (transfer_at batch t) (has_given batch settings opening k t b.can b.within c) (source_low batch settings opening k t b.can b.within c) e
       | false ↦ λ e.
-          let parts = or_none (changed_by (before batch settings k) p) (changed_by ts p) (sym (changed_up batch settings k p b.within) ∙ e) in
+          let parts = or_parts (changed_by (before batch settings k) p) (changed_by ts p) (sym (changed_up batch settings k p b.within) ∙ e) in
           let hp : HasPlace s.shape p = (b.ready.places t (known_number batch settings k t b.can.schedule b.within c)).0 in
           unchanged_now opening s now ts m p h hp (b.agrees p hp parts.0) (none_changes ts p parts.1)
     ] refl
@@ -237,7 +212,7 @@ run-append : (find : Store → Place → List ℕ) (ts : List Transfer) (c : Cor
 run-append find ts c [] ys = refl
 run-append find ts c (x ∷ xs) ys = run-append find ts (step find ts c x) xs ys
 
--- the machine on its way through a setting, behind some of its steps
+-- the machine on its way through a setting, after some of its steps
 pub record IsGoing (opening s : Store) (batch : List Transfer) (numbers : List ℕ) (behind : List ℕ) (c : Core) (steps : List ℕ) : Type 0 where
   pub is : c ≡ run (found batch opening) (setting_of batch numbers) (at_start s (setting_of batch numbers)) behind
   pub list : IsStepList (setting_of batch numbers) s.shape.words (behind ++ steps)
@@ -274,42 +249,27 @@ pub pair_at : (batch : List Transfer) (numbers : List ℕ) (i : ℕ) → i < len
 pair_at batch numbers i l =
     get_or-map joined_pair (setting_of batch numbers) i no_transfer no_pair (omega (arith, length-map numbers (transfer_at batch))) ∙ ap joined_pair (transfer_at-setting_of batch numbers i l)
 
--- words that pass in turn are moved so by the machine
-turn_is_run : (batch : List Transfer) (settings : List (List ℕ)) (opening : Store) (k : ℕ) (s t : Store) (behind : List ℕ) (c : Core) (steps : List ℕ) → Begins batch settings opening k s → let numbers = numbers_in settings k in
-    IsGoing opening s batch numbers behind c steps → PassInTurn (all_told batch settings) (aside_of (all_told batch settings) opening) k (setting_pairs batch numbers) c.moved steps c.store t → t ≡ (run (found batch opening) (setting_of batch numbers) c steps).store
-turn_is_run batch settings opening k s t behind c [] b g h = h
-turn_is_run batch settings opening k s t behind c (i ∷ steps) b g h =
+-- words that pass in turn are moved so by the machine, and the other way round
+turns : (batch : List Transfer) (settings : List (List ℕ)) (opening : Store) (k : ℕ) (s t : Store) (behind : List ℕ) (c : Core) (steps : List ℕ) → Begins batch settings opening k s → let numbers = numbers_in settings k in let told = all_told batch settings in
+    IsGoing opening s batch numbers behind c steps → PassInTurn told (aside_of told opening) k (setting_pairs batch numbers) c.moved steps c.store t ↔ (t ≡ (run (found batch opening) (setting_of batch numbers) c steps).store)
+turns batch settings opening k s t behind c [] b g = (λ h. h, λ e. e)
+turns batch settings opening k s t behind c (i ∷ steps) b g =
     let numbers = numbers_in settings k in
     let told = all_told batch settings in
     let aside = aside_of told opening in
     let j = slice_index c.moved i in
     let l = next_known opening s batch numbers behind c i steps g in
     let n = get_or numbers i 0 in
-    let over : PassesOver told aside k j (joined_pair (transfer_at batch n)) c.store h.0 = subst (λ (q : Pair). PassesOver told aside k j q c.store h.0) (pair_at batch numbers i l) h.1 in
-    let next = step (found batch opening) (setting_of batch numbers) c i in
-    let same : h.0 ≡ next.store =
-    passes_is batch settings k n j aside c.store h.0 b.can.schedule b.within (Contains-get_or numbers i 0 l) over
-    ∙ same_step batch settings opening k s c (λ x. times x behind) i b (has_moved opening s batch numbers behind c (i ∷ steps) b.ready g) l in
-    turn_is_run batch settings opening k s t (behind ++ i ∷ []) next steps b (goes_on opening s batch numbers behind c i steps g)
-    (subst (λ (x : Store). PassInTurn told aside k (setting_pairs batch numbers) next.moved steps x t) same h.2)
-
--- and the other way round
-run_is_turn : (batch : List Transfer) (settings : List (List ℕ)) (opening : Store) (k : ℕ) (s t : Store) (behind : List ℕ) (c : Core) (steps : List ℕ) → Begins batch settings opening k s → let numbers = numbers_in settings k in
-    IsGoing opening s batch numbers behind c steps → t ≡ (run (found batch opening) (setting_of batch numbers) c steps).store → PassInTurn (all_told batch settings) (aside_of (all_told batch settings) opening) k (setting_pairs batch numbers) c.moved steps c.store t
-run_is_turn batch settings opening k s t behind c [] b g e = e
-run_is_turn batch settings opening k s t behind c (i ∷ steps) b g e =
-    let numbers = numbers_in settings k in
-    let told = all_told batch settings in
-    let aside = aside_of told opening in
-    let j = slice_index c.moved i in
-    let l = next_known opening s batch numbers behind c i steps g in
-    let n = get_or numbers i 0 in
+    let stands = Contains-get_or numbers i 0 l in
+    let pair = pair_at batch numbers i l in
     let next = step (found batch opening) (setting_of batch numbers) c i in
     let moves = same_step batch settings opening k s c (λ x. times x behind) i b (has_moved opening s batch numbers behind c (i ∷ steps) b.ready g) l in
-    let over = is_passed batch settings opening k n j aside c.store next.store b.can b.within (Contains-get_or numbers i 0 l) (sym moves) in (
-      next.store,
-      subst (λ (q : Pair). PassesOver told aside k j q c.store next.store) (sym (pair_at batch numbers i l)) over,
-      run_is_turn batch settings opening k s t (behind ++ i ∷ []) next steps b (goes_on opening s batch numbers behind c i steps g) e,
+    let rest = turns batch settings opening k s t (behind ++ i ∷ []) next steps b (goes_on opening s batch numbers behind c i steps g) in (
+      λ h.
+          let over : PassesOver told aside k j (joined_pair (transfer_at batch n)) c.store h.0 = subst (λ (q : Pair). PassesOver told aside k j q c.store h.0) pair h.1 in
+          let same : h.0 ≡ next.store = passes_is batch settings k n j aside c.store h.0 b.can.schedule b.within stands over ∙ moves in
+          rest.0 (subst (λ (x : Store). PassInTurn told aside k (setting_pairs batch numbers) next.moved steps x t) same h.2),
+      λ e. (next.store, subst (λ (q : Pair). PassesOver told aside k j q c.store next.store) (sym pair) (is_passed batch settings opening k n j aside c.store next.store b.can b.within stands (sym moves)), rest.1 e),
     )
 
 -- before a word has passed
@@ -320,28 +280,28 @@ all_zero (t ∷ ts) = ap (λ (ns : List ℕ). 0 ∷ ns) (all_zero ts)
 going_first : (opening s : Store) (batch : List Transfer) (numbers steps : List ℕ) → IsComplete (setting_of batch numbers) s.shape.words steps → IsGoing opening s batch numbers [] (at_start s (setting_of batch numbers)) steps
 going_first opening s batch numbers steps whole = record { is = refl; list = record { known = whole.known; bounded = λ i l. omega (arith, whole.complete i l) } }
 
--- a setting that is obeyed is one that the machine runs
-pub setting_is_run : (batch : List Transfer) (settings : List (List ℕ)) (opening : Store) (k : ℕ) (s t : Store) → Begins batch settings opening k s → let numbers = numbers_in settings k in let told = all_told batch settings in
-    AreObeyedIn told (aside_of told opening) k (setting_pairs batch numbers) s t → (steps : List ℕ) × IsComplete (setting_of batch numbers) s.shape.words steps × (t ≡ (after_steps opening s batch numbers steps).store)
-setting_is_run batch settings opening k s t b h =
-    let numbers = numbers_in settings k in
-    let ts = setting_of batch numbers in
-    let told = all_told batch settings in
-    let pairs = setting_pairs batch numbers in
-    let whole : IsComplete ts s.shape.words h.0 = record { known = subst (λ (n : ℕ). All (λ i. i < n) h.0) (length-map ts joined_pair) h.1.known; complete = λ i l. h.1.all i (omega (arith, length-map ts joined_pair)) } in
-    let turn : PassInTurn told (aside_of told opening) k pairs (at_start s ts).moved h.0 s t = subst (λ (ns : List ℕ). PassInTurn told (aside_of told opening) k pairs ns h.0 s t) (all_zero ts) h.2 in
-    (h.0, whole, turn_is_run batch settings opening k s t [] (at_start s ts) h.0 b (going_first opening s batch numbers h.0 whole) turn)
+-- the machine runs the setting
+abbrev Runs : Store → List Transfer → List ℕ → Store → Store → Type 0
+Runs opening batch numbers s t = (steps : List ℕ) × IsComplete (setting_of batch numbers) s.shape.words steps × (t ≡ (after_steps opening s batch numbers steps).store)
 
-pub setting_is_obeyed : (batch : List Transfer) (settings : List (List ℕ)) (opening : Store) (k : ℕ) (s t : Store) (steps : List ℕ) → Begins batch settings opening k s → let numbers = numbers_in settings k in let told = all_told batch settings in
-    IsComplete (setting_of batch numbers) s.shape.words steps → t ≡ (after_steps opening s batch numbers steps).store → AreObeyedIn told (aside_of told opening) k (setting_pairs batch numbers) s t
-setting_is_obeyed batch settings opening k s t steps b whole e =
+-- a setting is obeyed just where the machine runs it
+setting_runs : (batch : List Transfer) (settings : List (List ℕ)) (opening : Store) (k : ℕ) (s t : Store) → Begins batch settings opening k s → let numbers = numbers_in settings k in let told = all_told batch settings in
+    AreObeyedIn told (aside_of told opening) k (setting_pairs batch numbers) s t ↔ Runs opening batch numbers s t
+setting_runs batch settings opening k s t b =
     let numbers = numbers_in settings k in
     let ts = setting_of batch numbers in
     let told = all_told batch settings in
-    let pairs = setting_pairs batch numbers in (
-      steps,
-      record { known = subst (λ (n : ℕ). All (λ i. i < n) steps) (sym (length-map ts joined_pair)) whole.known; all = λ i l. whole.complete i (omega (arith, length-map ts joined_pair)) },
-      subst (λ (ns : List ℕ). PassInTurn told (aside_of told opening) k pairs ns steps s t) (sym (all_zero ts)) (run_is_turn batch settings opening k s t [] (at_start s ts) steps b (going_first opening s batch numbers steps whole) e),
+    let InTurn = λ (ns steps : List ℕ). PassInTurn told (aside_of told opening) k (setting_pairs batch numbers) ns steps s t in
+    let many = length-map ts joined_pair in
+    let by = λ (steps : List ℕ) (whole : IsComplete ts s.shape.words steps). turns batch settings opening k s t [] (at_start s ts) steps b (going_first opening s batch numbers steps whole) in (
+      λ h.
+          let whole : IsComplete ts s.shape.words h.0 = record { known = subst (λ (n : ℕ). All (λ i. i < n) h.0) many h.1.known; complete = λ i l. h.1.all i (omega (arith, many)) } in
+          (h.0, whole, (by h.0 whole).0 (subst (λ (ns : List ℕ). InTurn ns h.0) (all_zero ts) h.2)),
+      λ r. (
+        r.0,
+        record { known = subst (λ (n : ℕ). All (λ i. i < n) r.0) (sym many) r.1.known; all = λ i l. r.1.complete i (omega (arith, many)) },
+        subst (λ (ns : List ℕ). InTurn ns r.0) (sym (all_zero ts)) ((by r.0 r.1).1 r.2),
+      ),
     )
 
 -- ---- one setting after another
@@ -369,7 +329,7 @@ begins batch settings opening k s numbers more a = record {
   agrees = a.agrees;
 }
 
--- behind a setting
+-- after a setting
 ahead_next : (batch : List Transfer) (settings : List (List ℕ)) (opening : Store) (k : ℕ) (s : Store) (numbers : List ℕ) (more : List (List ℕ)) (steps : List ℕ) → IsAhead batch settings opening k s (numbers ∷ more) → IsComplete (setting_of batch numbers) s.shape.words steps → IsAhead batch settings opening (suc k) (after_steps opening s batch numbers steps).store more
 ahead_next batch settings opening k s numbers more steps a whole =
     let ts = setting_of batch numbers in
@@ -384,34 +344,24 @@ ahead_next batch settings opening k s numbers more steps a whole =
       agrees = λ p hp none.
           let here : HasPlace s.shape p = subst (λ (x : Extent). HasPlace x p) moved.same_shape hp in
           let both = ap (λ (n : ℕ). changed_by (before batch settings n) p) (add-one k) ∙ none in
-          let parts = or_none (changed_by (before batch settings k) p) (changed_by (setting_of batch (numbers_in settings k)) p) (sym (changed_up batch settings k p b.within) ∙ both) in
+          let parts = or_parts (changed_by (before batch settings k) p) (changed_by (setting_of batch (numbers_in settings k)) p) (sym (changed_up batch settings k p b.within) ∙ both) in
           unchanged_now opening s now ts (λ _. s.shape.words) p moved here (a.agrees p here parts.0) (none_changes ts p (ap (λ (ns : List ℕ). changed_by (setting_of batch ns) p) is.0 ∙ parts.1));
     }
 
-obeyed_is_run : (batch : List Transfer) (settings : List (List ℕ)) (opening : Store) (k : ℕ) (s t : Store) (more : List (List ℕ)) → IsAhead batch settings opening k s more → AreObeyedFrom (all_told batch settings) (aside_of (all_told batch settings) opening) k (map (setting_pairs batch) more) s t → IsRun opening s batch more t
-obeyed_is_run batch settings opening k s t [] a h = h
-obeyed_is_run batch settings opening k s t (numbers ∷ more) a h =
+obeyed_runs : (batch : List Transfer) (settings : List (List ℕ)) (opening : Store) (k : ℕ) (s t : Store) (more : List (List ℕ)) → IsAhead batch settings opening k s more → let told = all_told batch settings in
+    AreObeyedFrom told (aside_of told opening) k (map (setting_pairs batch) more) s t ↔ IsRun opening s batch more t
+obeyed_runs batch settings opening k s t [] a = (λ h. h, λ h. h)
+obeyed_runs batch settings opening k s t (numbers ∷ more) a =
     let told = all_told batch settings in
-    let is = here_is settings more k numbers a.rest in
-    let obeyed = subst (λ (ns : List ℕ). AreObeyedIn told (aside_of told opening) k (setting_pairs batch ns) s h.0) is.0 h.1 in
-    let ran = setting_is_run batch settings opening k s h.0 (begins batch settings opening k s numbers more a) obeyed in
-    let whole : IsComplete (setting_of batch numbers) s.shape.words ran.0 = subst (λ (ns : List ℕ). IsComplete (setting_of batch ns) s.shape.words ran.0) (sym is.0) ran.1 in
-    let now = (after_steps opening s batch numbers ran.0).store in
-    let same : h.0 ≡ now = ran.2 ∙ ap (λ (ns : List ℕ). (after_steps opening s batch ns ran.0).store) (sym is.0) in
-    (ran.0, whole, obeyed_is_run batch settings opening (suc k) now t more (ahead_next batch settings opening k s numbers more ran.0 a whole) (subst (λ (x : Store). AreObeyedFrom told (aside_of told opening) (suc k) (map (setting_pairs batch) more) x t) same h.2))
-
-run_is_obeyed_from : (batch : List Transfer) (settings : List (List ℕ)) (opening : Store) (k : ℕ) (s t : Store) (more : List (List ℕ)) → IsAhead batch settings opening k s more → IsRun opening s batch more t → AreObeyedFrom (all_told batch settings) (aside_of (all_told batch settings) opening) k (map (setting_pairs batch) more) s t
-run_is_obeyed_from batch settings opening k s t [] a h = h
-run_is_obeyed_from batch settings opening k s t (numbers ∷ more) a h =
-    let told = all_told batch settings in
-    let is = here_is settings more k numbers a.rest in
-    let now = (after_steps opening s batch numbers h.0).store in
-    let obeyed = setting_is_obeyed batch settings opening k s now h.0 (begins batch settings opening k s numbers more a)
-    (subst (λ (ns : List ℕ). IsComplete (setting_of batch ns) s.shape.words h.0) is.0 h.1)
-    (ap (λ (ns : List ℕ). (after_steps opening s batch ns h.0).store) is.0) in (
-      now,
-      subst (λ (ns : List ℕ). AreObeyedIn told (aside_of told opening) k (setting_pairs batch ns) s now) (sym is.0) obeyed,
-      run_is_obeyed_from batch settings opening (suc k) now t more (ahead_next batch settings opening k s numbers more h.0 a h.1) h.2,
+    let Obeyed = λ (ns : List ℕ) (mid : Store). AreObeyedIn told (aside_of told opening) k (setting_pairs batch ns) s mid in
+    let one : (mid : Store) → Obeyed numbers mid ↔ Runs opening batch numbers s mid = λ mid.
+    subst (λ (ns : List ℕ). Obeyed ns mid ↔ Runs opening batch ns s mid) (sym (here_is settings more k numbers a.rest).0) (setting_runs batch settings opening k s mid (begins batch settings opening k s numbers more a)) in
+    let next = λ (steps : List ℕ) (whole : IsComplete (setting_of batch numbers) s.shape.words steps).
+    obeyed_runs batch settings opening (suc k) (after_steps opening s batch numbers steps).store t more (ahead_next batch settings opening k s numbers more steps a whole) in (
+      λ h.
+          let ran = (one h.0).0 h.1 in
+          (ran.0, ran.1, (next ran.0 ran.1).0 (subst (λ (x : Store). AreObeyedFrom told (aside_of told opening) (suc k) (map (setting_pairs batch) more) x t) ran.2 h.2)),
+      λ h. let now = (after_steps opening s batch numbers h.0).store in (now, (one now).1 (h.0, h.1, refl), (next h.0 h.1).1 h.2),
     )
 
 -- ---- all settings
@@ -419,12 +369,9 @@ run_is_obeyed_from batch settings opening k s t (numbers ∷ more) a h =
 setting_from : (batch : List Transfer) (xs : List ℕ) → All (λ t. t < length batch) xs → AreDistinct xs → IsSetting batch xs
 setting_from batch xs known distinct = record {
   known = known;
-  distinct = λ i j hi hj e. elim (cases_lt i j) [
-    | inl less ↦ absurd (distinct i j 0 less hj e)
-    | inr up ↦ elim (cases_lt j i) [
-      | inl less ↦ absurd (distinct j i 0 less hi (sym e))
-      | inr down ↦ omega arith
-    ]
+  distinct = λ i j hi hj e. elim (cases_order i j) [
+    | inl same ↦ same
+    | inr other ↦ elim other [ inl less ↦ absurd (distinct i j 0 less hj e) | inr less ↦ absurd (distinct j i 0 less hi (sym e)) ]
   ];
 }
 
@@ -447,8 +394,8 @@ all_ahead batch settings opening can = record {
 pub obeyed_is_placed : ObeyedIsPlaced
 obeyed_is_placed batch settings opening new can h =
     let ahead = all_ahead batch settings opening can in
-    let ran = obeyed_is_run batch settings opening 0 opening new settings ahead h in
+    let ran = (obeyed_runs batch settings opening 0 opening new settings ahead).0 h in
     whole_batch_is_placed opening opening new batch (concat settings) ahead.ready (is_once batch settings can.schedule).every (run_is_placed opening opening new batch settings ahead.ready ran)
 
 pub run_is_obeyed : RunIsObeyed
-run_is_obeyed batch settings opening new can h = run_is_obeyed_from batch settings opening 0 opening new settings (all_ahead batch settings opening can) h
+run_is_obeyed batch settings opening new can h = (obeyed_runs batch settings opening 0 opening new settings (all_ahead batch settings opening can)).1 h

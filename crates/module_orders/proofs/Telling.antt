@@ -110,7 +110,7 @@ sources_there : (batch : List Transfer) (numbers : List ℕ) → IsBatch batch �
 sources_there batch numbers is known =
     All-map (λ t. HasPlace widest (source_of t)) (transfer_at batch) numbers (λ k d l. (places_within widest (transfer_at batch (get_or numbers k d)) (is.within (get_or numbers k d) _ (known k d l))).0)
 
--- the flags behind a setting
+-- the flags after a setting
 pub changed_next : (batch : List Transfer) (settings : List (List ℕ)) (k : ℕ) (numbers : List ℕ) (flags : List Bool) → k < length settings → numbers ≡ numbers_in settings k → AreChanged (setting_of batch (concat (take k settings)) ++ setting_of batch numbers) flags → AreChanged (setting_of batch (concat (take (k + 1) settings))) flags
 changed_next batch settings k numbers flags l is h =
     let joined : setting_of batch (concat (take k settings)) ++ setting_of batch numbers ≡ setting_of batch (concat (take (k + 1) settings)) =

@@ -1,11 +1,11 @@
 -- The text of the orders of a schedule tells them: all their numbers are numbers of a text.
-use Rattle.std.proofs.Common.{ℕ, zero, suc, Bool, ◌==◌, ◌≤◌, ◌<◌, ◌+◌, ◌*◌, List, [], length, length-append, map, take, get_or, refl, sym, ap, subst, arith, inl, inr, add-one}
+use Rattle.std.proofs.Common.{ℕ, zero, suc, Bool, ◌==◌, ◌≤◌, ◌<◌, ◌+◌, ◌*◌, List, [], length, length-append, map, take, get_or, refl, sym, ap, subst, arith, add-one}
 use Rattle.std.specs.Prelude.{Contains, filter}
 use Rattle.std.specs.List.{concat, range_with_len}
 use Rattle.std.proofs.lemmas.Bool.{eqb-true}
 use Rattle.std.proofs.lemmas.Bool.Decides.{Decides-eqb}
 use Rattle.std.proofs.lemmas.List.{length-map, take_all}
-use Rattle.std.proofs.lemmas.List.Elements.{All-contains, All-filter, All-map, Contains-append_cases, Contains-get_or}
+use Rattle.std.proofs.lemmas.List.Elements.{All-contains, All-filter, All-map, Contains-get_or}
 use Rattle.std.proofs.lemmas.List.FromFn.{length-range_with_len}
 use Rattle.std.proofs.lemmas.List.Sums.{count_by-le-length, length-filter}
 use Rattle.std.proofs.lemmas.Map.Made.{IsDistinct-from_AllPairs}
@@ -29,7 +29,7 @@ use Rattle.module_orders.specs.Laws.{IsTold}
 use Rattle.module_orders.specs.Orders.{ModuleTold, all_modules, block_at, is_changed, is_told, module_told, order_at, orders_before, orders_in, orders_of, orders_over}
 use Rattle.module_orders.specs.OrdersText.{CanSpell, CanTell}
 use Rattle.module_orders.specs.declared.order.Order.{Order}
-use Rattle.module_orders.proofs.Meeting.{over_is}
+use Rattle.module_orders.proofs.Meeting.{of_end, over_is}
 use Rattle.module_orders.proofs.Members.{in_any, in_flat_map, in_range}
 use Rattle.module_orders.proofs.Telling.{before_more}
 
@@ -86,16 +86,10 @@ can_spell batch settings m o is schedule fits c =
     let n = one.0 in
     let l = in_range (length settings) n one.1 in
     let numbers = numbers_in settings n in
-    let part : End → List Order = λ end. orders_over (is_changed batch settings n) n end (setting_of batch numbers) m in
-    let found : (end : End) → Contains (part end) o → CanSpell o = λ end d. (
-    let f = over_is (is_changed batch settings n) n end batch numbers m o d in
+    let side = of_end (λ (end : End). orders_over (is_changed batch settings n) n end (setting_of batch numbers) m) o one.2 in
+    let f = over_is (is_changed batch settings n) n side.0 batch numbers m o side.1 in
     let known = All-contains (λ t. t < length batch) numbers f.0 (schedule.no_other n [] l) f.1 in
-    subst CanSpell (sym f.3) (record { setting = omega (arith, l, fits); block = omega (arith, block_low batch end f.0 is known) })
-    ) in
-    elim (Contains-append_cases (part Zero) (part Three) o one.2) [
-      | inl a ↦ found Zero a
-      | inr b ↦ found Three b
-    ]
+    subst CanSpell (sym f.3) (record { setting = omega (arith, l, fits); block = omega (arith, block_low batch side.0 f.0 is known) })
 
 can_tell : (batch : List Transfer) (settings : List (List ℕ)) (m : ℕ) → IsBatch batch → IsScheduleOf batch settings → IsNumber (length settings) → m < MAX_MODULES → CanTell (module_told m (orders_before batch settings (length settings) m))
 can_tell batch settings m is schedule fits l =

@@ -1,6 +1,7 @@
 -- What modules are told where one of the blocks isn't copied aside, and what they then send.
-use Rattle.std.proofs.Common.{ℕ, Bool, true, false, cond, not, ◌==◌, ◌&&◌, ◌≡◌, ◌≢◌, ◌<◌, List, [], length, map, refl, sym, ap, ◌∙◌, subst, arith, inl, inr}
+use Rattle.std.proofs.Common.{ℕ, Bool, true, false, cond, not, ◌==◌, ◌&&◌, ◌≡◌, ◌≢◌, ◌<◌, List, length, map, refl, sym, ap, ◌∙◌, subst, inl, inr}
 use Rattle.std.specs.Prelude.{Contains}
+use Rattle.std.proofs.Math.Bool.{and-false, and-true}
 use Rattle.std.specs.List.{flat_map}
 use Rattle.batch.proofs.HeldSources.{same_place_tells}
 use Rattle.batch.specs.Held.{same_place}
@@ -19,10 +20,10 @@ use Rattle.module_orders.specs.Laws.{CanObey, all_told}
 use Rattle.module_orders.specs.Obeying.{HasOrder, PassesOver, aside_of, is_for, module_without, orders_for, orders_to, sent_itself, uncopied, without_copy, words_sent}
 use Rattle.module_orders.specs.Orders.{ModuleTold, RackTold, is_copy, module_told, order_at, sending, sends_copy}
 use Rattle.module_orders.specs.declared.order.Order.{Order}
-use Rattle.module_orders.proofs.Asides.{is_aside_from, sender, sender_is}
-use Rattle.module_orders.proofs.Meeting.{given, gives, in_orders_to, link_at, to_orders_to}
+use Rattle.module_orders.proofs.Asides.{aside_by}
+use Rattle.module_orders.proofs.Meeting.{given, in_orders_to, link_at, to_orders_to}
 use Rattle.module_orders.proofs.Members.{in_filter, in_flat_map, to_filter, to_flat_map, to_map}
-use Rattle.module_orders.proofs.Obeyed.{Stands, can_pass, known_number, late_in, low, sends_word}
+use Rattle.module_orders.proofs.Obeyed.{Stands, can_pass, has_given, late_in, sends_word, source_low}
 
 -- ---- the orders
 
@@ -83,13 +84,12 @@ turned_is p Zero Pull i o r f late k = either (i == p.«module») (order_at late
 turned_is p Three Push i o r f late k = either (r == p.«module») (order_at late k Three (record { kind = Push; initiator = i; own_block = o; responder = r; far_block = f }))
 turned_is p Three Pull i o r f late k = turned_sending late (r == p.«module») (f == p.block) k Three f
 
-has_without : (batch : List Transfer) (settings : List (List ℕ)) (opening : Store) (p : Place) (k t : ℕ) (end : End) → CanObey batch settings opening → k < length settings → Stands batch settings k t
+has_without : (batch : List Transfer) (settings : List (List ℕ)) (opening : Store) (p : Place) (k t : ℕ) → CanObey batch settings opening → k < length settings → Stands batch settings k t → (end : End)
     → HasOrder (without_copy p (all_told batch settings)) k (link_at end (transfer_at batch t)) (order_at (late_without batch settings p k t) k end (transfer_at batch t))
-has_without batch settings opening p k t end can l c =
+has_without batch settings opening p k t can l c end =
     let x = transfer_at batch t in
     let link = link_at end x in
-    let has = gives batch settings k end t l c (low batch settings opening end t can (known_number batch settings k t can.schedule l c)) in
-    subst (HasOrder (without_copy p (all_told batch settings)) k link) (turned_is p end x.kind x.initiator x.own_block x.responder x.far_block (late_in batch settings k t) k) (has_turned p (all_told batch settings) k link (given batch settings k end t) has)
+    subst (HasOrder (without_copy p (all_told batch settings)) k link) (turned_is p end x.kind x.initiator x.own_block x.responder x.far_block (late_in batch settings k t) k) (has_turned p (all_told batch settings) k link (given batch settings k end t) (has_given batch settings opening k t can l c end))
 
 -- ---- what passes
 
@@ -98,30 +98,7 @@ pub passes_without : (batch : List Transfer) (settings : List (List ℕ)) (openi
 passes_without batch settings opening p k t j aside old can l c =
     let x = transfer_at batch t in
     let late = late_without batch settings p k t in
-    can_pass (without_copy p (all_told batch settings)) aside late k j old (sends_word aside late x j old) x.kind x.initiator x.own_block x.responder x.far_block
-    (has_without batch settings opening p k t Zero can l c) (has_without batch settings opening p k t Three can l c) refl
-
--- the other copies are made
-aside_without : (batch : List Transfer) (settings : List (List ℕ)) (opening : Store) (p : Place) (k t : ℕ) → CanObey batch settings opening → k < length settings → Stands batch settings k t → late_without batch settings p k t ≡ true
-    → let q = source_of (transfer_at batch t) in aside_of (without_copy p (all_told batch settings)) opening q ≡ block_of opening q
-aside_without batch settings opening p k t can l c late =
-    let x = transfer_at batch t in
-    let q = source_of x in
-    let end = sender x.kind in
-    let told = without_copy p (all_told batch settings) in
-    let late_now = late_without batch settings p k t in
-    let is = sender_is x.kind x.initiator x.own_block x.responder x.far_block late_now k in
-    let known = known_number batch settings k t can.schedule l c in
-    ap (λ (b : Bool). cond b (block_of opening q) [])
-    (is_aside_from told k (link_at end x) (order_at late_now k end x) q (has_without batch settings opening p k t end can l c) is.0 is.1 (is.2 ∙ ap sending late) (omega (arith, (can.places t known).0.in_blocks, can.whole.within.few_blocks)))
-
-and_false : (b : Bool) → (b && not true) ≡ false
-and_false true = refl
-and_false false = refl
-
-and_true : (b : Bool) → (b && not false) ≡ b
-and_true true = refl
-and_true false = refl
+    can_pass (without_copy p (all_told batch settings)) aside late k j old (sends_word aside late x j old) x.kind x.initiator x.own_block x.responder x.far_block (has_without batch settings opening p k t can l c) refl
 
 -- of block p its words as they now are are sent, and of each other one those that it had at first
 pub words_without : (batch : List Transfer) (settings : List (List ℕ)) (opening now : Store) (p : Place) (k t : ℕ) → CanObey batch settings opening → k < length settings → Stands batch settings k t
@@ -134,11 +111,11 @@ words_without batch settings opening now p k t can l c unchanged =
     let late = late_in batch settings k t in
     let late_now = late_without batch settings p k t in
     elim (same_place_tells q p) [
-      | inl s ↦ ((λ e. ap (λ (b : Bool). words_sent aside now (sending b) q) (ap (λ (b : Bool). late && not b) s.0 ∙ and_false late) ∙ ap (block_of now) e), λ other. absurd (other s.1))
+      | inl s ↦ ((λ e. ap (λ (b : Bool). words_sent aside now (sending b) q) (ap (λ (b : Bool). late && not b) s.0 ∙ and-false late) ∙ ap (block_of now) e), λ other. absurd (other s.1))
       | inr s ↦
-          let same : late_now ≡ late = ap (λ (b : Bool). late && not b) s.0 ∙ and_true late in
+          let same : late_now ≡ late = ap (λ (b : Bool). late && not b) s.0 ∙ and-true late in
           let first : words_sent aside now (sending late_now) q ≡ block_of opening q = elim late_now as (λ b. late_now ≡ b → words_sent aside now (sending b) q ≡ block_of opening q) [
-            | true ↦ λ e. aside_without batch settings opening p k t can l c e
+            | true ↦ λ e. aside_by (without_copy p (all_told batch settings)) opening k late_now (transfer_at batch t) (has_without batch settings opening p k t can l c) (source_low batch settings opening k t can l c) e
             | false ↦ λ e. unchanged (sym same ∙ e)
           ] refl in
           ((λ e. absurd (s.1 e)), λ _. first)

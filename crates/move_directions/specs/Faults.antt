@@ -5,7 +5,7 @@ use Rattle.batch.specs.Extent.{widest}
 use Rattle.batch.specs.ListFaults as lists
 use Rattle.move_directions.specs.Text.{moves_form}
 
--- the first fault of the text: of its first line, of a move's line behind good ones, or behind the
+-- the first fault of the text: of its first line, of a move's line after good ones, or after the
 -- last
 abbrev pub IsFirstFault : List ℕ → BatchFault → Type 0
 IsFirstFault = lists.IsFirstFault moves_form widest

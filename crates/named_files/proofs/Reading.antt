@@ -3,7 +3,7 @@ use Rattle.std.proofs.Common.{◌≡◌, ◌∙◌, ◌<◌, ◌+◌, ℕ, List,
 use Rattle.std.proofs.lemmas.List.{map-append, take_more}
 use Rattle.named_files.specs.Contents.{AreRead, IsFileRead}
 
--- one more behind others
+-- one more after others
 pub read_more : (holds : List ℕ → List ℕ → Type 0) (before mid after : Option (List ℕ)) (names files : List (List ℕ)) (name file : List ℕ) → AreRead holds before names files mid → IsFileRead holds mid name file after → AreRead holds before (names ++ name ∷ []) (files ++ file ∷ []) after
 read_more holds before mid after [] [] name file are is = (after, rw are at is, refl)
 read_more holds before mid after [] (first ∷ files) name file are is = absurd are

@@ -10,7 +10,7 @@ use Rattle.command_words.specs.declared.jobs.SessionJob.{SessionJob}
 use Rattle.command_words.specs.declared.jobs.SharedRack.{SharedRack}
 use Rattle.command_words.specs.declared.uses.Access.TheVariants.{Read, Told, Write}
 use Rattle.command_words.specs.declared.uses.FileUse.{FileUse}
-use Rattle.named_files.specs.Apart.{AreSeenApart, HaveNoClash, IsNoneOf, TellsBy, Leading, MayBeWritten}
+use Rattle.named_files.specs.DistinctFiles.{AreSeenApart, HaveNoClash, IsNoneOf, TellsBy, Leading, MayBeWritten}
 
 pub seen_apart : (leads : Leading) (lent more files : List FileUse) → lent ≡ files → more ≡ files → IsNoneOf leads (codes "/dev/stdout") lent → IsNoneOf leads (codes "/dev/stderr") lent → HaveNoClash leads more → AreSeenApart leads files
 seen_apart leads lent more files same again out err pairs =

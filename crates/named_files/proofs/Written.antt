@@ -1,29 +1,22 @@
 -- What goes to files.
-use Rattle.std.proofs.Common.{◌≡◌, ◌∙◌, ◌++◌, ℕ, Bool, not, List, [], Option, Some, None, Result, Ok, Err, OnOk, OnErr, IfOk, IsErrAnd, false, true, is_ok, is_some, append-nil, append_assoc, ap, ap₂, subst, sym, refl}
-use Rattle.std.specs.Prelude.{⊤}
+use Rattle.std.proofs.Common.{◌≡◌, ◌∙◌, ◌++◌, ℕ, Bool, not, List, [], Option, Some, None, Result, Ok, Err, OnOk, OnErr, IsErrAnd, false, true, is_ok, is_some, append-nil, append_assoc, ap, subst, sym, refl}
 use Rattle.std.specs.Io.KnownBytes.{Appends}
 use Rattle.byte_streams.specs.Writing.{IsCutShort}
 use Rattle.clap.specs.Words.{Text}
 use Rattle.named_files.specs.Outputs.{HasNothingGone, IsFileWritten, IsLeftOfAny, IsOpened, is_new, name_of, stream_of}
 use Rattle.named_files.proofs.Named.{by_more, gone_front, one_name}
+pub use Rattle.named_files.proofs.Named.{grown}
 use Rattle.named_files.specs.Streams.{Closed, IsFrontOf, IsLeftOf, IsWrittenBy, closed, gone_by, gone_to, named_text}
 use Rattle.named_files.specs.declared.lost.Reason.{Reason}
 use Rattle.named_files.specs.declared.outputs.OutFile.{OutFile}
 
--- known bytes that grew
-pub grown : (old new : Option (List ℕ)) (front bytes : List ℕ) → old ≡ Some front → Appends old new bytes → new ≡ Some (front ++ bytes)
-grown None new front bytes is appended = absurd cc
-grown (Some xs) None front bytes is appended = absurd appended
-grown (Some xs) (Some ys) front bytes is appended =
-    let same : xs ≡ front = cc in ap Some (appended ∙ ap (λ (f : List ℕ). f ++ bytes) same)
-
--- what was written behind a text
+-- what was written after a text
 pub written_behind : {E : Type 0} (r : Result Unit E) (name : Option Text) (old new : Option (List ℕ)) (text bytes : List ℕ) → gone_by name old ≡ Some text → OnOk r (Appends old new bytes) → OnErr r (IsCutShort old new bytes) → IsWrittenBy r (text ++ bytes) (gone_by name new)
 written_behind (Ok u) name old new text bytes is went cut = by_more name old new text bytes is went
 written_behind (Err e) name old new text bytes is went cut =
     (text ++ cut.front, cut.missing, ap (λ (x : List ℕ). text ++ x) cut.bytes_are ∙ sym (append_assoc text cut.front cut.missing), by_more name old new text cut.front is cut.appended)
 
--- nothing was written behind it
+-- nothing was written after it
 pub left_behind : (old : Option (List ℕ)) (text bytes : List ℕ) → IsFrontOf text old → IsFrontOf (text ++ bytes) old
 left_behind old text bytes t = (t.0, t.1 ++ bytes, ap (λ (x : List ℕ). x ++ bytes) t.2 ∙ append_assoc t.0 t.1 bytes, t.3)
 
@@ -87,24 +80,8 @@ left_new {F} {C} contents received (Some x) o wanted receipt lost is opened left
 -- ---- files of the real system
 
 -- what contracts see of one says what has gone to it
-opened_named : (name named sent held : List ℕ) → named ≡ name → sent ≡ held → gone_to name (Some (named_text named sent)) ≡ Some held
+pub opened_named : (name named sent held : List ℕ) → named ≡ name → sent ≡ held → gone_to name (Some (named_text named sent)) ≡ Some held
 opened_named name named sent held same are = rw (same, are) (gone_front name held)
-
-pub opened_new : {X E : Type 0} (r : Result X E) (named sent held : X → List ℕ) (name : List ℕ) → IfOk r (λ x. (sent x ≡ held x) × (named x ≡ name)) → IfOk r (λ x. gone_to name (Some (named_text (named x) (sent x))) ≡ Some (held x))
-opened_new (Ok x) named sent held name is = opened_named name (named x) (sent x) (held x) is.1 is.0
-opened_new (Err e) named sent held name is = tt
-
-pub opened_held : {X E : Type 0} (r : Result X E) (named sent held : X → List ℕ) (name : List ℕ) → IfOk r (λ x. (sent x ≡ held x) × (named x ≡ name)) → IfOk r (λ x. ⊤ × (gone_to name (Some (named_text (named x) (sent x))) ≡ Some (held x)))
-opened_held (Ok x) named sent held name is = (tt, opened_named name (named x) (sent x) (held x) is.1 is.0)
-opened_held (Err e) named sent held name is = tt
-
-pub cut_named : {E : Type 0} (r : Result Unit E) (named after sent new kept held : List ℕ) → OnOk r (new ≡ kept) → after ≡ named → OnOk r ((name : List ℕ) → gone_to name (Some (named_text named sent)) ≡ Some held → gone_to name (Some (named_text after new)) ≡ Some kept)
-cut_named (Ok u) named after sent new kept held is same = λ name gone. opened_named name after new kept (same ∙ one_name named name sent held gone) is
-cut_named (Err e) named after sent new kept held is same = tt
-
-pub same_named : {E : Type 0} (r : Result Unit E) (named after sent new : List ℕ) → OnErr r (new ≡ sent) → after ≡ named → OnErr r (Some (named_text after new) ≡ Some (named_text named sent))
-same_named (Ok u) named after sent new is same = tt
-same_named (Err e) named after sent new is same = ap₂ (λ (n : List ℕ) (x : List ℕ). Some (named_text n x)) same is
 
 pub left_named : (named sent after went : List ℕ) (stands is : Bool) → (went ≡ sent) × (after ≡ named) × (is ≡ stands) → IsLeftOf (Some (named_text named sent)) stands (closed after (Some went) is)
 left_named named sent after went stands is same = λ name bytes gone.

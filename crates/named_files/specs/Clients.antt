@@ -4,7 +4,7 @@ use Rattle.session_answers.specs.HostAnswers.{KnownClients, SessionEnd, seen_end
 use Rattle.session_answers.specs.declared.ended_session.Ending.{Ending}
 
 -- The clients of these names: each says what comes from `NAME.in`, as far as that is known, and is
--- told behind what had gone to `NAME.out` before. Any file may be such that it can't be opened.
+-- told after what had gone to `NAME.out` before. Any file may be such that it can't be opened.
 abbrev pub clients_by : (List ℕ → Option (List ℕ)) → (List ℕ → List ℕ) → List (List ℕ)
     → KnownClients
 clients_by comes begins names =

@@ -1,4 +1,4 @@
-pub mod Apart
+pub mod DistinctFiles
 pub mod Clients
 pub mod Contents
 pub mod Outputs

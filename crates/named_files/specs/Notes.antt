@@ -5,7 +5,7 @@ use Rattle.plan_answers.specs.Refusals.{Printed}
 use Rattle.plan_answers.specs.declared.limits.TheConstants.{REFUSED}
 use Rattle.refusals.specs.declared.refusal.Refusal.{Refusal}
 use Rattle.refusals.specs.Refusals.{refusal_line}
-use Rattle.refusal_notes.specs.Told.{line_told}
+pub use Rattle.refusal_notes.specs.Told.{IsWholeLine}
 use Rattle.named_files.specs.declared.notes.NoAnswer.{NoAnswer}
 use Rattle.named_files.specs.declared.notes.NoAnswer.TheVariants.{Refused, Unwritten}
 use Rattle.refusals.specs.declared.refusal.Refusal.TheVariants as refusal
@@ -20,10 +20,6 @@ SaysRefusal line = (why : Refusal) × (why ≢ refusal.NoMemory) × (line ≡ re
 abbrev pub SaysStop : List ℕ → Type 0
 SaysStop line = (words : List ℕ) × (line ≡ codes "stopped " ++ words)
 
--- it is a whole line that begins with the program's name
-abbrev pub IsWholeLine : List ℕ → Type 0
-IsWholeLine line = (words : List ℕ) × (line ≡ line_told words)
-
 -- the line is told of an answer: of a refusal, or where a drive stopped, and of nothing else
 pub record HasSecondLine (printed : Printed) (line : List ℕ) : Type 0 where
   pub refused : printed.status ≡ REFUSED
@@ -34,7 +30,7 @@ pub record HasSecondLine (printed : Printed) (line : List ℕ) : Type 0 where
 abbrev pub IsNoteOn : Printed → Option (List ℕ) → Type 0
 IsNoteOn printed note = IfSome note (HasSecondLine printed)
 
--- as much of the line as could be written stands behind what was there
+-- as much of the line as could be written stands after what was there
 abbrev pub IsToldInPart : Option (List ℕ) → Option (List ℕ) → List ℕ → Type 0
 IsToldInPart before after line =
     (told rest : List ℕ) × (line ≡ told ++ rest) × Appends before after told

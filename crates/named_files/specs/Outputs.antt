@@ -47,7 +47,7 @@ abbrev pub output_of : Job → Option Text
 output_of (Sessions rack job) = rack.image_out
 output_of job = None
 
--- the record of a job's sessions goes on behind what its file holds
+-- the record of a job's sessions goes on after what its file holds
 abbrev pub is_live : Job → Bool
 is_live (Sessions rack job) = serves_live job
 is_live job = false

@@ -2,11 +2,11 @@
 use Rattle.std.specs.Prelude.{◌≡◌, ◌++◌, ◌==◌, ℕ, Bool, List, [], ◌∷◌, Option, Some, None, Result, Ok, Err, if◌then◌else◌, length, option_and_then}
 use Rattle.clap.specs.Words.{Text}
 
--- the bytes behind this front; none where it isn't there
-abbrev pub bytes_behind : (front bytes : List ℕ) → Option (List ℕ)
-bytes_behind [] bytes = Some bytes
-bytes_behind (b ∷ front) [] = None
-bytes_behind (b ∷ front) (c ∷ bytes) = if b == c then bytes_behind front bytes else None
+-- the bytes after this front; none where it isn't there
+abbrev pub bytes_after : (front bytes : List ℕ) → Option (List ℕ)
+bytes_after [] bytes = Some bytes
+bytes_after (b ∷ front) [] = None
+bytes_after (b ∷ front) (c ∷ bytes) = if b == c then bytes_after front bytes else None
 
 -- what contracts see of a stream that was opened by this name, and to which these bytes have gone:
 -- how long the name is, the name, and the bytes
@@ -16,7 +16,7 @@ named_text name bytes = (length name ∷ name) ++ bytes
 -- What has gone to the stream of this name that has these contents; none where it was opened by
 -- another name.
 abbrev pub gone_to : Text → Option (List ℕ) → Option (List ℕ)
-gone_to name contents = option_and_then (bytes_behind (length name ∷ name)) contents
+gone_to name contents = option_and_then (bytes_after (length name ∷ name)) contents
 
 -- the same where the name is one of a file that may be asked for
 abbrev pub gone_by : Option Text → Option (List ℕ) → Option (List ℕ)

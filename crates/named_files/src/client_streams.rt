@@ -2,14 +2,14 @@
 
 ghost use Rattle.std.specs.Prelude.{◌≡◌, ℕ, List, Option, IfOk};
 ghost use Rattle.command_words.specs.Jobs.{clients_of};
-ghost use Rattle.named_files.specs.Apart.{TellsBy};
+ghost use Rattle.named_files.specs.DistinctFiles.{TellsBy};
 
-use crate::apart::Apart;
-use crate::lack::Lack;
+use crate::distinct_files::DistinctFiles;
+use crate::io_failure::IoFailure;
 use crate::sent_file::SentFile;
 use byte_streams::PassedBytes;
 use command_words::Text;
-use session_answers::{AllThere, ClientStreams};
+use session_answers::{ClientStreams, ThreadsStarted};
 use std::alloc::Global;
 use std::io;
 use std::io::{ErrorKind, Read};
@@ -27,12 +27,17 @@ pub trait ClientFiles: Sync {
     ghost had: { Self → List ℕ → List ℕ };
 
     /// Opens the file from which a client is heard.
-    fn open_heard(&self, there: &AllThere, name: &str) -> io::Result<Self::Heard>
+    fn open_heard(&self, there: &ThreadsStarted, name: &str) -> io::Result<Self::Heard>
         ensures { IfOk result (λ heard. Self.Heard.remaining heard ≡ says self.now name.now) };
 
     /// Opens the file by which a client is told: it is made where it isn't there, and emptied. It is
     /// one by which the job tells a client.
-    fn open_told(&self, there: &AllThere, apart: &Apart, name: &str) -> io::Result<SentFile>
+    fn open_told(
+        &self,
+        there: &ThreadsStarted,
+        apart: &DistinctFiles,
+        name: &str,
+    ) -> io::Result<SentFile>
         requires { TellsBy apart.now name.now }
         ensures { IfOk result (λ told. told.sent ≡ had self.now name.now) };
 }
@@ -45,9 +50,9 @@ pub struct FileStreams<'a, S> {
     pub alloc: Global,
     pub clients: &'a [Text],
     /// It was looked that the files of the job are apart whose clients these are.
-    pub apart: &'a Apart,
+    pub apart: &'a DistinctFiles,
     /// Of each client the file that couldn't be opened, where one couldn't, and why.
-    pub unopened: &'a [OnceLock<Lack>],
+    pub unopened: &'a [OnceLock<IoFailure>],
     ghost hosted: { clients.now ≡ clients_of apart.now },
 }
 
@@ -60,7 +65,7 @@ impl<'a, S> FileStreams<'a, S> {
         if let Some(unopened) = self.unopened.get(client)
             && let Ok(why) = error.to_string(self.alloc)
         {
-            let _ = unopened.try_set(Lack { name, why });
+            let _ = unopened.try_set(IoFailure { name, why });
         }
     }
 }
@@ -91,7 +96,7 @@ impl<'a, S: ClientFiles> ClientStreams for FileStreams<'a, S> {
     }
 
     // What the client says is opened first.
-    fn open(&self, there: AllThere, client: usize) -> io::Result<(S::Heard, SentFile)> {
+    fn open(&self, there: ThreadsStarted, client: usize) -> io::Result<(S::Heard, SentFile)> {
         let Some(name) = self.clients.get(client) else {
             return Err(io::Error::from(ErrorKind::NotFound));
         };

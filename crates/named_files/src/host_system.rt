@@ -1,11 +1,11 @@
 //! The files of the real system. Which bytes they hold contracts don't say.
 
-use crate::apart::Apart;
 use crate::client_streams::ClientFiles;
+use crate::distinct_files::DistinctFiles;
 use crate::output_file::{ClosedFile, OutputFile, empty_alone};
 use crate::sent_file::SentFile;
 use crate::system::System;
-use session_answers::AllThere;
+use session_answers::ThreadsStarted;
 use std::fs::{File, OpenOptions};
 use std::{fs, io};
 
@@ -27,14 +27,14 @@ impl System for HostRuntime {
 
     fn open_record(
         &self,
-        _apart: &Apart,
+        _apart: &DistinctFiles,
         name: &str,
         syncs: bool,
     ) -> io::Result<(OutputFile, Vec<u8>)> {
         OutputFile::open_record(self, name, syncs)
     }
 
-    fn open_new(&self, apart: &Apart, name: &str) -> io::Result<OutputFile> {
+    fn open_new(&self, apart: &DistinctFiles, name: &str) -> io::Result<OutputFile> {
         OutputFile::open_new(self, apart, name)
     }
 
@@ -64,11 +64,16 @@ impl ClientFiles for HostRuntime {
 
     ghost had = { λ _ _. [] };
 
-    fn open_heard(&self, _there: &AllThere, name: &str) -> io::Result<File> {
+    fn open_heard(&self, _there: &ThreadsStarted, name: &str) -> io::Result<File> {
         File::open(self, name)
     }
 
-    fn open_told(&self, _there: &AllThere, _apart: &Apart, name: &str) -> io::Result<SentFile> {
+    fn open_told(
+        &self,
+        _there: &ThreadsStarted,
+        _apart: &DistinctFiles,
+        name: &str,
+    ) -> io::Result<SentFile> {
         let file = OpenOptions::new()
             .write(true)
             .create(true)

@@ -8,19 +8,19 @@
 //! handed out.
 //!
 //! [`read_contents`] reads a job's files in their order (`AreContents` of `specs/Contents.antt`).
-//! [`open_apart`] opens the files that sessions write, once it has looked that no file is read and
-//! written (`AreOpened` of `specs/Outputs.antt`, `AreSeenApart` of `specs/Apart.antt`): what opens
-//! one wants an [`Apart`], which that look alone makes. [`keep_file`] writes one and puts it in its
+//! [`open_distinct`] opens the files that sessions write, once it has looked that no file is read and
+//! written (`AreOpened` of `specs/Outputs.antt`, `AreSeenApart` of `specs/DistinctFiles.antt`): what opens
+//! one wants a [`DistinctFiles`], which that look alone makes. [`keep_file`] writes one and puts it in its
 //! place, or says why not all of it stands there (`IsFileWritten`).
 //! Where something can't be read or opened there is no answer, and a line that tells why
 //! (`IsRefused` of `specs/Notes.antt`).
 #![tactic(auto)]
 
-mod apart;
 mod client_streams;
 mod contents;
+mod distinct_files;
 mod host_system;
-mod lack;
+mod io_failure;
 mod lost;
 mod notes;
 mod output_file;
@@ -32,15 +32,15 @@ mod system;
 mod unanswered;
 mod unwritten;
 
-pub use apart::Apart;
 pub use client_streams::{ClientFiles, FileStreams};
 pub use contents::{Contents, read_contents, slice_of, source_with, text_of};
-pub use lack::Lack;
+pub use distinct_files::DistinctFiles;
+pub use io_failure::IoFailure;
 pub use lost::{Lost, Reason};
 pub use notes::{NoAnswer, lack_line, reason_line, tell_line, tell_note, unread};
 pub use output_file::{ClosedFile, OutputFile};
 pub use outputs::{
-    OutFile, Outputs, Receipts, close_file, close_stream, keep_file, leave_file, open_apart,
+    OutFile, Outputs, Receipts, close_file, close_stream, keep_file, leave_file, open_distinct,
     put_written,
 };
 pub use place::{FileKind, Place, Places};

@@ -3,7 +3,7 @@
 ghost use Rattle.std.specs.Prelude.{◌≡◌, IfSome, option_map, string_bytes};
 ghost use Rattle.named_files.specs.Notes.{IsRefused, IsToldInPart, IsToldUnless, IsWholeLine};
 
-use crate::lack::Lack;
+use crate::io_failure::IoFailure;
 use crate::unanswered::Unanswered;
 use crate::unwritten::Unwritten;
 use byte_streams::write_bytes;
@@ -41,7 +41,7 @@ impl From<AllocError> for NoAnswer {
 }
 
 /// What is told of what lacks.
-pub fn lack_line(alloc: Global, lack: &Lack) -> Option<String>
+pub fn lack_line(alloc: Global, lack: &IoFailure) -> Option<String>
     ensures { IfSome result (λ line. IsWholeLine (string_bytes line)) }
 {
     file_line(alloc, lack.name.as_str(), lack.why.as_str())
@@ -65,10 +65,8 @@ pub fn unread(alloc: Global, name: &Text, error: &io::Error) -> NoAnswer
 pub fn reason_line(alloc: Global, name: &str, error: &io::Error) -> Option<String>
     ensures { IfSome result (λ line. IsWholeLine (string_bytes line)) }
 {
-    match error.to_string(alloc) {
-        Ok(reason) => file_line(alloc, name, reason.as_str()),
-        Err(_) => None,
-    }
+    let reason = error.to_string(alloc).ok()?;
+    file_line(alloc, name, reason.as_str())
 }
 
 /// Tells a note on standard error, where there is one and none is left out.

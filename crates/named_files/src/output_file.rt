@@ -2,7 +2,7 @@
 
 ghost use Rattle.std.specs.Prelude.{◌≡◌, ◌≤◌, [], IfOk, OnOk, OnErr, false, is_ok, length, take};
 
-use crate::apart::Apart;
+use crate::distinct_files::DistinctFiles;
 use crate::place::{Place, Places, are_one_file, folder_of, followed};
 use crate::sent_file::{SentFile, passed};
 use byte_streams::PassedBytes;
@@ -16,18 +16,11 @@ use std::{fs, io};
 /// How many names are tried for a new file.
 const MAX_NAMES: usize = 100;
 
-/// What the name of a new file has behind that of its place, and before a number.
+/// What the name of a new file has after that of its place, and before a number.
 const NEW_FILE: &str = ".exchange-";
 
 /// The names of the standard streams.
 const STREAMS: [&str; 3] = ["/dev/stdin", "/dev/stdout", "/dev/stderr"];
-
-/// The name of a new file, and the place where it goes.
-#[derive(Drop)]
-struct NewFile {
-    name: String,
-    place: PathBuf,
-}
 
 /// What is open to be written.
 #[derive(Drop)]
@@ -36,8 +29,8 @@ enum Opened {
     Device,
     /// The file to which this name led.
     Held(String),
-    /// A new file, which goes to a place.
-    New(NewFile),
+    /// A new file of this name, which goes to this place.
+    New { name: String, place: PathBuf },
 }
 
 /// A file that is open to be written: that of a name itself, or a new one that goes there.
@@ -82,14 +75,12 @@ fn leads_to(rt: &HostRuntime, name: &str, file: &File) -> io::Result<bool> {
 
 /// Whether a name leads to this place.
 fn is_at(rt: &HostRuntime, name: &str, place: &Place) -> Result<bool, AllocError> {
-    match rt.place(name)? {
-        Some(there) => Ok(are_one_file(&there, place)),
-        None => Ok(false),
-    }
+    let there = rt.place(name)?;
+    Ok(there.is_some_and(|there| are_one_file(&there, place)))
 }
 
 /// Whether the file of this name is one that the job names, or a standard stream.
-fn is_used(rt: &HostRuntime, apart: &Apart, name: &str) -> Result<bool, AllocError> {
+fn is_used(rt: &HostRuntime, apart: &DistinctFiles, name: &str) -> Result<bool, AllocError> {
     let Some(place) = rt.place(name)? else {
         return Ok(false);
     };
@@ -108,7 +99,7 @@ fn is_used(rt: &HostRuntime, apart: &Apart, name: &str) -> Result<bool, AllocErr
 
 /// A file of this name that is new, or that nobody uses and nothing was written to, as one is that
 /// was left by a program that was killed.
-fn make_new(rt: &HostRuntime, apart: &Apart, name: &str) -> io::Result<Option<File>> {
+fn make_new(rt: &HostRuntime, apart: &DistinctFiles, name: &str) -> io::Result<Option<File>> {
     let is_there = match fs::symlink_metadata(rt, name) {
         Ok(metadata) if !metadata.is_file() || metadata.len() > 0 => return Ok(None),
         there => there.is_ok(),
@@ -133,10 +124,8 @@ fn make_new(rt: &HostRuntime, apart: &Apart, name: &str) -> io::Result<Option<Fi
 
 /// Whether a name is one that a new file may have.
 fn is_of_new_file(name: &str) -> bool {
-    match name.rsplit_once(NEW_FILE) {
-        Some((_, number)) => number.parse::<usize>().is_ok(),
-        None => false,
-    }
+    let number = name.rsplit_once(NEW_FILE).map(|(_, number)| number);
+    number.is_some_and(|number| number.parse::<usize>().is_ok())
 }
 
 /// Has the disk keep the name of a file that is new in its folder.
@@ -155,7 +144,11 @@ fn sync_name(rt: &HostRuntime, place: Path<'_>) -> io::Result<()> {
 }
 
 /// Makes a file beside this place: `PLACE.exchange-0`, or with the first number that is free.
-fn make_beside(rt: &HostRuntime, apart: &Apart, place: &PathBuf) -> io::Result<(File, String)> {
+fn make_beside(
+    rt: &HostRuntime,
+    apart: &DistinctFiles,
+    place: &PathBuf,
+) -> io::Result<(File, String)> {
     for number in 0..MAX_NAMES {
         let name = format!(in rt.alloc(); "{}{NEW_FILE}{number}", place.as_str())?;
         match make_new(rt, apart, name.as_str()) {
@@ -206,13 +199,12 @@ fn lock_at(rt: &HostRuntime, name: &str) -> io::Result<File> {
 
 /// Puts a new file that the disk has in its place, unless another program has come to write what
 /// stands there. The disk keeps its name, if the system can do that.
-fn put_new(rt: &HostRuntime, new: &NewFile) -> io::Result<()> {
-    let place = new.place.as_path();
+fn put_new(rt: &HostRuntime, name: &str, place: Path<'_>) -> io::Result<()> {
     let there = match is_file_at(rt, place.as_str())? {
         Some(true) => Some(lock_at(rt, place.as_str())?),
         _ => None,
     };
-    fs::rename(rt, new.name.as_str(), place)?;
+    fs::rename(rt, name, place)?;
     drop(there);
     let _ = keep_name(rt, place);
     Ok(())
@@ -241,7 +233,7 @@ impl OutputFile {
         Ok(OutputFile::of(file, name, Opened::Device))
     }
 
-    /// The file of a name, to be written behind its end, and what it holds. No other record may be
+    /// The file of a name, to be written after its end, and what it holds. No other record may be
     /// written there meanwhile.
     pub(crate) fn open_record(
         rt: &HostRuntime,
@@ -278,7 +270,11 @@ impl OutputFile {
 
     /// A new file that goes to the place to which a name leads, and may be used as the file there,
     /// where one is. A device or a pipe itself.
-    pub(crate) fn open_new(rt: &HostRuntime, apart: &Apart, name: &str) -> io::Result<OutputFile>
+    pub(crate) fn open_new(
+        rt: &HostRuntime,
+        apart: &DistinctFiles,
+        name: &str,
+    ) -> io::Result<OutputFile>
         ensures { IfOk result (λ it. (it.sent.sent ≡ []) × (it.named ≡ name.now)) }
     {
         let permissions = match is_file_at(rt, name)? {
@@ -294,11 +290,11 @@ impl OutputFile {
         if let Some(permissions) = permissions {
             let _ = file.set_permissions(permissions);
         }
-        let opened = Opened::New(NewFile { name: new, place });
+        let opened = Opened::New { name: new, place };
         Ok(OutputFile::of(file, name, opened))
     }
 
-    /// Cuts off what it holds behind so many bytes.
+    /// Cuts off what it holds after so many bytes.
     pub(crate) fn cut(&mut self, held: &[u8], kept: usize) -> io::Result<()>
         requires { kept ≤ length held.now }
         ensures cut { OnOk result (self.new.sent.sent ≡ take kept held.now) }
@@ -342,8 +338,8 @@ impl OutputFile {
 
     /// Lets go of a new file.
     fn forget(&self, rt: &HostRuntime) {
-        if let Opened::New(new) = &self.opened {
-            let _ = fs::remove_file(rt, new.name.as_str());
+        if let Opened::New { name, .. } = &self.opened {
+            let _ = fs::remove_file(rt, name.as_str());
         }
     }
 
@@ -368,9 +364,9 @@ impl OutputFile {
                 }
                 Err(io::Error::other("its name leads to another file now, or to none"))
             }
-            Opened::New(new) => {
+            Opened::New { name, place } => {
                 self.sent.file.sync_all()?;
-                put_new(rt, new)
+                put_new(rt, name.as_str(), place.as_path())
             }
         }
     }

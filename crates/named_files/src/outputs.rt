@@ -2,12 +2,12 @@
 
 ghost use Rattle.std.specs.Prelude.{◌≡◌, ℕ, List, [], Some, IfErr, IfOk, None, OnErr, OnOk, false, is_ok};
 ghost use Rattle.command_words.specs.Jobs.{file_uses as the_uses, recorded_in};
-ghost use Rattle.named_files.specs.Apart.{AreSeenApart, IsWrittenOf, MayBeWritten};
+ghost use Rattle.named_files.specs.DistinctFiles.{AreSeenApart, IsWrittenOf, MayBeWritten};
 ghost use Rattle.named_files.specs.Notes.{IsRefused};
 ghost use Rattle.named_files.specs.Outputs.{AreNamed, AreOpened, IsFileWritten, IsLeftOfAny, IsOpened, IsUnput, begins_with, is_live as live, is_new, name_of, none_open, none_opened, output_of, record_of, stream_of};
 ghost use Rattle.named_files.specs.Streams.{IsLeftOf, IsWrittenBy, gone_to};
 
-use crate::apart::{Apart, look_apart};
+use crate::distinct_files::{DistinctFiles, check_distinct};
 use crate::lost::Reason;
 use crate::notes::{NoAnswer, unread};
 use crate::system::System;
@@ -71,7 +71,7 @@ impl<C> Receipts<C> {
 fn open_new<'a, S: System>(
     system: &S,
     alloc: Global,
-    apart: &Apart,
+    apart: &DistinctFiles,
     name: &'a Text,
 ) -> Result<OutFile<'a, S::Stream>, NoAnswer>
     requires { IsWrittenOf apart.now name.now }
@@ -93,7 +93,7 @@ fn open_new<'a, S: System>(
 fn open_held<'a, S: System>(
     system: &S,
     alloc: Global,
-    apart: &Apart,
+    apart: &DistinctFiles,
     name: &'a Text,
     syncs: bool,
 ) -> Result<OutFile<'a, S::Stream>, NoAnswer>
@@ -112,7 +112,7 @@ fn open_held<'a, S: System>(
 fn open_record<'a, S: System>(
     system: &S,
     alloc: Global,
-    apart: &Apart,
+    apart: &DistinctFiles,
     rack: &'a SharedRack,
     is_live: bool,
 ) -> Result<Option<OutFile<'a, S::Stream>>, NoAnswer>
@@ -136,7 +136,7 @@ fn open_record<'a, S: System>(
 fn open_image<'a, S: System>(
     system: &S,
     alloc: Global,
-    apart: &Apart,
+    apart: &DistinctFiles,
     name: &'a Option<Text>,
 ) -> Result<Option<OutFile<'a, S::Stream>>, NoAnswer>
     requires { MayBeWritten apart.now name.now }
@@ -155,7 +155,7 @@ fn open_image<'a, S: System>(
 fn open_both<'a, S: System>(
     system: &S,
     alloc: Global,
-    apart: &Apart,
+    apart: &DistinctFiles,
     rack: &'a SharedRack,
     is_live: bool,
 ) -> (Outputs<'a, S::Stream>, Result<(), NoAnswer>)
@@ -174,11 +174,8 @@ fn open_both<'a, S: System>(
     match open_image(system, alloc, apart, &rack.image_out) {
         Ok(image) => (Outputs { recorded, image }, Ok(())),
         Err(missed) => {
-            let outputs = Outputs {
-                recorded,
-                image: None,
-            };
-            (outputs, Err(missed))
+            let image = None;
+            (Outputs { recorded, image }, Err(missed))
         }
     }
 }
@@ -188,7 +185,7 @@ fn open_both<'a, S: System>(
 fn open_outputs<'a, S: System>(
     system: &S,
     alloc: Global,
-    apart: &Apart,
+    apart: &DistinctFiles,
     job: &'a Job,
 ) -> (Outputs<'a, S::Stream>, Result<(), NoAnswer>)
     requires { apart.now ≡ job.now }
@@ -207,11 +204,11 @@ fn open_outputs<'a, S: System>(
 
 /// The same, where the files that the job writes are others than those that it reads, and than each
 /// other; else none is opened. It gives what shows that.
-pub fn open_apart<'a, S: System>(
+pub fn open_distinct<'a, S: System>(
     system: &S,
     alloc: Global,
     job: &'a Job,
-) -> (Outputs<'a, S::Stream>, Result<Apart, NoAnswer>)
+) -> (Outputs<'a, S::Stream>, Result<DistinctFiles, NoAnswer>)
     ensures opened { AreOpened S.Stream.contents
         (begins_with (S.holds system.now) (live job.entry.now)) (record_of job.entry.now)
         (output_of job.entry.now) result.0 }
@@ -221,7 +218,7 @@ pub fn open_apart<'a, S: System>(
     ensures apart { OnOk result.1 (AreSeenApart (S.leads system.now) (the_uses job.entry.now)) }
     ensures note { IfErr result.1 (λ missed. IsRefused missed) }
 {
-    match look_apart(system, alloc, job) {
+    match check_distinct(system, alloc, job) {
         Ok(apart) => {
             let (outputs, end) = open_outputs(system, alloc, &apart, job);
             (outputs, end.map(|()| apart))
@@ -293,16 +290,11 @@ pub fn keep_file<S: System>(
     ensures { (wanted : List ℕ) → IfOk bytes (λ bytes. bytes.items ≡ wanted)
         → IsFileWritten S.received (name_of out.entry) wanted result.0 result.1 }
 {
-    let Some(
-        OutFile {
-            name,
-            mut file,
-            held: _,
-        },
-    ) = out
-    else {
+    let Some(OutFile { name, file, held }) = out else {
         return (None, None);
     };
+    drop(held);
+    let mut file = file;
     let end = write_new(&mut file, bytes);
     let (receipt, end) = put_written(system, file, end);
     (Some(receipt), Reason::why(alloc, Some(name), &end))
@@ -319,19 +311,11 @@ pub fn leave_file<S: System>(
         → IsFileWritten S.received (name_of out.entry) wanted result.0 result.1 }
     ensures unput { IsUnput S.received result.0 }
 {
-    let Some(
-        OutFile {
-            name,
-            file,
-            held: _,
-        },
-    ) = out
-    else {
+    let Some(OutFile { name, file, held }) = out else {
         return (None, None);
     };
+    drop(held);
     let why = io::Error::other("not written, since the record isn't kept");
-    (
-        Some(system.close(file)),
-        Some(Reason::of(alloc, name, &why)),
-    )
+    let lost = Reason::of(alloc, name, &why);
+    (Some(system.close(file)), Some(lost))
 }

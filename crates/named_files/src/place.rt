@@ -2,7 +2,7 @@
 
 ghost use Rattle.std.specs.Prelude.{◌↔◌, ℕ, List, Option, IfOk, IsTrue};
 ghost use Rattle.named_files.specs.declared.place.Place.{Place};
-ghost use Rattle.named_files.specs.Apart.{AreOneFile, IsDevice};
+ghost use Rattle.named_files.specs.DistinctFiles.{AreOneFile, IsDevice};
 
 use std::alloc::AllocError;
 use std::fs;
@@ -66,7 +66,7 @@ impl Places for HostRuntime {
 /// The number that Linux gives to the null device.
 const NULL_DEVICE: u64 = 0x103;
 
-/// How many links are followed, one behind another.
+/// How many links are followed, one after another.
 const MAX_LINKS: usize = 40;
 
 /// Where a name leads, by links too.

@@ -5,7 +5,7 @@ ghost use Rattle.refusals.specs.declared.refusal.Refusal.TheVariants.{NoMemory, 
 ghost use Rattle.drive_answers.specs.Ways.{unopened_ways};
 
 use crossbar::{Chip, Direction};
-use drive_answers::{PortFailure, PortFile, PortNames, PortWays, Ports};
+use drive_answers::{PortFailure, PortFile, PortNames, PortTrace, Ports};
 use refusals::{PortName, Refusal};
 use std::fs::{OpenFile, OpenOptions};
 use std::io::ErrorKind;
@@ -22,7 +22,7 @@ pub struct HostPorts<'a, R> {
     is_piped: bool,
     is_piped_b: bool,
     failure: Option<PortFailure>,
-    ways: PortWays,
+    ways: PortTrace,
 }
 
 impl<'a, R> Model for HostPorts<'a, R> {
@@ -43,7 +43,7 @@ impl<'a, R> HostPorts<'a, R> {
             is_piped: false,
             is_piped_b: false,
             failure: None,
-            ways: PortWays::none(),
+            ways: PortTrace::none(),
         }
     }
 
@@ -58,11 +58,8 @@ impl<'a, R> HostPorts<'a, R> {
             (true, Direction::Sent) => PortFile::In,
             (true, Direction::Heard) => PortFile::Out,
         };
-        PortFailure {
-            port,
-            file,
-            why: fault.why,
-        }
+        let why = fault.why;
+        PortFailure { port, file, why }
     }
 }
 
@@ -90,26 +87,11 @@ fn open_device<R: Files>(rt: &R, name: &str) -> io::Result<SwitchStream<R::File,
     Ok(SwitchStream { reader, writer })
 }
 
-/// A port that was opened.
-#[derive(Drop)]
-struct Opened<F> {
-    stream: SwitchStream<F, F>,
-    /// Whether it is two pipes.
-    is_piped: bool,
-}
+/// The streams of a port that was opened, and whether it is two pipes.
+type Opened<F> = (SwitchStream<F, F>, bool);
 
 /// A file of a port that couldn't be opened, and why.
-#[derive(Drop)]
-struct Unopened {
-    file: PortFile,
-    why: io::Error,
-}
-
-impl Unopened {
-    fn of(file: PortFile, why: io::Error) -> Unopened {
-        Unopened { file, why }
-    }
-}
+type Unopened = (PortFile, io::Error);
 
 /// The pipes that a port may be, by their names, and whether they are there.
 #[derive(Drop)]
@@ -147,36 +129,23 @@ impl Pipes {
 
     /// Opens both, that to the switch first.
     fn open<R: AllocGlobal + Files>(&self, rt: &R) -> Result<Opened<R::File>, Unopened> {
-        let writer = match open_to(rt, self.to.as_str()) {
-            Ok(writer) => writer,
-            Err(why) => return Err(Unopened::of(PortFile::In, why)),
-        };
-        match OpenOptions::new().read(true).open(rt, self.from.as_str()) {
-            Ok(reader) => Ok(Opened {
-                stream: SwitchStream { reader, writer },
-                is_piped: true,
-            }),
-            Err(why) => Err(Unopened::of(PortFile::Out, why)),
-        }
+        let writer = open_to(rt, self.to.as_str()).map_err(|why| (PortFile::In, why))?;
+        let reader = OpenOptions::new().read(true).open(rt, self.from.as_str());
+        let reader = reader.map_err(|why| (PortFile::Out, why))?;
+        Ok((SwitchStream { reader, writer }, true))
     }
 }
 
 /// Opens both ways of a port: `NAME.in` to the switch, and then `NAME.out` from it, where both are
 /// there; else `NAME` both to read and to write. Nothing is made, and nothing emptied.
 fn open_port<R: AllocGlobal + Files>(rt: &R, name: &str) -> Result<Opened<R::File>, Unopened> {
-    let pipes = match Pipes::of(rt, name) {
-        Ok(pipes) => pipes,
-        Err(why) => return Err(Unopened::of(PortFile::Port, why)),
-    };
+    let pipes = Pipes::of(rt, name).map_err(|why| (PortFile::Port, why))?;
     if pipes.has_to && pipes.has_from {
         return pipes.open(rt);
     }
     match open_device(rt, name) {
-        Ok(stream) => Ok(Opened {
-            stream,
-            is_piped: false,
-        }),
-        Err(why) => Err(Unopened::of(pipes.lacking(&why), why)),
+        Ok(stream) => Ok((stream, false)),
+        Err(why) => Err((pipes.lacking(&why), why)),
     }
 }
 
@@ -188,10 +157,8 @@ impl<'a, R: AllocGlobal + Files> HostPorts<'a, R> {
     {
         match open_port(self.rt, name) {
             Ok(opened) => Ok(opened),
-            Err(unopened) if unopened.why.kind() == ErrorKind::OutOfMemory => {
-                Err(Refusal::NoMemory)
-            }
-            Err(Unopened { file, why }) => {
+            Err((_, why)) if why.kind() == ErrorKind::OutOfMemory => Err(Refusal::NoMemory),
+            Err((file, why)) => {
                 self.failure = Some(PortFailure { port, file, why });
                 Err(Refusal::Port(port))
             }
@@ -205,18 +172,18 @@ impl<'a, R: AllocGlobal + Files> Ports for HostPorts<'a, R> {
     ghost ways = { λ ports. ports };
 
     fn open(&mut self, names: PortNames<'_>) -> Result<StreamPort<R::File, R::File>, Refusal> {
-        let a = self.open_one(PortName::A, names.port)?;
-        self.is_piped = a.is_piped;
+        let (a, is_piped) = self.open_one(PortName::A, names.port)?;
+        self.is_piped = is_piped;
         let b = match names.port_b {
             Some(name) => {
-                let opened = self.open_one(PortName::B, name)?;
-                self.is_piped_b = opened.is_piped;
-                Some(opened.stream)
+                let (b, is_piped_b) = self.open_one(PortName::B, name)?;
+                self.is_piped_b = is_piped_b;
+                Some(b)
             }
             None => None,
         };
         self.ways.open(names);
-        Ok(StreamPort::new(a.stream, b))
+        Ok(StreamPort::new(a, b))
     }
 
     fn take_failure(&mut self) -> Option<PortFailure> {

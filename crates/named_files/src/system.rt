@@ -1,11 +1,11 @@
 //! What the program asks of the system by name.
 
 ghost use Rattle.std.specs.Prelude.{◌≡◌, ◌≤◌, ℕ, false, is_ok, length, take, List, [], Some, IfOk, OnOk, OnErr};
-ghost use Rattle.named_files.specs.Apart.{IsWrittenOf};
+ghost use Rattle.named_files.specs.DistinctFiles.{IsWrittenOf};
 ghost use Rattle.named_files.specs.Streams.{Closed, IsLeftOf, gone_to};
 
-use crate::apart::Apart;
 use crate::client_streams::ClientFiles;
+use crate::distinct_files::DistinctFiles;
 use crate::place::Places;
 use std::io;
 use std::io::Write;
@@ -38,12 +38,12 @@ pub trait System: Places + ClientFiles + Sync {
     fn read(&self, name: &str) -> io::Result<Vec<u8>>
         ensures { IfOk result (λ bytes. holds self.now name.now bytes.items) };
 
-    /// Opens the file of this name, to be written behind what it holds, and reads that. It is made
+    /// Opens the file of this name, to be written after what it holds, and reads that. It is made
     /// where it isn't there. A device or a pipe holds nothing. With `syncs` each flush waits until
     /// the disk has what was written. It was looked before that the job's files are apart.
     fn open_record(
         &self,
-        apart: &Apart,
+        apart: &DistinctFiles,
         name: &str,
         syncs: bool,
     ) -> io::Result<(Self::Stream, Vec<u8>)>
@@ -54,12 +54,12 @@ pub trait System: Places + ClientFiles + Sync {
     /// Opens a new file, to be written and put in the place of the file of this name, which is as
     /// it was until then. A device or a pipe of this name is opened itself. The new file is none
     /// of the job's files, of which it was looked before that they are apart.
-    fn open_new(&self, apart: &Apart, name: &str) -> io::Result<Self::Stream>
+    fn open_new(&self, apart: &DistinctFiles, name: &str) -> io::Result<Self::Stream>
         requires { IsWrittenOf apart.now name.now }
         ensures { IfOk result (λ stream.
             gone_to name.now (Self.Stream.contents stream) ≡ Some []) };
 
-    /// Cuts off what a file holds behind so many bytes.
+    /// Cuts off what a file holds after so many bytes.
     fn cut(&self, stream: &mut Self::Stream, held: &[u8], kept: usize) -> io::Result<()>
         requires held { (name : List ℕ)
             × (gone_to name (Self.Stream.contents stream.old) ≡ Some held.now) }

@@ -36,7 +36,7 @@ module _ {W : Type 0} (carried : W → List ℕ) (wire wire_then : W) (end end_t
       let front : IsBrokenOff carried (take n message) [] wire wire_then end end_then = subst (λ (xs : List ℕ). IsBrokenOff carried (take n xs) [] wire wire_then end end_then) e b in
       subst (λ (xs : List ℕ). IsBrokenOff carried xs reply wire wire_then end end_then) (take-append-drop n message) (within_front (take n message) (drop n message) reply front)
 
-  -- it failed behind a proper front of the message
+  -- it failed after a proper front of the message
   pub after_front : (n : ℕ) (bytes message reply : List ℕ) → bytes ≡ message → n < length message → carried wire_then ≡ carried wire ++ take n bytes → end_then.taken ≡ end.taken ++ take n bytes → IsBrokenOff carried message reply wire wire_then end end_then
   after_front n bytes message reply e h carries takes =
       let same : take n bytes ≡ take n message = ap (take n) e in

@@ -21,7 +21,7 @@ abbrev pub IsMessage : Message → Type 0
 IsMessage (Poke address word) = (address < 2 ^ 32) × (word < 2 ^ 32)
 IsMessage (Peek address) = address < 2 ^ 32
 
--- less than a whole message: nothing, or the control byte of one and fewer bytes behind it than the
+-- less than a whole message: nothing, or the control byte of one and fewer bytes after it than the
 -- message has
 abbrev pub IsPartial : List ℕ → Type 0
 IsPartial [] = Unit {0}

@@ -2,7 +2,7 @@
 use Rattle.std.specs.Prelude.{ℕ, ◌≡◌, ◌<◌, List, ◌++◌, length, take}
 use Rattle.peek_poke.specs.Messages.{Pending}
 
--- only a proper front of the bytes has come behind those before
+-- only a proper front of the bytes has come after those before
 abbrev pub IsCut : List ℕ → List ℕ → List ℕ → Type 0
 IsCut bytes old new = (count : ℕ) × (count < length bytes) × (new ≡ old ++ take count bytes)
 

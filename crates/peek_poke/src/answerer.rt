@@ -79,7 +79,7 @@ impl Answerer {
     /// A message takes effect at its last byte; until then its bytes do nothing. A control byte
     /// above [`PEEK`] is answered `Boot` at once; an address that the store refuses is answered
     /// `Misaligned` or `Outside` at the last byte of its message. A fault leaves the store as it
-    /// is, and every byte behind it is answered `Failed`.
+    /// is, and every byte after it is answered `Failed`.
     #[inline]
     pub fn feed<S: WordStore>(
         &mut self,
@@ -138,7 +138,7 @@ impl Answerer {
         }
     }
 
-    /// Takes a byte that its message goes on behind, as [`feed`](Answerer::feed) does: `count`
+    /// Takes a byte that its message goes on after, as [`feed`](Answerer::feed) does: `count`
     /// bytes of the message came before it. The number is handed in so that the compiler knows
     /// where the byte stands.
     #[inline]

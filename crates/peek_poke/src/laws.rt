@@ -2,7 +2,7 @@
 
 ghost use Rattle.peek_poke.specs.Laws.{OthersAreOutside, WordsAreRead, WordsAreWritten, OneReading};
 
-/// A text is that of one list of messages and less than a whole message behind them, at most.
+/// A text is that of one list of messages and less than a whole message after them, at most.
 pub fn one_reading()
     ensures { OneReading }
 {}

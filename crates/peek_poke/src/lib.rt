@@ -4,7 +4,7 @@
 //! [`poke_bytes`] and [`peek_bytes`] are `spell` of `specs/Messages.antt`. A text is that of one
 //! list of messages at most (`laws::one_reading`). [`Answerer::feed`] does to a store what these
 //! messages say, each at its last byte (`Feeds` of `specs/Effects.antt`). It refuses just a control
-//! byte above that of a peek, a message that the store refuses, and each byte behind a fault. Then
+//! byte above that of a peek, a message that the store refuses, and each byte after a fault. Then
 //! the store stays as it was. A module, a bay, a block of the rest and a held block are stores
 //! ([`WordStore`]): words stand at their addresses (`laws::blocks`), and only modules and bays take
 //! writes.

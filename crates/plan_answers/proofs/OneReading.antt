@@ -15,7 +15,7 @@ use Rattle.refusals.specs.declared.refusal.Refusal.TheVariants.{ScheduleLine, No
 use Rattle.refusals.specs.Sources.{of_batch, of_schedule}
 use Rattle.plan_answers.specs.Texts.{AreTexts, IsTextWrong, batch_wrong, schedule_wrong}
 
--- a fault of the schedule text behind a batch text is what is first wrong
+-- a fault of the schedule text after a batch text is what is first wrong
 pub schedule_at_fault : (shape : Extent) (batch schedule : List ℕ) (ts : List Transfer) → Denotes shape batch ts → (fault : ScheduleFault) → IsFaultOf schedule fault → of_schedule fault ≢ NoMemory → IsTextWrong shape batch schedule (of_schedule fault)
 schedule_at_fault shape batch schedule ts denotes (schedule_fault.Line n) bad real = schedule_wrong ts n denotes bad refl
 schedule_at_fault shape batch schedule ts denotes schedule_fault.NoMemory bad real = absurd (real refl)

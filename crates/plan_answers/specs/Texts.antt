@@ -18,7 +18,7 @@ pub record AreTexts (shape : Extent) (batch schedule : List ℕ) (transfers : Li
   pub batch_read : Denotes shape batch transfers
   pub schedule_read : Says schedule (said settings certificate)
 
--- what is first wrong with the texts: the first fault of the batch text, or behind that the first
+-- what is first wrong with the texts: the first fault of the batch text, or after that the first
 -- line at fault of the schedule text
 pub data IsTextWrong (shape : Extent) (batch schedule : List ℕ) (refusal : Refusal) : Type 0 where
   batch_wrong : (fault : BatchFault) → IsFirstFault shape batch fault

@@ -50,7 +50,7 @@ impl Scheduled {
     /// wrong.
     ///
     /// The batch text is looked at first, against the shape. A text of a schedule is looked at
-    /// behind it, and then faults of its settings, in the order of
+    /// after it, and then faults of its settings, in the order of
     /// [`CheckFault`](link_graph::CheckFault); it may have a certificate that is wrong, or none. A
     /// plain plan is made by so many workers. All else takes time that grows with the lengths of
     /// the texts.

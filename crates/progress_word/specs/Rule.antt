@@ -37,7 +37,7 @@ all_parts (v ∷ views) = v.parts + all_parts views
 
 -- ---- the rule
 
--- the word isn't behind what was seen, and what was seen isn't behind what was raised; and a view
+-- the word isn't after what was seen, and what was seen isn't after what was raised; and a view
 -- without a part is absorbed
 pub record IsBelow (word : ℕ) (v : View) : Type 0 where
   pub seen : v.seen ≤ word

@@ -7,7 +7,7 @@
 //!
 //! The rule of the word is `HasRule` of `specs/Rule.antt`. It holds once the word is made, and
 //! after each load, raise, split and join (`laws::rule`). [`ProgressWord::load`] answers nothing
-//! behind what the watcher has seen. After [`ProgressWord::raise`] the watcher has seen the value
+//! after what the watcher has seen. After [`ProgressWord::raise`] the watcher has seen the value
 //! or more. A new watcher of [`ProgressWord::split`] has seen as much and raised nothing.
 //! [`ProgressWord::join`] adds up the parts of two, and keeps the greater of what they saw and
 //! raised.

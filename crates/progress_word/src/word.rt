@@ -58,7 +58,7 @@ impl ProgressWord {
         Ok((ProgressWord { table }, Watcher { seat }))
     }
 
-    /// The word as it is now, which isn't behind what was seen. One atomic load.
+    /// The word as it is now, which isn't after what was seen. One atomic load.
     pub fn load(&self, watcher: &mut Watcher) -> u64
         requires { IsAt self.now watcher.old }
         ensures watcher { watcher.new ≡

@@ -19,7 +19,7 @@ use Rattle.steady_schedule.specs.Needs.{setting_at}
 use Rattle.rack_answers.specs.Switching.{lines_for, settings_bytes_text}
 
 -- By this traffic of so many settings each switch was sent, setting by setting, the bytes that a
--- text tells for it, and behind them the enquiries of all outputs.
+-- text tells for it, and after them the enquiries of all outputs.
 pub record TellsSent (wide : Bool) (count : ℕ) (told : List ℕ) (passed : List Passing) : Type 0 where
   pub commands : ℕ → Wiring → List Command
   pub lines : told ≡ flat_map (λ k. lines_for wide k (commands k)) (range_with_len 0 count)

@@ -35,7 +35,7 @@ bytes_text bytes = flat_map (λ byte. codes " " ++ hex2 byte) bytes
 abbrev pub setting_head : ℕ → List ℕ
 setting_head setting = codes "setting " ++ decimal setting
 
--- that, behind it the name of a switch where the rack has two, and the bytes of the commands that
+-- that, after it the name of a switch where the rack has two, and the bytes of the commands that
 -- this switch is sent
 abbrev pub switch_line : ℕ → List ℕ → List Command → List ℕ
 switch_line setting name commands =
@@ -79,7 +79,7 @@ TellsSwitch board wide batch settings printed =
 -- Those of a schedule from this source, or a refusal, each under its status. Of a board all links
 -- that the batch needs are there, and the lines are those of its wiring, whatever free links stand
 -- in it for what is left out. Another rack has two switches if that is said, or if the batch needs
--- them. What isn't there is refused behind faults of the batch's text, and before those of a
+-- them. What isn't there is refused after faults of the batch's text, and before those of a
 -- schedule.
 pub data IsSwitched (source : Source (List ℕ)) (has_two : Bool) (board : Option Board)
     (batch : List ℕ) (printed : Printed) : Type 0 where

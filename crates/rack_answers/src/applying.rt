@@ -1,5 +1,5 @@
 //! The command `apply`. It runs nothing: an image and a batch of which no transfers overlap have
-//! one image behind them, whichever way the blocks go.
+//! one image after them, whichever way the blocks go.
 
 ghost use Rattle.std.specs.Prelude.{◌≢◌, IfOk, IfErr, Some};
 ghost use Rattle.batch.specs.Overlap.{IsApart};

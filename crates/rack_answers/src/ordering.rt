@@ -35,7 +35,7 @@ fn orders_answer(
 /// The answer of `exchange orders`: what each module does in the settings of a schedule of the
 /// batch that the text denotes, as [`RackOrders::write`](module_orders::RackOrders::write) puts it;
 /// or the refusal of what is first wrong, as [`Scheduled::read`](plan_answers::Scheduled::read)
-/// looks at it. Behind all that a batch is refused of which two transfers write one block.
+/// looks at it. After all that a batch is refused of which two transfers write one block.
 ///
 /// The batch is read against the widest shape. Where one module is asked for, it alone is told, if
 /// it has orders. So many workers make a plain plan. Takes time that grows with the lengths of the

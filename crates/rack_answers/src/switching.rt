@@ -157,14 +157,14 @@ fn switch_on<R: Planner>(
 /// what is first wrong, as [`Scheduled::read`](plan_answers::Scheduled::read) looks at it. The rack
 /// of that run has two switches where that is said, or where the batch names a module above 15.
 ///
-/// A line is `setting S`, with the bytes behind it as pairs of hexadecimal digits: those of the
+/// A line is `setting S`, with the bytes after it as pairs of hexadecimal digits: those of the
 /// first setting set a switch, whatever it was, and those of each later one change the switch of
 /// the setting before. Where there are two switches, a setting has two lines, `setting S a ..` for
 /// the switch of the way forth and `setting S b ..` for that of the way back. The batch is read
 /// against the widest shape. So many workers make a plain plan.
 ///
 /// Where there is a text of a board's wiring, the links are those of this wiring, and all goes to
-/// the board's one switch, whatever is said. That text is looked at first. Behind the batch it is
+/// the board's one switch, whatever is said. That text is looked at first. After the batch it is
 /// looked for its first transfer that names a module that the board hasn't, or needs a link that it
 /// hasn't.
 pub fn answer_switch<R: Planner>(

@@ -1,11 +1,12 @@
 -- What is recorded of the books that sessions leave is replayed to what these have.
-use Rattle.std.proofs.Common.{◌≡◌, ◌⊎◌, ℕ, zero, suc, ◌+◌, ◌-◌, ◌<◌, ◌≤◌, List, [], ◌∷◌, ◌++◌, append_assoc, append-nil, length, map, All, Bool, true, false, nat_eq, Option, None, Some, refl, sym, ap, ◌∙◌, subst, arith, eqb-true, inl, inr}
+use Rattle.std.proofs.Common.{◌≡◌, ◌⊎◌, ℕ, zero, suc, ◌+◌, ◌-◌, ◌<◌, ◌≤◌, List, [], ◌∷◌, ◌++◌, append_assoc, append-nil, length, get_or, map, All, Bool, false, Option, None, Some, refl, sym, ap, ◌∙◌, subst, arith, inl, inr}
 use Rattle.std.specs.Prelude.{unwrap_or}
 use Rattle.std.specs.List.{AllByRecursion, range_with_len, sum_by}
-use Rattle.std.proofs.lemmas.Bool.{cases_lt, eqb-false}
 use Rattle.std.proofs.lemmas.List.{append_cancel_left}
-use Rattle.std.proofs.lemmas.List.Elements.{All-append, All-cons, All-from_recursion, All-nil, All-weaker, recursion_from_All}
+use Rattle.std.proofs.lemmas.List.Elements.{All-append, All-from_recursion, All-nil, All-weaker, recursion_from_All}
+use Rattle.std.proofs.lemmas.List.FromFn.{get_or-range_with_len, length-range_with_len}
 use Rattle.std.proofs.lemmas.List.Sums.{sum_by-cons}
+use Rattle.std.proofs.lemmas.Simd.{map-map}
 use Rattle.batch.specs.Extent.{Extent, IsShape}
 use Rattle.batch.specs.ShapeText.{shape_text}
 use Rattle.module_memory.specs.Images.{image_of}
@@ -25,8 +26,7 @@ use Rattle.book_record.specs.RecordText.{texts, CanSay, CanTell}
 use Rattle.book_record.specs.Fronts.{last_lines}
 use Rattle.book_record.specs.Heads.{AreNames, IsName, head_of, record_of, session_limit, whole_record}
 use Rattle.book_record.specs.Sums.{adler}
-use Rattle.book_record.proofs.Fronts.{each_front, split}
-use Rattle.book_record.proofs.OneReading.{end_is_no_entry}
+use Rattle.book_record.proofs.Fronts.{each_front, end_is_no_entry, split}
 use Rattle.book_record.proofs.Streams.{texts_both}
 use Rattle.book_record.proofs.Sums.{sum_is_word}
 use Rattle.record_replay.specs.Replays.{AreFewer, Ends, IsRemade}
@@ -92,19 +92,10 @@ own_lines : (es : List Entry) (parts : List Part) → AllByRecursion (λ p. p.as
 own_lines es [] are say = tt
 own_lines es (p ∷ parts) are say = (subst AreOfLines are.0 say.0, own_lines es parts are.1 say.1)
 
-above : (a s : ℕ) → (s ≡ a → ⊥) → a ≤ s → a + 1 ≤ s
-above a s differs le = elim (cases_lt a s) [
-  | inl less ↦ omega (arith, less)
-  | inr out ↦ absurd (differs (omega (arith, out, le)))
-]
-
-in_range_if : (Q : ℕ → Type 0) (a k s : ℕ) (b : Bool) → nat_eq s a ≡ b → Q a → (a + 1 ≤ s → Q s) → a ≤ s → Q s
-in_range_if Q a k s true at first rest le = subst Q (sym (eqb-true s a at)) first
-in_range_if Q a k s false at first rest le = let differs = eqb-false s a at in rest (above a s differs le)
-
-in_range : (Q : ℕ → Type 0) (a k s : ℕ) → AllByRecursion Q (range_with_len a k) → a ≤ s → s < a + k → Q s
-in_range Q a zero s all le less = let never : ⊥ = omega (arith, le, less) in absurd never
-in_range Q a (suc k) s all le less = in_range_if Q a k s (nat_eq s a) refl all.0 (λ up. in_range Q (a + 1) k s all.1 up (omega (arith, less))) le
+in_range : (Q : ℕ → Type 0) (n s : ℕ) → AllByRecursion Q (range_with_len 0 n) → s < n → Q s
+in_range Q n s all less =
+    let at : get_or (range_with_len 0 n) s 0 ≡ s = omega (arith, get_or-range_with_len 0 n s 0 less) in
+    subst Q at (All-from_recursion Q (range_with_len 0 n) all s 0 (omega (arith, less, length-range_with_len 0 n)))
 
 -- all entries are those of sessions that are numbered from 0
 parts_total : (es : List Entry) (parts : List Part) (n : ℕ) → HasAllEntries parts es → AreParts parts es → map session_of parts ≡ range_with_len 0 n → sum_by (λ s. length (own s es)) (range_with_len 0 n) ≡ length es
@@ -112,16 +103,15 @@ parts_total es parts n counted have numbers =
     subst (λ (ns : List ℕ). sum_by (λ s. length (own s es)) ns ≡ length es) numbers (own_total es parts (recursion_from_All (λ p. p.asked ≡ own p.session es) parts have) ∙ sym counted)
 
 each_below : (n limit : ℕ) (es : List Entry) → n ≤ limit → AllByRecursion (λ e. e.session < n) es → All (IsBelow limit) es
-each_below n limit [] few each = All-nil (IsBelow limit)
-each_below n limit (e ∷ es) few each = let less = each.0 in All-cons (IsBelow limit) e es (omega (arith, less, few)) (each_below n limit es few each.1)
+each_below n limit es few each = All-weaker (λ e. e.session < n) (IsBelow limit) (λ e less. omega (arith, less, few)) es (All-from_recursion (λ e. e.session < n) es each)
 
--- a record can tell what such sessions asked, behind other entries
+-- a record can tell what such sessions asked, after other entries
 parts_told : SessionsAreTold → (opening : Store) (earlier es : List Entry) (mid end : Machine) (parts : List Part) (n : ℕ) → IsReplay (opened opening) earlier mid → IsReplay mid es end → HasAllEntries parts es → AreParts parts es → AreUnstopped es
     → map session_of parts ≡ range_with_len 0 n → n ≤ 1000000000 → OfLines parts → All CanTell es
 parts_told tell opening earlier es mid end parts n before legal counted have unstopped numbers few say =
     let are = recursion_from_All (λ p. p.asked ≡ own p.session es) parts have in
     let lines : AllByRecursion (λ s. AreOfLines (own s es)) (range_with_len 0 n) = subst (AllByRecursion (λ s. AreOfLines (own s es))) numbers (own_lines es parts are say) in
-    tell opening earlier es mid end n before legal (parts_total es parts n counted have numbers) (omega (arith, few)) (λ s less. in_range (λ s. AreOfLines (own s es)) 0 n s lines (omega arith) (omega (arith, less))) unstopped
+    tell opening earlier es mid end n before legal (parts_total es parts n counted have numbers) (omega (arith, few)) (λ s less. in_range (λ s. AreOfLines (own s es)) n s lines less) unstopped
 
 -- ---- the whole history
 
@@ -143,7 +133,7 @@ all_below limit loses opening earlier parts left n one before numbers few =
 all_led : (loses : Bool) (opening : Store) (earlier : List Entry) (parts : List Part) (left : Account) → HaveOneHistory loses opening earlier parts left → IsReplay (opened left.opening) left.history left.machine
 all_led loses opening earlier parts left one = subst (λ (s : Store). IsReplay (opened s) left.history left.machine) (sym one.is_opening) one.replay
 
--- ---- what stands behind the head
+-- ---- what stands after the head
 
 -- the first entries of the book's history are made again, all that stand among them, and then the
 -- record ends
@@ -304,10 +294,6 @@ scripts_say : SessionsSay → (b : Beginning) (scripts : List (List ℕ)) (sessi
 scripts_say law b scripts [] valid each = tt
 scripts_say law b scripts (t ∷ sessions) valid each = (served_say law b (Some each.0.0) (Some each.0.1) t valid each.0.3, scripts_say law b scripts sessions valid each.1)
 
-script_numbers : (sessions : List Transcript) → map session_of (map (λ t. t.part) sessions) ≡ map (λ t. t.part.session) sessions
-script_numbers [] = refl
-script_numbers (t ∷ sessions) = ap (λ (ns : List ℕ). t.part.session ∷ ns) (script_numbers sessions)
-
 one_book : (a b : Account) → Some a ≡ Some b → b ≡ a
 one_book a b is = sym (ap (λ (o : Option Account). unwrap_or o a) is)
 
@@ -318,7 +304,7 @@ serve_is_replayed law tell shape image scripts printed book (served opening rack
     let begun = beginning false (new_account opening) in
     let left = all.2 in
     subst (λ (a : Account). IsReplayedTo shape image a.opening a.history (whole_record [] a.opening a.history)) (one_book book left all.3)
-    (kept_replayed tell shape image opening parts _ _ printed left (length scripts) rack all.5 (script_numbers sessions ∙ all.1.numbers) (omega (arith, few))
+    (kept_replayed tell shape image opening parts _ _ printed left (length scripts) rack all.5 (map-map session_of (λ (t : Transcript). t.part) sessions ∙ all.1.numbers) (omega (arith, few))
     (scripts_say law begun scripts sessions (rack_blocks shape image opening rack).0 (recursion_from_All (HasItsScript begun scripts) sessions all.1.each)))
 serve_is_replayed law tell shape image scripts printed book (refused _ _ _ is) few = absurd cc
 
@@ -333,15 +319,11 @@ hosts_say : SessionsSay → (b : Beginning) (g : KnownClients) (sessions : List 
 hosts_say law b g [] valid each = tt
 hosts_say law b g (v ∷ sessions) valid each = (hosted_say law b g v.part v.end valid each.0, hosts_say law b g sessions valid each.1)
 
-host_numbers : (sessions : List HostedSession) → map session_of (map (λ v. v.part) sessions) ≡ map (λ v. v.part.session) sessions
-host_numbers [] = refl
-host_numbers (v ∷ sessions) = ap (λ (ns : List ℕ). v.part.session ∷ ns) (host_numbers sessions)
-
 pub host_is_replayed : SessionsSay → SessionsAreTold → HostIsReplayed
 host_is_replayed law tell shape image loses was left g ends printed names file rack are on all few r =
     let sessions = all.0 in
     let begun = beginning loses was in
-    closing_replayed tell shape image loses was left (map (λ (v : HostedSession). v.part) sessions) _ _ printed names file g.clients rack are on all.3 r (host_numbers sessions ∙ all.2.numbers) few
+    closing_replayed tell shape image loses was left (map (λ (v : HostedSession). v.part) sessions) _ _ printed names file g.clients rack are on all.3 r (map-map session_of (λ (v : HostedSession). v.part) sessions ∙ all.2.numbers) few
     (hosts_say law begun g sessions (begins_with_shape (length names) was loses on (rack_blocks shape image was.opening rack).0) (recursion_from_All (λ v. IsHostedSession begun g v.part v.end) sessions all.2.each))
 
 -- one session always has a number

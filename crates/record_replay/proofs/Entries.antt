@@ -1,5 +1,5 @@
 -- One entry of a record, made again.
-use Rattle.std.proofs.Common.{◌≡◌, ◌≢◌, ℕ, ◌+◌, ◌<◌, List, [], ◌∷◌, ◌++◌, ◌-◌, drop, length, All, true, false, Bool, Option, None, Some, refl, sym, ap, ◌∙◌, append_assoc, append-nil, subst, arith}
+use Rattle.std.proofs.Common.{◌≡◌, ℕ, ◌+◌, ◌<◌, List, [], ◌∷◌, ◌++◌, ◌-◌, drop, length, All, true, false, Bool, Option, None, Some, refl, sym, ap, ◌∙◌, append_assoc, append-nil, subst, arith}
 use Rattle.std.specs.Prelude.{if◌then◌else◌, option_map, unwrap_or}
 use Rattle.std.proofs.lemmas.Bool.{false≢true}
 use Rattle.std.proofs.lemmas.List.{drop_at, length-append}
@@ -24,7 +24,6 @@ use Rattle.batch_book.specs.Told.{PlanlessCall}
 use Rattle.batch_book.specs.Told.{told}
 use Rattle.book_record.specs.RecordText.{id_of, call_text, reply_text, entry_text, texts, CanSay, CanBeReplied, CanTell}
 use Rattle.record_replay.specs.declared.fault.RecordError.{RecordError}
-use Rattle.record_replay.specs.declared.fault.RecordFault.TheVariants as fault
 use Rattle.book_record.proofs.Streams.{texts_append}
 use Rattle.book_record.specs.Fronts.{IsSummed, last_lines}
 use Rattle.book_record.specs.Sums.{sum_at, sum_line, summed}
@@ -35,9 +34,7 @@ use Rattle.record_replay.specs.Replays.{AreFewer, IsPlanFor, HasOwnPlanIn, GoesO
 
 settle_at_no_stranger : (m : Machine) (id : ℕ) (plan : Plan) (s : Stage) → (settle_at m id plan s).0 ≡ Refused Stranger → ⊥
 settle_at_no_stranger m id plan stage.Waiting e = absurd cc
-settle_at_no_stranger m id plan (stage.Planned other) e = absurd cc
-settle_at_no_stranger m id plan stage.Ran e = absurd cc
-settle_at_no_stranger m id plan stage.Stopped e = absurd cc
+settle_at_no_stranger m id plan s e = absurd cc
 
 settle_if_no_stranger : (m : Machine) (id : ℕ) (plan : Plan) (h : KeptBatch) (b : Bool) → same_transfers h.batch plan.batch ≡ b → plan.batch ≡ h.batch → (if b then settle_at m id plan h.stage else refuse m Stranger).0 ≡ Refused Stranger → ⊥
 settle_if_no_stranger m id plan h true same own e = settle_at_no_stranger m id plan h.stage e

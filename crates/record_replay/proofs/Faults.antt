@@ -9,18 +9,16 @@ use Rattle.batch_book.specs.Machine.{Machine, opened, IsMachineStep}
 use Rattle.batch_book.specs.History.{IsReplay, entry}
 use Rattle.batch_book.specs.Told.{told}
 use Rattle.book_record.specs.RecordText.{id_of, call_text, reply_text, entry_lines, entry_text, texts, CanTell}
-use Rattle.book_record.specs.Sums.{sum_at, numbered, sum_line}
+use Rattle.book_record.specs.Sums.{sum_at, sum_line}
 use Rattle.book_record.specs.Untold.{told_entry}
 use Rattle.book_record.proofs.Alike.{Alike}
 use Rattle.book_record.proofs.Records.{IsFit, GoesOn, due_of, fit_along, fit_at_first, goes_on, one_asked}
 use Rattle.book_record.specs.Fronts.{IsSummed, IsTorn, end_line, last_lines}
 use Rattle.book_record.specs.Reading.{BeginsWithNoEntry}
-use Rattle.book_record.proofs.Fronts.{first_text, never, one_summed}
+use Rattle.book_record.proofs.Fronts.{end_is_no_entry, first_digit, first_text, never, one_summed}
 use Rattle.book_record.proofs.Marks.{end_unmarked, told_unmarked}
-use Rattle.book_record.proofs.OneReading.{end_is_no_entry, first_digit}
 use Rattle.record_replay.proofs.Parts.{IsBelow, both_parts}
 use Rattle.record_replay.specs.declared.fault.RecordFault.{RecordFault}
-use Rattle.record_replay.specs.declared.fault.RecordFault.TheVariants as fault
 use Rattle.record_replay.specs.Replays.{AreFewer, Ends, IsOtherReply, IsRecordFault, IsRemade, IsReplayed, IsWrongAt, damaged, no_call, other_reply, more_after}
 
 -- ---- lines and their sums
@@ -32,7 +30,7 @@ its_sum : (n : ℕ) (e : Entry) (text z : List ℕ) → CanTell e → text ≡ e
 its_sum n e text z can is = record { none = told_unmarked e can; front = is }
 
 end_sum : (n : ℕ) (text z : List ℕ) → text ≡ last_lines n ++ z → IsSummed n text (end_line n) z
-end_sum n text z is = record { none = end_unmarked (numbered n); front = is }
+end_sum n text z is = record { none = end_unmarked n; front = is }
 
 whole_end : (n : ℕ) (text : List ℕ) → text ≡ last_lines n → IsSummed n text (end_line n) []
 whole_end n text is = end_sum n text [] (is ∙ sym (append-nil (last_lines n)))
@@ -99,8 +97,8 @@ inside_by limit n (e ∷ es) end mid b last y some alike fit fit_mid each below 
     stops mid e led.0 (texts (suc n) es ++ y) alike fit fit_mid (All-head CanTell e es each) (All-head (IsBelow limit) e es below) led.1 (is ∙ first_text n e es y)
 
 -- those after the first
-below_behind : (limit : ℕ) (fs front after : List Entry) → fs ≡ front ++ after → All (IsBelow limit) fs → All (IsBelow limit) after
-below_behind limit fs front after are below = (both_parts (IsBelow limit) front after (subst (All (IsBelow limit)) are below)).1
+below_after : (limit : ℕ) (fs front after : List Entry) → fs ≡ front ++ after → All (IsBelow limit) fs → All (IsBelow limit) after
+below_after limit fs front after are below = (both_parts (IsBelow limit) front after (subst (All (IsBelow limit)) are below)).1
 
 -- ---- two readings of a text
 
@@ -117,7 +115,7 @@ inside : (limit : ℕ) (text : List ℕ) (opening : Store) (es fs : List Entry) 
 inside limit text opening es fs a b x y all p q less stops =
     let go = goes limit text opening es fs a b x y all p q (omega (arith, less)) in
     inside_by limit (length es) go.more a go.mid b x y (omega (arith, less, ap length go.list, length-append go.front go.more, go.counted)) go.alike (fit_along (opened opening) es a (fit_at_first opening all) p.replay) go.fit go.each
-    (below_behind limit fs go.front go.more go.list q.sessions) go.replay (go.rest ∙ ap (λ (n : ℕ). texts n go.more ++ y) (from_zero (length es))) stops
+    (below_after limit fs go.front go.more go.list q.sessions) go.replay (go.rest ∙ ap (λ (n : ℕ). texts n go.more ++ y) (from_zero (length es))) stops
 
 -- where both have as many entries, these differ in plans alone, one rest is left, and so do the
 -- machines

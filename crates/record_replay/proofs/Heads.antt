@@ -36,7 +36,7 @@ same_shape e f apart is =
     let same : not (eqb e.modules f.modules && (eqb e.blocks f.blocks && eqb e.words f.words)) ≡ false = rw modules (rw blocks (rw words refl)) in
     absurd cc
 
--- what stands behind the head is no more than the record
+-- what stands after the head is no more than the record
 pub body_within : (opening : Store) (recorded body : List ℕ) (limit : ℕ) → IsRecordOn opening recorded body limit → length body ≤ length recorded
 body_within opening recorded body limit on = omega (arith, ap length on.head, length-append (head_of opening.shape (adler (image_of opening)) on.names) body)
 

@@ -1,8 +1,10 @@
 -- The transfers of a batch that is kept under a number stay the same.
-use Rattle.std.proofs.Common.{◌≡◌, ℕ, ◌+◌, ◌<◌, ◌≤◌, List, [], ◌∷◌, ◌++◌, length, Bool, true, false, cond, nat_eq, nat_lt, if◌then◌else◌, Option, None, Some, refl, sym, ap, ◌∙◌, subst, arith, eqb-true, eq-eqb}
+use Rattle.std.proofs.Common.{◌≡◌, ℕ, ◌+◌, ◌≤◌, List, [], ◌∷◌, inl, inr, length, Bool, true, false, cond, nat_eq, nat_lt, if◌then◌else◌, Option, None, Some, refl, sym, ap, ◌∙◌, subst, arith, eq-eqb}
 use Rattle.std.specs.Prelude.{unwrap_or}
-use Rattle.std.proofs.lemmas.Bool.{false≢true}
+use Rattle.std.specs.List.{AllByRecursion}
+use Rattle.std.proofs.lemmas.Bool.{cases_eq, ne_eqb}
 use Rattle.std.specs.Map.{lookup, set_value, remove_entry}
+use Rattle.client_session.proofs.Lists.{every-push, every_both}
 use Rattle.batch.specs.declared.transfer.Transfer.{Transfer}
 use Rattle.batch.specs.Equal.{same_transfers}
 use Rattle.module_memory.specs.Address.{fault_of}
@@ -24,199 +26,147 @@ use Rattle.batch_book.specs.Machine.{Machine, kept_batch, batch_of, staged, set_
 abbrev pub Batches : Type 0
 Batches = List (ℕ × KeptBatch)
 
--- ---- the numbers rise
-
--- the numbers rise from above the one to the other at most
-abbrev pub Rise : ℕ → Batches → ℕ → Type 0
-Rise low [] high = low ≤ high
-Rise low (e ∷ es) high = (low < e.0) × Rise e.0 es high
-
-lower : (a b : ℕ) (es : Batches) (high : ℕ) → Rise a es high → b ≤ a → Rise b es high
-lower a b [] high rise le = omega (arith, rise, le)
-lower a b (e ∷ es) high rise le = (omega (arith, rise.0, le), rise.1)
-
-at_most : (low : ℕ) (es : Batches) (high : ℕ) → Rise low es high → low ≤ high
-at_most low [] high rise = rise
-at_most low (e ∷ es) high rise = omega (arith, rise.0, at_most e.0 es high rise.1)
-
-rise_pushed : (low : ℕ) (es : Batches) (high : ℕ) (h : KeptBatch) → Rise low es high → Rise low (es ++ (high + 1, h) ∷ []) (high + 1)
-rise_pushed low [] high h rise = (omega (arith, rise), omega arith)
-rise_pushed low (e ∷ es) high h rise = (rise.0, rise_pushed e.0 es high h rise.1)
-
-rise_set_if : (low : ℕ) (e : ℕ × KeptBatch) (es ys : Batches) (high : ℕ) (w : KeptBatch) → Rise low (e ∷ es) high → Rise e.0 ys high → (b : Bool) → Rise low (cond b ((e.0, w) ∷ es) (e ∷ ys)) high
-rise_set_if low e es ys high w rise rest true = (rise.0, rise.1)
-rise_set_if low e es ys high w rise rest false = (rise.0, rest)
-
-rise_set : (t : ℕ → Bool) (low : ℕ) (es : Batches) (high : ℕ) (w : KeptBatch) → Rise low es high → Rise low (set_value t es w) high
-rise_set t low [] high w rise = rise
-rise_set t low (e ∷ es) high w rise = rise_set_if low e es (set_value t es w) high w rise (rise_set t e.0 es high w rise.1) (t e.0)
-
-rise_removed_if : (low : ℕ) (e : ℕ × KeptBatch) (es ys : Batches) (high : ℕ) → Rise low (e ∷ es) high → Rise e.0 ys high → (b : Bool) → Rise low (cond b es (e ∷ ys)) high
-rise_removed_if low e es ys high rise rest true = lower e.0 low es high rise.1 (omega (arith, rise.0))
-rise_removed_if low e es ys high rise rest false = (rise.0, rest)
-
-rise_removed : (t : ℕ → Bool) (low : ℕ) (es : Batches) (high : ℕ) → Rise low es high → Rise low (remove_entry t es) high
-rise_removed t low [] high rise = rise
-rise_removed t low (e ∷ es) high rise = rise_removed_if low e es (remove_entry t es) high rise (rise_removed t e.0 es high rise.1) (t e.0)
-
--- ---- one number has one batch
-
--- what is kept under the number has these transfers
-abbrev pub HasOnly : ℕ → List Transfer → Batches → Type 0
-HasOnly id batch [] = Unit {0}
-HasOnly id batch (e ∷ es) = (e.0 ≡ id → e.1.batch ≡ batch) × HasOnly id batch es
+-- so it is of each number and its transfers
+abbrev pub Each : (ℕ → List Transfer → Type 0) → Batches → Type 0
+Each P es = AllByRecursion (λ e. P e.0 e.1.batch) es
 
 one_of : (a b : KeptBatch) → Some a ≡ Some b → a ≡ b
 one_of a b is = ap (λ (o : Option KeptBatch). unwrap_or o a) is
 
-only_pushed : (id : ℕ) (batch : List Transfer) (es : Batches) (x : ℕ × KeptBatch) → HasOnly id batch es → (x.0 ≡ id → x.1.batch ≡ batch) → HasOnly id batch (es ++ x ∷ [])
-only_pushed id batch [] x only f = (f, tt)
-only_pushed id batch (e ∷ es) x only f = (only.0, only_pushed id batch es x only.1 f)
+by_test : (P : Batches → Type 0) (xs ys : Batches) (b : Bool) → (b ≡ true → P xs) → (b ≡ false → P ys) → P (cond b xs ys)
+by_test P xs ys true is_so not_so = is_so refl
+by_test P xs ys false is_so not_so = not_so refl
 
-only_set_if : (id : ℕ) (batch : List Transfer) (e : ℕ × KeptBatch) (es ys : Batches) (o : Option KeptBatch) (h w : KeptBatch) → HasOnly id batch (e ∷ es) → w.batch ≡ h.batch → (o ≡ Some h → HasOnly id batch ys)
-    → (b : Bool) → cond b (Some e.1) o ≡ Some h → HasOnly id batch (cond b ((e.0, w) ∷ es) (e ∷ ys))
-only_set_if id batch e es ys o h w only same f true found = ((λ at. same ∙ sym (ap (λ (k : KeptBatch). k.batch) (one_of e.1 h found)) ∙ only.0 at), only.1)
-only_set_if id batch e es ys o h w only same f false found = (only.0, f found)
+removed : (P : ℕ → List Transfer → Type 0) (t : ℕ → Bool) (es : Batches) → Each P es → Each P (remove_entry t es)
+removed P t [] all = tt
+removed P t (e ∷ es) all = by_test (Each P) es (e ∷ remove_entry t es) (t e.0) (λ _. all.1) (λ _. (all.0, removed P t es all.1))
 
-only_set : (id : ℕ) (batch : List Transfer) (t : ℕ → Bool) (es : Batches) (h w : KeptBatch) → HasOnly id batch es → w.batch ≡ h.batch → lookup t es ≡ Some h → HasOnly id batch (set_value t es w)
-only_set id batch t [] h w only same found = tt
-only_set id batch t (e ∷ es) h w only same found =
-    only_set_if id batch e es (set_value t es w) (lookup t es) h w only same (λ f. only_set id batch t es h w only.1 same f) (t e.0) found
+replaced : (P : ℕ → List Transfer → Type 0) (t : ℕ → Bool) (es : Batches) (h w : KeptBatch) → w.batch ≡ h.batch → lookup t es ≡ Some h → Each P es → Each P (set_value t es w)
+replaced P t [] h w same is all = tt
+replaced P t (e ∷ es) h w same is all =
+    by_test (Each P) ((e.0, w) ∷ es) (e ∷ set_value t es w) (t e.0)
+    (λ is_so. (subst (P e.0) (ap (λ (k : KeptBatch). k.batch) (one_of e.1 h (rw is_so at is)) ∙ sym same) all.0, all.1)) (λ not_so. (all.0, replaced P t es h w same (rw not_so at is) all.1))
 
-only_removed_if : (id : ℕ) (batch : List Transfer) (e : ℕ × KeptBatch) (es ys : Batches) → HasOnly id batch (e ∷ es) → HasOnly id batch ys → (b : Bool) → HasOnly id batch (cond b es (e ∷ ys))
-only_removed_if id batch e es ys only rest true = only.1
-only_removed_if id batch e es ys only rest false = (only.0, rest)
-
-only_removed : (id : ℕ) (batch : List Transfer) (t : ℕ → Bool) (es : Batches) → HasOnly id batch es → HasOnly id batch (remove_entry t es)
-only_removed id batch t [] only = tt
-only_removed id batch t (e ∷ es) only = only_removed_if id batch e es (remove_entry t es) only (only_removed id batch t es only.1) (t e.0)
-
-none_above : (id low : ℕ) (batch : List Transfer) (es : Batches) (high : ℕ) → Rise low es high → id ≤ low → HasOnly id batch es
-none_above id low batch [] high rise le = tt
-none_above id low batch (e ∷ es) high rise le = ((λ same. let never : ⊥ = omega (arith, rise.0, le, same) in absurd never), none_above id e.0 batch es high rise.1 (omega (arith, rise.0, le)))
-
--- what is found under a number is all that there is under it, and the number is no greater than the last
-found_if : (id low : ℕ) (e : ℕ × KeptBatch) (es : Batches) (high : ℕ) (h : KeptBatch) → Rise low (e ∷ es) high → (lookup (nat_eq id) es ≡ Some h → HasOnly id h.batch es × (id ≤ high))
-    → (b : Bool) → nat_eq id e.0 ≡ b → cond b (Some e.1) (lookup (nat_eq id) es) ≡ Some h → HasOnly id h.batch (e ∷ es) × (id ≤ high)
-found_if id low e es high h rise f true at found =
-    let same : id ≡ e.0 = eqb-true id e.0 at in
-    (((λ _. ap (λ (k : KeptBatch). k.batch) (one_of e.1 h found)), none_above id e.0 h.batch es high rise.1 (omega (arith, same))), omega (arith, same, at_most e.0 es high rise.1))
-found_if id low e es high h rise f false at found =
-    let rest = f found in
-    (((λ same. absurd (false≢true (sym at ∙ eq-eqb id e.0 (sym same)))), rest.0), rest.1)
-
-pub found_only : (id low : ℕ) (es : Batches) (high : ℕ) (h : KeptBatch) → Rise low es high → lookup (nat_eq id) es ≡ Some h → HasOnly id h.batch es × (id ≤ high)
-found_only id low [] high h rise found = absurd cc
-found_only id low (e ∷ es) high h rise found = found_if id low e es high h rise (λ f. found_only id e.0 es high h rise.1 f) (nat_eq id e.0) refl found
-
-only_found_if : (id : ℕ) (batch : List Transfer) (e : ℕ × KeptBatch) (es : Batches) (h : KeptBatch) → HasOnly id batch (e ∷ es) → (lookup (nat_eq id) es ≡ Some h → h.batch ≡ batch)
-    → (b : Bool) → nat_eq id e.0 ≡ b → cond b (Some e.1) (lookup (nat_eq id) es) ≡ Some h → h.batch ≡ batch
-only_found_if id batch e es h only f true at found = sym (ap (λ (k : KeptBatch). k.batch) (one_of e.1 h found)) ∙ only.0 (sym (eqb-true id e.0 at))
-only_found_if id batch e es h only f false at found = f found
-
-pub only_found : (id : ℕ) (batch : List Transfer) (es : Batches) (h : KeptBatch) → HasOnly id batch es → lookup (nat_eq id) es ≡ Some h → h.batch ≡ batch
-only_found id batch [] h only found = absurd cc
-only_found id batch (e ∷ es) h only found = only_found_if id batch e es h only (λ f. only_found id batch es h only.1 f) (nat_eq id e.0) refl found
+pub found : (P : ℕ → List Transfer → Type 0) (id : ℕ) (es : Batches) (h : KeptBatch) → Each P es → lookup (nat_eq id) es ≡ Some h → P id h.batch
+found P id [] h all is = absurd cc
+found P id (e ∷ es) h all is = elim (cases_eq id e.0) [
+  | inl same ↦ subst (λ (n : ℕ). P n h.batch) (sym same) (subst (P e.0) (ap (λ (k : KeptBatch). k.batch) (one_of e.1 h (rw (eq-eqb id e.0 same) at is))) all.0)
+  | inr other ↦ found P id es h all.1 (rw (ne_eqb id e.0 other) at is)
+]
 
 -- ---- steps
 
+-- under the number these transfers are kept, if any
+abbrev pub IsOnly : ℕ → List Transfer → ℕ → List Transfer → Type 0
+IsOnly id batch n other = n ≡ id → other ≡ batch
+
+-- no number is above the last that was given, and under each just some transfers are kept
 abbrev pub AreNumbered : Machine → Type 0
-AreNumbered m = Rise 0 m.batches m.given
+AreNumbered m = Each (λ n batch. n ≤ m.given) m.batches × ((id : ℕ) → (batch : List Transfer) × Each (IsOnly id batch) m.batches)
 
 -- this is all that the number was given to
 abbrev pub Holds : Machine → ℕ → List Transfer → Type 0
-Holds m id batch = (id ≤ m.given) × HasOnly id batch m.batches
+Holds m id batch = (id ≤ m.given) × Each (IsOnly id batch) m.batches
+
+pub holds_found : (m : Machine) (id : ℕ) (h : KeptBatch) → AreNumbered m → lookup (nat_eq id) m.batches ≡ Some h → Holds m id h.batch
+holds_found m id h numbered is =
+    let only = numbered.1 id in
+    let same = found (IsOnly id only.0) id m.batches h only.1 is refl in
+    (found (λ n batch. n ≤ m.given) id m.batches h numbered.0 is, subst (λ (b : List Transfer). Each (IsOnly id b) m.batches) (sym same) only.1)
 
 -- what the one holds the other holds
 abbrev pub Keeps : Machine → Machine → Type 0
 Keeps m n = AreNumbered n × ((id : ℕ) (batch : List Transfer) → Holds m id batch → Holds n id batch)
 
--- no batch and no number is another
-same_batches : (m n : Machine) → AreNumbered m → n.batches ≡ m.batches → n.given ≡ m.given → Keeps m n
-same_batches m n numbered batches given = (
-  subst (λ (k : ℕ). Rise 0 n.batches k) (sym given) (subst (λ (l : Batches). Rise 0 l m.given) (sym batches) numbered),
-  λ id batch holds. (subst (λ (k : ℕ). id ≤ k) (sym given) holds.0, subst (HasOnly id batch) (sym batches) holds.1),
-)
-
-same : (m n : Machine) → AreNumbered m → n ≡ m → Keeps m n
-same m n numbered is = same_batches m n numbered (ap (λ (x : Machine). x.batches) is) (ap (λ (x : Machine). x.given) is)
+stays : (m n : Machine) → AreNumbered m → n ≡ m → Keeps m n
+stays m n numbered is = subst (Keeps m) (sym is) (numbered, λ id batch holds. holds)
 
 gives : (m n : Machine) (a : Reply × Machine) (r : Reply) → Keeps m a.1 → Gives a r n → Keeps m n
 gives m n a r keeps is = subst (Keeps m) (sym is.1) keeps
 
-staged_keeps : (m : Machine) (id : ℕ) (s : Stage) (o : Option KeptBatch) → lookup (nat_eq id) m.batches ≡ o → AreNumbered m → (runs : ℕ) (store : Store)
-    → Keeps m (record { batches = staged id s m.batches o; given = m.given; runs = runs; store = store })
-staged_keeps m id s None found numbered runs store = (numbered, (λ j batch holds. holds))
-staged_keeps m id s (Some h) found numbered runs store = (
-  rise_set (nat_eq id) 0 m.batches m.given (kept_batch h.owner h.batch s) numbered,
-  λ j batch holds. (holds.0, only_set j batch (nat_eq id) m.batches h (kept_batch h.owner h.batch s) holds.1 refl found),
+-- no number is given
+keeps_each : (m : Machine) (batches : Batches) (runs : ℕ) (store : Store) → AreNumbered m → ((P : ℕ → List Transfer → Type 0) → Each P m.batches → Each P batches)
+    → Keeps m (record { batches = batches; given = m.given; runs = runs; store = store })
+keeps_each m batches runs store numbered f = (
+  (f (λ n batch. n ≤ m.given) numbered.0, λ id. let only = numbered.1 id in (only.0, f (IsOnly id only.0) only.1)),
+  λ id batch holds. (holds.0, f (IsOnly id batch) holds.1),
 )
+
+staged_each : (P : ℕ → List Transfer → Type 0) (id : ℕ) (s : Stage) (es : Batches) (o : Option KeptBatch) → lookup (nat_eq id) es ≡ o → Each P es → Each P (staged id s es o)
+staged_each P id s es None is all = all
+staged_each P id s es (Some h) is all = replaced P (nat_eq id) es h (kept_batch h.owner h.batch s) refl is all
 
 staging : (m : Machine) (id : ℕ) (s : Stage) → AreNumbered m → (runs : ℕ) (store : Store) → Keeps m (record { batches = set_stage id s m.batches; given = m.given; runs = runs; store = store })
-staging m id s numbered runs store = staged_keeps m id s (lookup (nat_eq id) m.batches) refl numbered runs store
+staging m id s numbered runs store = keeps_each m (set_stage id s m.batches) runs store numbered (λ P all. staged_each P id s m.batches (lookup (nat_eq id) m.batches) refl all)
+
+pushed : (P : ℕ → List Transfer → Type 0) (m : Machine) (session : ℕ) (batch : List Transfer) → Each P m.batches → P (m.given + 1) batch → Each P (accept m session batch).1.batches
+pushed P m session batch all here = every-push (λ (e : ℕ × KeptBatch). P e.0 e.1.batch) m.batches (m.given + 1, kept_batch session batch stage.Waiting) all here
+
+weaker : (P : ℕ → List Transfer → Type 0) (m : Machine) → AreNumbered m → ((n : ℕ) (batch : List Transfer) → n ≤ m.given → P n batch) → Each P m.batches
+weaker P m numbered f =
+    let few = λ (e : ℕ × KeptBatch). e.0 ≤ m.given in
+    every_both few few (λ (e : ℕ × KeptBatch). P e.0 e.1.batch) m.batches (λ e le again. f e.0 e.1.batch le) numbered.0 numbered.0
+
+pushed_only : (m : Machine) (session : ℕ) (batch : List Transfer) (id : ℕ) → AreNumbered m → (some : List Transfer) × Each (IsOnly id some) (accept m session batch).1.batches
+pushed_only m session batch id numbered =
+    let old = numbered.1 id in
+    elim (cases_eq id (m.given + 1)) [
+      | inl last ↦ (batch, pushed (IsOnly id batch) m session batch (weaker (IsOnly id batch) m numbered (λ n other le at. absurd (omega (arith, le, at, last)))) (λ at. refl))
+      | inr other ↦ (old.0, pushed (IsOnly id old.0) m session batch old.1 (λ at. absurd (other (sym at))))
+    ]
 
 submitted : (m : Machine) (session : ℕ) (batch : List Transfer) (b : Bool) → AreNumbered m → Keeps m (if b then accept m session batch else refuse m BookFull).1
+submitted m session batch false numbered = stays m m numbered refl
 submitted m session batch true numbered = (
-  rise_pushed 0 m.batches m.given (kept_batch session batch stage.Waiting) numbered,
-  λ id old holds. (
-    omega (arith, holds.0),
-    only_pushed id old m.batches (m.given + 1, kept_batch session batch stage.Waiting) holds.1 (λ at. let never : ⊥ = omega (arith, holds.0, at) in absurd never),
-  ),
+  (pushed (λ n some. n ≤ m.given + 1) m session batch (weaker (λ n some. n ≤ m.given + 1) m numbered (λ n some le. omega (arith, le))) (omega arith), λ id. pushed_only m session batch id numbered),
+  λ id old holds. (omega (arith, holds.0), pushed (IsOnly id old) m session batch holds.1 (λ at. absurd (omega (arith, holds.0, at)))),
 )
-submitted m session batch false numbered = same m m numbered refl
 
 fetched : (m : Machine) (o : Option KeptBatch) → AreNumbered m → Keeps m (fetch m o).1
-fetched m None numbered = same m m numbered refl
-fetched m (Some h) numbered = same m m numbered refl
+fetched m None numbered = stays m m numbered refl
+fetched m (Some h) numbered = stays m m numbered refl
 
 settled_at : (m : Machine) (id : ℕ) (plan : Plan) (s : Stage) → AreNumbered m → Keeps m (settle_at m id plan s).1
 settled_at m id plan stage.Waiting numbered = staging m id (stage.Planned plan) numbered m.runs m.store
-settled_at m id plan (stage.Planned other) numbered = same m m numbered refl
-settled_at m id plan stage.Ran numbered = same m m numbered refl
-settled_at m id plan stage.Stopped numbered = same m m numbered refl
+settled_at m id plan s numbered = stays m m numbered refl
 
 settled_if : (m : Machine) (id : ℕ) (plan : Plan) (s : Stage) (b : Bool) → AreNumbered m → Keeps m (if b then settle_at m id plan s else refuse m Stranger).1
 settled_if m id plan s true numbered = settled_at m id plan s numbered
-settled_if m id plan s false numbered = same m m numbered refl
+settled_if m id plan s false numbered = stays m m numbered refl
 
 settled : (m : Machine) (id : ℕ) (plan : Plan) (o : Option KeptBatch) → AreNumbered m → Keeps m (settle m id plan o).1
-settled m id plan None numbered = same m m numbered refl
+settled m id plan None numbered = stays m m numbered refl
 settled m id plan (Some h) numbered = settled_if m id plan h.stage (same_transfers h.batch plan.batch) numbered
 
 shown : (m : Machine) (o : Option KeptBatch) → AreNumbered m → Keeps m (show m o).1
-shown m None numbered = same m m numbered refl
-shown m (Some h) numbered = same m m numbered refl
+shown m None numbered = stays m m numbered refl
+shown m (Some h) numbered = stays m m numbered refl
 
 discarded : (m : Machine) (id : ℕ) (o : Option KeptBatch) → AreNumbered m → Keeps m (discard m id o).1
-discarded m id None numbered = same m m numbered refl
-discarded m id (Some h) numbered = (
-  rise_removed (nat_eq id) 0 m.batches m.given numbered,
-  λ j batch holds. (holds.0, only_removed j batch (nat_eq id) m.batches holds.1),
-)
+discarded m id None numbered = stays m m numbered refl
+discarded m id (Some h) numbered = keeps_each m (remove_entry (nat_eq id) m.batches) m.runs m.store numbered (λ P all. removed P (nat_eq id) m.batches all)
 
 peeked : (m : Machine) (mo ad : ℕ) (f : Option MemoryFault) → AreNumbered m → Keeps m (peek_unless f m mo ad).1
-peeked m mo ad None numbered = same m m numbered refl
-peeked m mo ad (Some f) numbered = same m m numbered refl
+peeked m mo ad None numbered = stays m m numbered refl
+peeked m mo ad (Some f) numbered = stays m m numbered refl
 
 poked : (m : Machine) (mo ad w : ℕ) (f : Option MemoryFault) → AreNumbered m → Keeps m (poke_unless f m mo ad w).1
-poked m mo ad w None numbered = same_batches m (poke_unless None m mo ad w).1 numbered refl refl
-poked m mo ad w (Some f) numbered = same m m numbered refl
+poked m mo ad w None numbered = stays m m numbered refl
+poked m mo ad w (Some f) numbered = stays m m numbered refl
 
 run_of : (m : Machine) (id : ℕ) (plan : Plan) (r : Reply) (n : Machine) → AreNumbered m → IsRunOf m id plan r n → Keeps m n
-run_of m id plan (reply.RunRefused (run_refusal.Overlap i j)) n numbered is = same m n numbered is.1
-run_of m id plan (reply.RunRefused run_refusal.Shape) n numbered is = same m n numbered is.2
+run_of m id plan (reply.RunRefused (run_refusal.Overlap i j)) n numbered is = stays m n numbered is.1
+run_of m id plan (reply.RunRefused run_refusal.Shape) n numbered is = stays m n numbered is.2
 run_of m id plan (reply.Ran run settings words) n numbered is = subst (Keeps m) (sym is.2) (staging m id stage.Ran numbered (m.runs + 1) n.store)
 run_of m id plan (reply.Stopped run setting cause moved) n numbered is = subst (Keeps m) (sym is.2) (staging m id stage.Stopped numbered (m.runs + 1) n.store)
 run_of m id plan r n numbered is = absurd is
 
 run_at : (m : Machine) (id : ℕ) (s : Stage) (r : Reply) (n : Machine) → AreNumbered m → IsRunAt m id s r n → Keeps m n
-run_at m id stage.Waiting r n numbered is = same m n numbered is.1
 run_at m id (stage.Planned plan) r n numbered is = run_of m id plan r n numbered is
-run_at m id stage.Ran r n numbered is = same m n numbered is.1
-run_at m id stage.Stopped r n numbered is = same m n numbered is.1
+run_at m id s r n numbered is = stays m n numbered is.1
 
 run : (m : Machine) (id : ℕ) (o : Option KeptBatch) (r : Reply) (n : Machine) → AreNumbered m → IsRunStep m id o r n → Keeps m n
-run m id None r n numbered is = same m n numbered is.1
+run m id None r n numbered is = stays m n numbered is.1
 run m id (Some h) r n numbered is = run_at m id h.stage r n numbered is
 
 pub step_keeps : (m : Machine) (session : ℕ) (c : Call) (r : Reply) (n : Machine) → AreNumbered m → IsMachineStep m session c r n → Keeps m n

@@ -24,7 +24,7 @@ use Rattle.plan_answers.specs.Refusals.{Printed, Refuses, IsRefused}
 use Rattle.plan_answers.proofs.Printing.{printed_same, refused_same}
 use Rattle.record_replay.specs.declared.answering.Replayed.{Replayed}
 use Rattle.record_replay.specs.declared.answering.Torn.{Torn}
-use Rattle.record_replay.specs.ReplayAnswers.{HasHead, IsBehindHead, IsHeadDue, IsOnlyTold, IsRecordAnswer, IsRecordOn, IsReplayAnswer, IsReplayPrinted, IsShapeOf, IsTornSo, RefusesHead, of_record, told_of, led, record_wrong, replayed, no_head, rack_wrong, other_head}
+use Rattle.record_replay.specs.ReplayAnswers.{HasHead, IsAfterHead, IsHeadDue, IsOnlyTold, IsRecordAnswer, IsRecordOn, IsReplayAnswer, IsReplayPrinted, IsShapeOf, IsTornSo, RefusesHead, of_record, told_of, led, record_wrong, replayed, no_head, rack_wrong, other_head}
 
 -- ---- the head
 
@@ -64,7 +64,7 @@ same_told f g fault offset due = cc
 same_offset : (text : List ℕ) (i j : ℕ) → i ≤ length text → j ≤ length text → drop i text ≡ drop j text → i ≡ j
 same_offset text i j below under same = omega (arith, below, under, ap length same, length-drop i text, length-drop j text)
 
-one_error : (limit : ℕ) (opening : Store) (body : List ℕ) (first : Option ℕ) (head : ℕ) (f g s t : RecordError) → HasAllBlocks opening → IsRecordError limit body opening first f → IsRecordError limit body opening first g → IsBehindHead head f s → IsBehindHead head g t
+one_error : (limit : ℕ) (opening : Store) (body : List ℕ) (first : Option ℕ) (head : ℕ) (f g s t : RecordError) → HasAllBlocks opening → IsRecordError limit body opening first f → IsRecordError limit body opening first g → IsAfterHead head f s → IsAfterHead head g t
     → (f.fault ≡ g.fault) × (told_of (Some s) ≡ told_of (Some t))
 one_error limit opening body first head f g s t all wrong too moved moved_too =
     let one = one_fault limit opening body first f.fault g.fault _ _ _ _ all wrong.wrong too.wrong in

@@ -1,5 +1,5 @@
--- Where plans are settled right behind the fetching of their batches, none is another's.
-use Rattle.std.proofs.Common.{◌≡◌, ◌≢◌, ℕ, List, [], ◌∷◌, length, Bool, true, false, cond, nat_eq, nat_lt, if◌then◌else◌, ◌==◌, Option, None, Some, refl, sym, ap, ◌∙◌, subst, eq-eqb, arith}
+-- Where plans are settled right after the fetching of their batches, none is another's.
+use Rattle.std.proofs.Common.{◌≡◌, ◌≢◌, ℕ, List, [], ◌∷◌, length, Bool, true, false, cond, nat_eq, nat_lt, if◌then◌else◌, ◌==◌, Option, None, Some, refl, sym, ap, ◌∙◌, subst, eq-eqb}
 use Rattle.std.specs.List.{AllByRecursion}
 use Rattle.std.specs.Map.{lookup}
 use Rattle.std.proofs.lemmas.List.Elements.{All-from_recursion}
@@ -24,7 +24,7 @@ use Rattle.record_replay.specs.Replays.{IsPlanFor}
 use Rattle.record_replay.proofs.Entries.{no_stranger}
 use Rattle.record_replay.specs.Fetched.{fetched_by, SettlesFetched, SettleFetched}
 use Rattle.record_replay.specs.SessionLaws.{NoStrangers}
-use Rattle.record_replay.proofs.Kept.{AreNumbered, Holds, Keeps, found_only, only_found, step_keeps}
+use Rattle.record_replay.proofs.Kept.{AreNumbered, Holds, IsOnly, Keeps, found, holds_found, step_keeps}
 
 -- ---- what was fetched
 
@@ -51,8 +51,7 @@ batch_in_reply r = []
 fetched_from : (m n : Machine) (session id : ℕ) (batch : List Transfer) (o : Option KeptBatch) → batch_of m session id ≡ o → AreNumbered m → reply.Fetched batch ≡ (fetch m o).0 → Holds m id batch
 fetched_from m n session id batch None at numbered is = absurd cc
 fetched_from m n session id batch (Some h) at numbered is =
-    let only = found_only id 0 m.batches m.given h numbered (owned_found session (lookup (nat_eq id) m.batches) h at) in
-    subst (Holds m id) (sym (ap batch_in_reply is)) (only.1, only.0)
+    subst (Holds m id) (sym (ap batch_in_reply is)) (holds_found m id h numbered (owned_found session (lookup (nat_eq id) m.batches) h at))
 
 after_fetch : (m n : Machine) (session : ℕ) (c : Call) (r : Reply) → AreNumbered m → IsMachineStep m session c r n → HoldsFetched n (fetched_by c r)
 after_fetch m n session (Fetch id) (reply.Fetched batch) numbered step =
@@ -88,8 +87,7 @@ poke_no m mo ad w (Some f) is = absurd cc
 run_at_no : (m : Machine) (id : ℕ) (s : Stage) (n : Machine) → IsRunAt m id s (reply.Refused Stranger) n → ⊥
 run_at_no m id stage.Waiting n is = let never : reply.Refused Stranger ≡ reply.Refused Unplanned = is.0 in absurd cc
 run_at_no m id (stage.Planned plan) n is = is
-run_at_no m id stage.Ran n is = let never : reply.Refused Stranger ≡ reply.Refused Already = is.0 in absurd cc
-run_at_no m id stage.Stopped n is = let never : reply.Refused Stranger ≡ reply.Refused Already = is.0 in absurd cc
+run_at_no m id s n is = let never : reply.Refused Stranger ≡ reply.Refused Already = is.0 in absurd cc
 
 run_no : (m : Machine) (id : ℕ) (o : Option KeptBatch) (n : Machine) → IsRunStep m id o (reply.Refused Stranger) n → ⊥
 run_no m id None n is = let never : reply.Refused Stranger ≡ reply.Refused Unknown = is.0 in absurd cc
@@ -97,7 +95,7 @@ run_no m id (Some h) n is = run_at_no m id h.stage n is
 
 own_plan : (m : Machine) (session id : ℕ) (batch : List Transfer) (o : Option KeptBatch) → batch_of m session id ≡ o → Holds m id batch → (plan : Plan) → plan.batch ≡ batch → IsPlanFor plan o
 own_plan m session id batch None at holds plan same = tt
-own_plan m session id batch (Some h) at holds plan same = same ∙ sym (only_found id batch m.batches h holds.1 (owned_found session (lookup (nat_eq id) m.batches) h at))
+own_plan m session id batch (Some h) at holds plan same = same ∙ sym (found (IsOnly id batch) id m.batches h holds.1 (owned_found session (lookup (nat_eq id) m.batches) h at) refl)
 
 settle_no : (m n : Machine) (session : ℕ) (c : Call) (last : Option (ℕ × List Transfer)) → HoldsFetched m last → SettlesFetched last c → IsMachineStep m session c (reply.Refused Stranger) n → ⊥
 settle_no m n session (Settle id plan) None holds settles step = settles
@@ -155,4 +153,4 @@ numbered_along m (e ∷ es) n numbered led = numbered_along led.0 es n (step_kee
 pub no_strangers : NoStrangers
 no_strangers opening earlier es mid end before led settle =
     All-from_recursion (λ e. e.reply ≢ reply.Refused Stranger) es
-    (none_strange mid es end (λ s. None) (numbered_along (opened opening) earlier mid (omega arith) before) (λ s. tt) settle led)
+    (none_strange mid es end (λ s. None) (numbered_along (opened opening) earlier mid (tt, λ id. ([], tt)) before) (λ s. tt) settle led)

@@ -15,12 +15,13 @@ use Rattle.batch_book.specs.History.{entry}
 use Rattle.batch_book.specs.Replies.{is_logged}
 use Rattle.batch_book.specs.Told.{told}
 use Rattle.book_record.specs.RecordText.{CanSay}
+use Rattle.client_session.proofs.Lists.{every_append}
 use Rattle.client_session.specs.Commands.{Means}
 use Rattle.client_session.specs.Seats.{SeatView, logged}
 use Rattle.client_session.specs.Sessions.{IsSession, added_entries, lost_entries}
 use Rattle.client_session.specs.Turns.{Answer, LostTurn, Turn, IsBegun, IsLostTurn, IsTurn, DoesCommand, Submits, Settles, Plans, TellsReply}
 use Rattle.client_session.specs.declared.command.SessionCommand.{SessionCommand}
-use Rattle.client_session.specs.declared.command.SessionCommand.TheVariants.{Batch, Plan as PlanOf, Run, Show, Drop, Peek, Poke, Progress, Bye}
+use Rattle.client_session.specs.declared.command.SessionCommand.TheVariants.{Batch, Plan as PlanOf, Run, Show, Drop, Peek, Poke, Progress}
 use Rattle.client_session.specs.declared.fault.ServeFault.TheVariants.{Record, Write}
 use Rattle.record_replay.specs.Fetched.{fetched_by, SettlesFetched, SettleFetched, AreOfLines}
 use Rattle.record_replay.specs.SessionLaws.{SessionsSay}
@@ -39,18 +40,14 @@ Said es = Say es × ((last : Last) → SettleFetched last es)
 nothing : Said []
 nothing = (tt, (λ last. tt))
 
--- ---- one entry behind others
-
-say_append : (xs ys : List Entry) → Say xs → Say ys → Say (xs ++ ys)
-say_append [] ys one other = other
-say_append (x ∷ xs) ys one other = (one.0, say_append xs ys one.1 other)
+-- ---- one entry after others
 
 settle_append : (last : Last) (xs ys : List Entry) → SettleFetched last xs → ((next : Last) → SettleFetched next ys) → SettleFetched last (xs ++ ys)
 settle_append last [] ys one other = other last
 settle_append last (x ∷ xs) ys one other = (one.0, settle_append (fetched_by x.call x.reply) xs ys one.1 other)
 
 said_append : (xs ys : List Entry) → Said xs → Said ys → Said (xs ++ ys)
-said_append xs ys one other = (say_append xs ys one.0 other.0, (λ last. settle_append last xs ys (one.1 last) other.1))
+said_append xs ys one other = (every_append (λ e. CanSay (told e.call)) xs ys one.0 other.0, (λ last. settle_append last xs ys (one.1 last) other.1))
 
 -- ---- a call that settles nothing
 
@@ -111,7 +108,6 @@ none_said : (a b : Answer) → a ≡ b → b.entries ≡ [] → Said a.entries
 none_said a b is none = subst Said (sym (ap (λ (x : Answer). x.entries) is ∙ none)) nothing
 
 command_said : (shape : Extent) (by : ℕ) (head : List ℕ) (command : Option SessionCommand) (text : List ℕ) (a : Answer) → IsShape shape → Means head command → DoesCommand shape by command text a → Said a.entries
-command_said shape by head None text a is means does = none_said a _ does refl
 command_said shape by head (Some (Batch count)) text a is means (inl many) = none_said a _ many.1 refl
 command_said shape by head (Some (Batch count)) text a is means (inr does) = submitted shape by text a is does.1
 command_said shape by head (Some (PlanOf id)) text a is means does = planned by id a means.0 does
@@ -121,7 +117,7 @@ command_said shape by head (Some (Drop id)) text a is means does = told_said by 
 command_said shape by head (Some (Peek mo ad)) text a is means does = told_said by 0 (call.Peek mo ad) a means.0 tt does
 command_said shape by head (Some (Poke mo ad w)) text a is means does = told_said by 0 (call.Poke mo ad w) a means.0 tt does
 command_said shape by head (Some Progress) text a is means does = none_said a _ does.2 refl
-command_said shape by head (Some Bye) text a is means does = none_said a _ does refl
+command_said shape by head command text a is means does = none_said a _ does refl
 
 turns_said : (shape : Extent) (by : ℕ) (turns : List Turn) → IsShape shape → AllByRecursion (IsTurn shape by) turns → Said (added_entries turns)
 turns_said shape by [] is each = nothing
@@ -130,17 +126,9 @@ turns_said shape by (t ∷ turns) is each =
 
 -- what a command may have added before a call of it couldn't be recorded
 begun_said : (by : ℕ) (head : List ℕ) (command : Option SessionCommand) (es : List Entry) → Means head command → IsBegun by command es → Said es
-begun_said by head None es means is = subst Said (sym is) nothing
-begun_said by head (Some (Batch count)) es means is = subst Said (sym is) nothing
 begun_said by head (Some (PlanOf id)) es means (inl none) = subst Said (sym none) nothing
 begun_said by head (Some (PlanOf id)) es means (inr fetched) = subst Said (sym fetched.1) ((means.0, tt), (λ last. (settles_none last (call.Fetch id) tt, tt)))
-begun_said by head (Some (Run id)) es means is = subst Said (sym is) nothing
-begun_said by head (Some (Show id)) es means is = subst Said (sym is) nothing
-begun_said by head (Some (Drop id)) es means is = subst Said (sym is) nothing
-begun_said by head (Some (Peek mo ad)) es means is = subst Said (sym is) nothing
-begun_said by head (Some (Poke mo ad w)) es means is = subst Said (sym is) nothing
-begun_said by head (Some Progress) es means is = subst Said (sym is) nothing
-begun_said by head (Some Bye) es means is = subst Said (sym is) nothing
+begun_said by head command es means is = subst Said (sym is) nothing
 
 lost_said : (by : ℕ) (lost : List LostTurn) → AllByRecursion (IsLostTurn by) lost → Said (lost_entries lost)
 lost_said by [] each = nothing
@@ -158,9 +146,8 @@ session_said : (old new : SeatView) (turns : List Turn) (bytes rest : List ℕ) 
 session_said old new turns bytes rest entries text is session = are_of_lines entries (told_said_so old new turns bytes rest entries text is session)
 
 pub sessions_say : SessionsSay
-sessions_say None known old new bytes entries written is ended = session_said old new ended.0 bytes ended.1 entries written is ended.2
 sessions_say (Some Write) known old new bytes entries written is ended = session_said old new _ bytes ended.rest entries _ is ended.session
 sessions_say (Some Record) known old new bytes entries written is ended =
     are_of_lines entries (subst Said (sym ended.entries_are)
     (said_append ended.made (lost_entries ended.lost) (told_said_so old new _ bytes _ ended.made _ is ended.session) (lost_said old.session ended.lost ended.are_lost)))
-sessions_say (Some fault) known old new bytes entries written is ended = session_said old new ended.0 bytes ended.1 entries written is ended.2
+sessions_say fault known old new bytes entries written is ended = session_said old new ended.0 bytes ended.1 entries written is ended.2

@@ -73,7 +73,7 @@ IsTornSo recorded first entries rest (Some torn) =
     × (torn.offset ≡ length recorded - length rest)
 
 -- the error in what follows the head, as one of the whole record
-pub record IsBehindHead (head : ℕ) (error told : RecordError) : Type 0 where
+pub record IsAfterHead (head : ℕ) (error told : RecordError) : Type 0 where
   pub fault : told.fault ≡ error.fault
   pub offset : told.offset ≡ head + error.offset
   pub due : option_map (λ line. line.items) told.due
@@ -89,7 +89,7 @@ pub data IsRecordAnswer (opening : Store) (recorded body : List ℕ) (limit : �
       → replayed.error ≡ None → IsTornSo recorded first (length es) rest replayed.torn
       → IsRecordAnswer opening recorded body limit first replayed
   record_wrong : (error said : RecordError) → IsRecordError limit body opening first error
-      → IsBehindHead (length recorded - length body) error said
+      → IsAfterHead (length recorded - length body) error said
       → Refuses (of_record error.fault) replayed.answer → replayed.error ≡ Some said
       → replayed.torn ≡ None → IsRecordAnswer opening recorded body limit first replayed
 

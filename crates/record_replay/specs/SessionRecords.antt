@@ -9,8 +9,7 @@ use Rattle.batch_book.specs.History.{Account, IsReplay, Starts}
 use Rattle.batch_book.specs.Machine.{Machine, opened}
 use Rattle.book_record.specs.RecordText.{CanTell}
 use Rattle.book_record.specs.Fronts.{last_lines}
-pub use Rattle.book_record.specs.Heads.{record_of}
-use Rattle.book_record.specs.Heads.{AreNames, session_limit, whole_record}
+use Rattle.book_record.specs.Heads.{AreNames, record_of, session_limit, whole_record}
 use Rattle.book_record.specs.Streams.{IsWritten}
 use Rattle.rack_answers.specs.Openings.{IsRackOf}
 use Rattle.record_replay.specs.ReplayAnswers.{IsReplayPrinted}

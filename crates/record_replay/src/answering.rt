@@ -6,7 +6,7 @@ ghost use Rattle.plan_answers.specs.Lent.{bytes_of};
 ghost use Rattle.plan_answers.specs.Refusals.{Refuses};
 ghost use Rattle.book_record.specs.Heads.{BeginsWithNoHead};
 ghost use Rattle.record_replay.specs.Replays.{AreFewer, Ends};
-ghost use Rattle.record_replay.specs.ReplayAnswers.{IsBehindHead, IsHeadDue, IsNoRecordOn, IsOnlyTold, IsRecordAnswer, IsRecordOn, IsReplayAnswer, IsReplayPrinted, IsShapeOf, IsTornSo, RefusesHead, of_record};
+ghost use Rattle.record_replay.specs.ReplayAnswers.{IsAfterHead, IsHeadDue, IsNoRecordOn, IsOnlyTold, IsRecordAnswer, IsRecordOn, IsReplayAnswer, IsReplayPrinted, IsShapeOf, IsTornSo, RefusesHead, of_record};
 
 use crate::{RecordError, RecordFault, replay};
 use book_record::{is_torn, rack_line, read_head, session_limit, sum_of};
@@ -140,9 +140,9 @@ fn head_due(alloc: Global, rack: &Rack, recorded: &[u8]) -> Result<Option<Vec<u8
 }
 
 /// An error in what follows a head of this many bytes, as one of the whole record.
-fn behind_head(head: usize, error: RecordError) -> RecordError
+fn after_head(head: usize, error: RecordError) -> RecordError
     requires { head + error.offset < 2 ^ 64 }
-    ensures { IsBehindHead head error result }
+    ensures { IsAfterHead head error result }
 {
     RecordError {
         fault: error.fault,
@@ -189,7 +189,7 @@ fn answer_record<R: Threads + Sync>(
         }),
         Err(error) => Ok(Replayed {
             answer: Answer::refused(alloc, refusal_of(error.fault))?,
-            error: Some(behind_head(recorded.len() - body.len(), error)),
+            error: Some(after_head(recorded.len() - body.len(), error)),
             torn: None,
         }),
     }

@@ -9,7 +9,7 @@ ghost use Rattle.book_record.specs.RecordText.{CanBeReplied};
 ghost use Rattle.record_replay.specs.Replays.{IsPlanFor, HasOwnPlanIn};
 
 use batch::Batch;
-use batch_book::{Book, BookRefusal, Call, Reply, Silent, ToldCall};
+use batch_book::{Book, BookRefusal, Call, RecordedCall, Reply, Silent};
 use crossbar::MemoryPort;
 use exchange_limits::WorkerCount;
 use peek_poke::PlainWires;
@@ -56,23 +56,23 @@ pub(crate) fn call_of<R: Threads + Sync>(
     alloc: Global,
     book: &Book<Silent>,
     session: usize,
-    call: ToldCall<Batch>,
+    call: RecordedCall<Batch>,
     workers: WorkerCount,
 ) -> Result<Call, AllocError>
     ensures told { IfOk result (λ made. told made ≡ call) }
     ensures own { IfOk result (λ made. HasOwnPlanIn book.now.machine session made) }
 {
     let call = match call {
-        ToldCall::Submit(batch) => Call::Submit(batch),
-        ToldCall::Fetch(id) => Call::Fetch(id),
-        ToldCall::Settle(id) => {
+        RecordedCall::Submit(batch) => Call::Submit(batch),
+        RecordedCall::Fetch(id) => Call::Fetch(id),
+        RecordedCall::Settle(id) => {
             Call::Settle(id, plan_for(rt, alloc, book, session, id, workers)?)
         }
-        ToldCall::Run(id) => Call::Run(id),
-        ToldCall::Show(id) => Call::Show(id),
-        ToldCall::Discard(id) => Call::Discard(id),
-        ToldCall::Peek(module, address) => Call::Peek(module, address),
-        ToldCall::Poke(module, address, word) => Call::Poke(module, address, word),
+        RecordedCall::Run(id) => Call::Run(id),
+        RecordedCall::Show(id) => Call::Show(id),
+        RecordedCall::Discard(id) => Call::Discard(id),
+        RecordedCall::Peek(module, address) => Call::Peek(module, address),
+        RecordedCall::Poke(module, address, word) => Call::Poke(module, address, word),
     };
     Ok(call)
 }

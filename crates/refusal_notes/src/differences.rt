@@ -3,7 +3,6 @@
 use crate::forms::{Due, last_stop};
 use crate::lines::{first_from, line_at, number_at};
 use crate::listed::Listing;
-use crate::quote::Quote;
 use crate::wanted::Wanted;
 use batch::MAX_DIGITS;
 use c004_commands::PORTS;
@@ -46,14 +45,12 @@ fn times_in(line: &[u8], port: usize) -> usize {
 /// stands twice in it; and the number of the line that has it already.
 fn taken_by(wiring: &[u8], number: usize) -> Option<(usize, usize)> {
     let line = line_at(wiring, number);
-    for place in PORT_WORDS {
-        let Some(port) = number_at(line, place) else {
-            continue;
-        };
-        for above in 2..number {
-            if times_in(line_at(wiring, above), port) > 0 {
-                return Some((port, above));
-            }
+    for port in PORT_WORDS
+        .iter()
+        .filter_map(|place| number_at(line, *place))
+    {
+        if let Some(above) = (2..number).find(|n| times_in(line_at(wiring, *n), port) > 0) {
+            return Some((port, above));
         }
         if times_in(line, port) > 1 {
             return Some((port, number));
@@ -123,30 +120,12 @@ impl<'a> Display for Difference<'a> {
 /// Writes what these bytes begin with, where something else has to stand.
 fn write_stop<W: Write>(f: &mut Formatter<W>, due: Due, rest: &[u8]) -> fmt::Result {
     match (due, rest) {
-        (Due::Number, [b'0', ..]) => return f.write_str("a number has a leading zero"),
-        (Due::Number, [b'1'..=b'9', ..]) => {
-            return f.write_str("a number has more than nine digits");
-        }
-        (_, [b'\r']) => return f.write_str("there is a carriage return before the end of the line"),
-        (Due::Hex8, [_, ..]) => {
-            return f.write_str("eight digits 0 to 9 or a to f are expected");
-        }
-        _ => f.write_str("there is ")?,
-    }
-    match rest {
-        [] => f.write_str("the end of the line")?,
-        [b'\t', ..] => f.write_str("a tab")?,
-        [b'\r', ..] => f.write_str("a carriage return")?,
-        [b' ', ..] => f.write_str("a space")?,
-        [b'#', ..] => f.write_str("a comment")?,
-        [0xef, 0xbb, 0xbf, ..] => f.write_str("a byte order mark")?,
-        [byte, ..] => write!(f, "{}", Quote(&[*byte]))?,
-    }
-    match due {
-        Due::Byte(b' ') => f.write_str(" instead of a space"),
-        Due::Byte(byte) => write!(f, " instead of {}", Quote(&[byte])),
-        Due::Number => f.write_str(" instead of a number"),
-        Due::Hex8 => f.write_str(" instead of eight digits"),
-        Due::End => f.write_str(" instead of the end of the line"),
+        (Due::Number, [b'0', ..]) => f.write_str("a number has a leading zero"),
+        (Due::Number, [b'1'..=b'9', ..]) => f.write_str("a number has more than nine digits"),
+        (_, [b'\r']) => f.write_str("there is a carriage return before the end of the line"),
+        (Due::Hex8, [_, ..]) => f.write_str("eight digits 0 to 9 or a to f are expected"),
+        (_, []) => write!(f, "there is {} instead of {due}", Due::End),
+        (_, [0xef, 0xbb, 0xbf, ..]) => write!(f, "there is a byte order mark instead of {due}"),
+        (_, [byte, ..]) => write!(f, "there is {} instead of {due}", Due::Byte(*byte)),
     }
 }

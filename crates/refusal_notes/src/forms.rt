@@ -5,10 +5,11 @@
 //! or none, up to the line's end. `at_A` and `at_B` are `at` and a number, or `none`. Each other
 //! word is itself.
 
+use crate::quote::Quote;
 use batch::number_from_digits;
 use std::fmt::{self, Display, Formatter, Write};
 
-/// What has to stand at a byte of a line.
+/// What has to stand at a byte of a line, or stands there.
 #[derive(Clone, Copy)]
 pub(crate) enum Due {
     /// This byte.
@@ -21,11 +22,26 @@ pub(crate) enum Due {
     End,
 }
 
+impl Display for Due {
+    fn fmt<W: Write>(&self, f: &mut Formatter<W>) -> fmt::Result {
+        match *self {
+            Due::Byte(b' ') => f.write_str("a space"),
+            Due::Byte(b'\t') => f.write_str("a tab"),
+            Due::Byte(b'\r') => f.write_str("a carriage return"),
+            Due::Byte(b'#') => f.write_str("a comment"),
+            Due::Byte(byte) => Quote(&[byte]).fmt(f),
+            Due::Number => f.write_str("a number"),
+            Due::Hex8 => f.write_str("eight digits"),
+            Due::End => f.write_str("the end of the line"),
+        }
+    }
+}
+
 /// Where a line stops being of a form: what has to stand there, and what does from there on.
 pub(crate) type Stop<'a> = (Due, &'a [u8]);
 
-/// What stands behind these words, where a line begins with them.
-fn behind_words<'a>(line: &'a [u8], words: &[u8]) -> Result<&'a [u8], Stop<'a>> {
+/// What stands after these words, where a line begins with them.
+fn after_words<'a>(line: &'a [u8], words: &[u8]) -> Result<&'a [u8], Stop<'a>> {
     let mut rest = line;
     for byte in words {
         match rest {
@@ -36,8 +52,8 @@ fn behind_words<'a>(line: &'a [u8], words: &[u8]) -> Result<&'a [u8], Stop<'a>> 
     Ok(rest)
 }
 
-/// What stands behind a number.
-fn behind_number(line: &[u8]) -> Result<&[u8], Stop<'_>> {
+/// What stands after a number.
+fn after_number(line: &[u8]) -> Result<&[u8], Stop<'_>> {
     let end = line.iter().position(|b| !b.is_ascii_digit());
     let (digits, behind) = line.split_at(end.unwrap_or(line.len()));
     match number_from_digits(digits) {
@@ -46,8 +62,8 @@ fn behind_number(line: &[u8]) -> Result<&[u8], Stop<'_>> {
     }
 }
 
-/// What stands behind eight hexadecimal digits.
-fn behind_hex8(line: &[u8]) -> Result<&[u8], Stop<'_>> {
+/// What stands after eight hexadecimal digits.
+fn after_hex8(line: &[u8]) -> Result<&[u8], Stop<'_>> {
     let end = line
         .iter()
         .position(|b| !b.is_ascii_digit() && !(*b >= b'a' && *b <= b'f'));
@@ -64,19 +80,19 @@ fn stop_of_numbers(line: &[u8]) -> Result<(), Stop<'_>> {
         if rest.is_empty() {
             break;
         }
-        rest = behind_number(behind_words(rest, b" ")?)?;
+        rest = after_number(after_words(rest, b" ")?)?;
     }
     Ok(())
 }
 
-/// What stands behind a word of a form.
-fn behind_word<'a>(line: &'a [u8], word: &[u8]) -> Result<&'a [u8], Stop<'a>> {
+/// What stands after a word of a form.
+fn after_word<'a>(line: &'a [u8], word: &[u8]) -> Result<&'a [u8], Stop<'a>> {
     match (word, line) {
-        (b"at_A" | b"at_B", [b'n', ..]) => behind_words(line, b"none"),
-        (b"at_A" | b"at_B", _) => behind_number(behind_words(line, b"at ")?),
-        (b"A" | b"D", _) => behind_hex8(line),
-        (b"ID" | [b'A'..=b'z'], _) => behind_number(line),
-        _ => behind_words(line, word),
+        (b"at_A" | b"at_B", [b'n', ..]) => after_words(line, b"none"),
+        (b"at_A" | b"at_B", _) => after_number(after_words(line, b"at ")?),
+        (b"A" | b"D", _) => after_hex8(line),
+        (b"ID" | [b'A'..=b'z'], _) => after_number(line),
+        _ => after_words(line, word),
     }
 }
 
@@ -88,9 +104,9 @@ fn stop_of<'a>(line: &'a [u8], form: &str) -> Result<(), Stop<'a>> {
             return stop_of_numbers(rest);
         }
         if k > 0 {
-            rest = behind_words(rest, b" ")?;
+            rest = after_words(rest, b" ")?;
         }
-        rest = behind_word(rest, word.as_bytes())?;
+        rest = after_word(rest, word.as_bytes())?;
     }
     match rest {
         [] => Ok(()),
@@ -112,19 +128,14 @@ pub(crate) fn last_stop<'a>(line: &'a [u8], forms: &str) -> Option<Stop<'a>> {
     last
 }
 
-/// Some forms, as they are told.
-#[derive(Clone, Copy)]
-pub(crate) struct English(pub &'static str);
-
-impl Display for English {
-    fn fmt<W: Write>(&self, f: &mut Formatter<W>) -> fmt::Result {
-        for c in self.0.chars() {
-            match c {
-                '`' => f.write_char('"')?,
-                '_' => f.write_char(' ')?,
-                _ => f.write_char(c)?,
-            }
-        }
-        Ok(())
+/// Writes forms as they are told.
+pub(crate) fn write_forms<W: Write>(f: &mut Formatter<W>, forms: &str) -> fmt::Result {
+    for c in forms.chars() {
+        f.write_char(match c {
+            '`' => '"',
+            '_' => ' ',
+            _ => c,
+        })?;
     }
+    Ok(())
 }

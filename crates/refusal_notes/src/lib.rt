@@ -2,7 +2,7 @@
 //!
 //! [`second_line`] is the one call for a command that was refused, [`session_line`] for a line of a
 //! session. They are handed the refusal itself and the texts that it is of, and change no answer.
-//! What they give begins with `exchange: ` and ends with a line feed (`line_told` of
+//! What they give begins with `exchange: ` and ends with a line feed (`IsWholeLine` of
 //! `specs/Told.antt`), and they give nothing for lack of memory. No contract says which words stand
 //! between: they are compared with rows (`notes.rows`), and with those of a second implementation
 //! (`notes.py` of `tools/hostile`).

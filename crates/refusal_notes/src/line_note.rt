@@ -43,7 +43,7 @@ impl<'a> Display for LineNote<'a> {
                 "{quote}; this command's rack, with the words of --image, has {due} there: --image takes the record's words, and --shape its shape"),
             (_, Some(difference)) => write!(f, "{quote}: {difference}; expected {wanted}"),
             _ if is_ended => write!(f, "{quote} isn't {wanted}"),
-            _ if wanted.forms().is_empty() =>
+            _ if !wanted.forms().contains('`') =>
                 write!(f, "{quote} without a line feed isn't {wanted}"),
             _ => write!(f, "{quote}: the last line has no line feed at its end"),
         }

@@ -19,7 +19,7 @@ pub(crate) fn entry_line(entry: usize) -> usize {
 }
 
 /// The number of the line before which so many bytes stand, counted from 1.
-pub(crate) fn line_behind(text: &[u8], bytes: usize) -> usize {
+pub(crate) fn line_after(text: &[u8], bytes: usize) -> usize {
     text[..bytes.min(text.len())].split(|b| *b == b'\n').count()
 }
 

@@ -5,7 +5,7 @@ use std::fmt::{self, Display, Formatter, Write};
 /// How many bytes of a line are quoted. This is the project's choice.
 const MAX_QUOTED: usize = 60;
 
-/// The beginning of this line, between quotation marks: two dots are behind it if the line goes on.
+/// The beginning of this line, between quotation marks: two dots are after it if the line goes on.
 #[derive(Clone, Copy)]
 pub(crate) struct Quote<'a>(pub &'a [u8]);
 

@@ -1,7 +1,7 @@
 //! The line in which a record is wrong.
 
 use crate::line_note::LineNote;
-use crate::lines::{line_at, line_behind, number_at, piece};
+use crate::lines::{line_after, line_at, number_at, piece};
 use crate::quote::Quote;
 use crate::told::{Named, Note, Texts};
 use crate::wanted::Wanted;
@@ -16,7 +16,7 @@ pub(crate) fn line_wanting<'a>(texts: Texts<'a>, wanted: Wanted<'a>) -> LineNote
     LineNote {
         named,
         above: 0,
-        number: line_behind(named.text, texts.offset),
+        number: line_after(named.text, texts.offset),
         wanted,
     }
 }
@@ -65,12 +65,12 @@ pub(crate) fn line_of_head<'a>(texts: Texts<'a>) -> LineNote<'a> {
             ..line_wanting(texts, wanted)
         };
     }
-    let due = Quote(line_at(texts.due, line_behind(text, texts.offset)));
+    let due = Quote(line_at(texts.due, line_after(text, texts.offset)));
     line_wanting(texts, Wanted::HeadLine(texts.opening, due))
 }
 
-/// What stands behind so many bytes of a record and the number of one of its sessions.
-fn call_behind(text: &[u8], bytes: usize) -> Option<&[u8]> {
+/// What stands after so many bytes of a record and the number of one of its sessions.
+fn call_after(text: &[u8], bytes: usize) -> Option<&[u8]> {
     let (session, call) = number_before(text.get(bytes..)?, b' ')?;
     match number_at(line_at(text, 1), 3) {
         Some(clients) if clients > 0 && session >= clients => None,
@@ -83,12 +83,12 @@ fn call_behind(text: &[u8], bytes: usize) -> Option<&[u8]> {
 /// None where there is no memory for the batch.
 pub(crate) fn note_of_call(note: Note<'_>) -> Option<Note<'_>> {
     let (recorded, offset) = (note.texts.recorded, note.texts.offset);
-    let text = call_behind(recorded.text, offset).unwrap_or(&[]);
+    let text = call_after(recorded.text, offset).unwrap_or(&[]);
     let refusal = match Batch::read(note.alloc, text, Shape::WIDEST) {
         Ok(_) | Err(BatchFault::Line(1)) => return Some(note),
         Err(BatchFault::NoMemory) => return None,
         // The record ends above the last line.
-        Err(BatchFault::Count) => Refusal::BatchLine(line_behind(text, text.len())),
+        Err(BatchFault::Count) => Refusal::BatchLine(line_after(text, text.len())),
         Err(fault) => Refusal::from(fault),
     };
     let list = Named {
@@ -101,7 +101,7 @@ pub(crate) fn note_of_call(note: Note<'_>) -> Option<Note<'_>> {
             list,
             ..Texts::NONE
         },
-        above: line_behind(recorded.text, offset).saturating_sub(1),
+        above: line_after(recorded.text, offset).saturating_sub(1),
         alloc: note.alloc,
     })
 }

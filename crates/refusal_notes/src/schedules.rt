@@ -116,6 +116,7 @@ impl<'a> Note<'a> {
     }
 
     /// Writes that two transfers of the batch write one block, and which, unless the text is none.
+    #[rattlefmt::skip]
     pub(crate) fn write_overlap<W: Write>(
         &self,
         f: &mut Formatter<W>,
@@ -123,11 +124,7 @@ impl<'a> Note<'a> {
         u: usize,
     ) -> fmt::Result {
         let (list, one, other) = (self.texts.list, entry_line(t), entry_line(u));
-        write!(
-            f,
-            "{}: transfers {t} and {u} both write ",
-            TextLine(list, other)
-        )?;
+        write!(f, "{}: transfers {t} and {u} both write ", TextLine(list, other))?;
         match Batch::read(self.alloc, list.text, Shape::WIDEST) {
             Ok(batch) => {
                 let place = batch.transfer(u).ok_or(fmt::Error)?.destination();

@@ -1,7 +1,7 @@
 //! The second line of a refusal.
 
-ghost use Rattle.std.specs.Prelude.{◌≡◌, ◌≢◌, List, ℕ, IfSome, string_bytes};
-ghost use Rattle.refusal_notes.specs.Told.{line_told};
+ghost use Rattle.std.specs.Prelude.{◌≢◌, IfSome, string_bytes};
+ghost use Rattle.refusal_notes.specs.Told.{IsWholeLine};
 
 use crate::recorded::note_of_call;
 use crate::schedules::note_of_settings;
@@ -18,8 +18,7 @@ use std::fmt::Display;
 /// [`file_line`] tells. There is none where there is no memory for it. Takes time that grows with
 /// the lengths of the texts.
 pub fn second_line(alloc: Global, refusal: Refusal, texts: Texts<'_>) -> Option<String>
-    ensures text { IfSome result (λ text.
-        (words : List ℕ) × (string_bytes text ≡ line_told words)) }
+    ensures text { IfSome result (λ text. IsWholeLine (string_bytes text)) }
     ensures refusal { IfSome result (λ _. refusal ≢ Refusal.NoMemory) }
 {
     let note = Note {
@@ -48,8 +47,7 @@ pub fn session_line<'a>(
     shape: &'a str,
     sent: &'a [u8],
 ) -> Option<String>
-    ensures text { IfSome result (λ text.
-        (words : List ℕ) × (string_bytes text ≡ line_told words)) }
+    ensures text { IfSome result (λ text. IsWholeLine (string_bytes text)) }
     ensures refusal { IfSome result (λ _. refusal ≢ Refusal.NoMemory) }
 {
     let list = Named {
@@ -68,26 +66,21 @@ pub fn session_line<'a>(
 /// reason, without the system's number for it; none where there is no memory for the line. Of a
 /// name that is a rack's shape it is told that a shape comes first, where there is one.
 pub fn file_line(alloc: Global, name: &str, reason: &str) -> Option<String>
-    ensures { IfSome result (λ text. (words : List ℕ) × (string_bytes text ≡ line_told words)) }
+    ensures { IfSome result (λ text. IsWholeLine (string_bytes text)) }
 {
-    let named = Named { name, text: &[] };
-    let reason = match reason.split_once(" (os error ") {
-        Some((words, _)) => words,
-        None => reason,
-    };
+    let (reason, _) = reason.split_once(" (os error ").unwrap_or((reason, ""));
     let hint = match Shape::read(name.as_bytes()) {
         Ok(_) => "; where a command takes a shape, it comes before the files",
         Err(_) => "",
     };
-    let words = format!(in alloc; "{named}: {reason}{hint}").ok()?;
+    let words = format!(in alloc; "{}: {reason}{hint}", Named::only(name)).ok()?;
     told(alloc, &words)
 }
 
 /// The line that tells this.
 fn told<T: Display>(alloc: Global, what: &T) -> Option<String>
-    ensures { IfSome result (λ text. (words : List ℕ) × (string_bytes text ≡ line_told words)) }
+    ensures { IfSome result (λ text. IsWholeLine (string_bytes text)) }
 {
     let words = what.to_string(alloc).ok()?;
-    let line = format!(in alloc; "exchange: {words}\n").ok()?;
-    Some(line)
+    format!(in alloc; "exchange: {words}\n").ok()
 }

@@ -153,17 +153,15 @@ impl<'a> Note<'a> {
     }
 
     /// Writes how many entries are too many.
+    #[rattlefmt::skip]
     fn write_too_many<W: Write>(&self, f: &mut Formatter<W>) -> fmt::Result {
         let list = self.texts.list;
         let what = match self.texts.listing {
             Listing::Moves => "moves; a text of moves",
             Listing::Transfers | Listing::Settings | Listing::Modules => "transfers; a batch",
         };
-        let (place, n) = (
-            TextLine(list, self.above.saturating_add(1)),
-            announced(list.text),
-        );
-        write!(f, "{place}: {n} {what} has at most 4096")
+        let place = TextLine(list, self.above.saturating_add(1));
+        write!(f, "{place}: {} {what} has at most 4096", announced(list.text))
     }
 
     /// Writes which of these words of a transfer's line isn't below its limit, and what has fewer.
@@ -186,28 +184,22 @@ impl<'a> Note<'a> {
     }
 
     /// Writes that there is no such setting.
+    #[rattlefmt::skip]
     fn write_no_setting<W: Write>(&self, f: &mut Formatter<W>, k: usize) -> fmt::Result {
-        let other = self.texts.other;
+        let (other, settings) = (self.texts.other, |count| Numbered(count, "setting"));
         match (self.texts.validity, other.name) {
-            (Validity::Valid(count), "") => {
-                let settings = Numbered(count, "setting");
-                write!(f, "setting {k}; the plan has {settings}")
-            }
-            _ => {
-                let settings = Numbered(announced(other.text), "setting");
-                write!(f, "setting {k}; {other} has {settings}")
-            }
+            (Validity::Valid(count), "") =>
+                write!(f, "setting {k}; the plan has {}", settings(count)),
+            _ => write!(f, "setting {k}; {other} has {}", settings(announced(other.text))),
         }
     }
 
     /// Writes what is wrong with a transfer that the certificate names.
+    #[rattlefmt::skip]
     fn write_named<W: Write>(&self, f: &mut Formatter<W>, t: usize, what: &str) -> fmt::Result {
         let (place, list) = (self.certificate_line(), self.texts.list);
         let (number, known) = (entry_line(t), Known(self.texts.other, self.texts.validity));
-        write!(
-            f,
-            "{place}: transfer {t} is named {what} (line {number} of {list}){known}"
-        )
+        write!(f, "{place}: transfer {t} is named {what} (line {number} of {list}){known}")
     }
 
     /// Writes what is wrong with a line that a session sent.
@@ -224,21 +216,17 @@ impl<'a> Note<'a> {
     }
 
     /// Writes that what was sent is no line of a session.
+    #[rattlefmt::skip]
     fn write_no_command<W: Write>(&self, f: &mut Formatter<W>) -> fmt::Result {
         let (text, wanted) = (self.texts.list.text, Wanted::Sent);
         write!(f, "{} isn't a line of a session", self.sent())?;
         match (line_at(text, 1), Difference::of(text, 1, wanted)) {
             (b"help", _) => f.write_str("; \"exchange talk --help\" lists them"),
             (b"quit", _) => f.write_str("; \"bye\" ends it"),
-            (_, Some(Difference::Stops(1, ..)) | None) => {
-                write!(f, ": {wanted}; see \"exchange talk --help\"")
-            }
-            (_, Some(difference)) => {
-                write!(
-                    f,
-                    ": {difference}; \"exchange talk --help\" lists the lines"
-                )
-            }
+            (_, Some(Difference::Stops(1, ..)) | None) =>
+                write!(f, ": {wanted}; see \"exchange talk --help\""),
+            (_, Some(difference)) =>
+                write!(f, ": {difference}; \"exchange talk --help\" lists the lines"),
         }
     }
 }

@@ -62,6 +62,11 @@ impl<'a> Named<'a> {
         name: "",
         text: &[],
     };
+
+    /// A name alone.
+    pub fn only(name: &'a str) -> Named<'a> {
+        Named { name, text: &[] }
+    }
 }
 
 impl<'a> Texts<'a> {
@@ -82,10 +87,9 @@ impl<'a> Texts<'a> {
 
     /// The shape of the rack: the widest where no shape is asked for.
     pub(crate) fn rack(&self) -> Shape {
-        match Shape::read(self.shape.as_bytes()) {
-            Ok(shape) => shape,
-            Err(_) => Shape::WIDEST,
-        }
+        Shape::read(self.shape.as_bytes())
+            .ok()
+            .unwrap_or(Shape::WIDEST)
     }
 }
 

@@ -1,6 +1,6 @@
 //! What may stand in a line.
 
-use crate::forms::English;
+use crate::forms::write_forms;
 use crate::lines::{announced, line_at};
 use crate::listed::Listing;
 use crate::quote::Quote;
@@ -15,7 +15,7 @@ const _: () = prove!(MAX_MODULES == 32 && PORTS == 32 && JOINED_MODULES == 16);
 
 const _: () = prove!(MAX_SESSIONS == 16);
 
-/// The first line of a record, and what goes on behind it.
+/// The first line of a record, and what goes on after it.
 const RECORD_HEAD: &str =
     "\"record-2 MxKxW SUM N\", where MxKxW is its shape, SUM the sum of its image, of eight digits, and N, at most 16, counts the lines \"client NAME\" after it, and then \"=SUM\", the sum of these lines";
 
@@ -72,7 +72,8 @@ impl<'a> Wanted<'a> {
         }
     }
 
-    /// The forms that the line may have; none where it is told otherwise.
+    /// The forms that the line may have, or how it is told otherwise; nothing where this depends on
+    /// more.
     #[rattlefmt::skip]
     pub(crate) fn forms(self) -> &'static str {
         match self {
@@ -91,14 +92,11 @@ impl<'a> Wanted<'a> {
             Wanted::Named => "`named T U ..`, where T, U .. are transfers, one at least",
             Wanted::Sent =>
                 "`batch N` and the batch's lines, `plan ID`, `run ID`, `show ID`, `drop ID`, `peek M A`, `poke M A D`, `progress` or `bye`",
-            Wanted::End
-            | Wanted::RecordHead
-            | Wanted::Client
-            | Wanted::HeadSum
-            | Wanted::HeadLine(..)
-            | Wanted::Sum(_)
-            | Wanted::Call(_)
-            | Wanted::Reply(..) => "",
+            Wanted::End => "the end of the text",
+            Wanted::RecordHead => RECORD_HEAD,
+            Wanted::Client => "\"client NAME\", where NAME isn't empty and no client above has it",
+            Wanted::HeadSum => "\"=SUM\", the sum of the lines above it",
+            Wanted::HeadLine(..) | Wanted::Sum(_) | Wanted::Call(_) | Wanted::Reply(..) => "",
         }
     }
 }
@@ -108,19 +106,13 @@ impl<'a> Display for Wanted<'a> {
     #[rattlefmt::skip]
     fn fmt<W: Write>(&self, f: &mut Formatter<W>) -> fmt::Result {
         match *self {
-            Wanted::RecordHead => f.write_str(RECORD_HEAD),
-            Wanted::Client =>
-                f.write_str("\"client NAME\", where NAME isn't empty and no client above has it"),
-            Wanted::HeadSum => f.write_str("\"=SUM\", the sum of the lines above it"),
             Wanted::HeadLine(_, due) => due.fmt(f),
             Wanted::Sum(e) => write!(f,
                 "the start of entry {e}, or of the end, with a right sum: a byte was changed, or lines were left out, added or moved"),
             Wanted::Call(e) =>
                 write!(f, "the call of entry {e}, {CALL}, {RULES}, a line feed at its end"),
             Wanted::Reply(e, due) => write!(f, "the reply of entry {e}, {due}"),
-            Wanted::End => f.write_str("the end of the text"),
-            Wanted::Head(_) | Wanted::Entry(_) | Wanted::BusiestLink | Wanted::Named
-            | Wanted::Sent => English(self.forms()).fmt(f),
+            _ => write_forms(f, self.forms()),
         }
     }
 }

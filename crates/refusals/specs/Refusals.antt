@@ -30,7 +30,7 @@ abbrev pub port_words : PortName → List ℕ
 port_words port_name.A = codes "port a"
 port_words port_name.B = codes "port b"
 
--- what stands behind `refused `
+-- what stands after `refused `
 abbrev pub refusal_words : Refusal → List ℕ
 refusal_words (refusal.BatchLine n) = codes "batch line " ++ decimal n
 refusal_words (refusal.MovesLine n) = codes "moves line " ++ decimal n

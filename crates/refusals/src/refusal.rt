@@ -212,7 +212,7 @@ impl Refusal {
         line
     }
 
-    /// Puts the line of the refusal, with its line feed, behind what stands there.
+    /// Puts the line of the refusal, with its line feed, after what stands there.
     pub fn put(self, line: &mut Line)
         requires { length line.old + REFUSAL_ROOM ≤ LINE_ROOM }
         ensures { line.new ≡ line.old ++ refusal_line self }
@@ -222,7 +222,7 @@ impl Refusal {
         line.put(b"\n");
     }
 
-    /// Puts what stands behind `refused `.
+    /// Puts what stands after `refused `.
     fn put_words(self, line: &mut Line)
         requires { length line.old + 91 ≤ LINE_ROOM }
         ensures words { line.new ≡ line.old ++ refusal_words self }

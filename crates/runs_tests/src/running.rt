@@ -103,11 +103,11 @@ fn has_stopped(outcome: &Outcome, number: usize, wanted: StopCause, words: &[(u1
     }
 }
 
-/// A block, by its module and its number, and the words that it is to have behind a run.
+/// A block, by its module and its number, and the words that it is to have after a run.
 pub type Block<'a> = (usize, usize, &'a [u32]);
 
 /// A run of a batch text on a marked rack, how it is to end, and the words that some blocks are to
-/// have behind it.
+/// have after it.
 #[derive(Clone, Copy)]
 pub struct Case<'a> {
     pub shape: &'a str,

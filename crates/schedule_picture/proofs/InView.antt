@@ -31,7 +31,7 @@ within k settings lt = omega (arith, le-max_right LEAST (2 * MARGIN + panels_of 
 pub rules_apart : RulesAreApart
 unfolding panel_place column_place width_of
 rules_apart columns j lt = record {
-  behind_labels = omega arith;
+  after_labels = omega arith;
   within_width = omega (arith, lt, le-max_right LEAST (2 * MARGIN + panels_of columns * LABELS + columns * COLUMN));
   on_no_cell = λ l. elim (cases_lt l j) [
     | inl before ↦ inr (omega arith)
@@ -58,7 +58,7 @@ in_view batch settings shown b k i x e s =
     record {
       in_column = (omega arith, omega arith);
       in_half = (omega arith, omega arith);
-      behind_labels = behind k;
+      after_labels = behind k;
       before_labels = before k;
       within_width = within k shown.count s.is_shown;
       below_top = omega arith;

@@ -5,7 +5,7 @@ use Rattle.std.proofs.lemmas.Result.{on_ok_weaker}
 use Rattle.std.specs.List.{flat_map}
 use Rattle.std.proofs.lemmas.List.{flat_map_more, take_more}
 
--- two parts, one behind the other
+-- two parts, one after the other
 next : (a b c x y : List ℕ) → b ≡ a ++ x → c ≡ b ++ y → c ≡ a ++ (x ++ y)
 next a b c x y p q = q ∙ ap (λ (t : List ℕ). t ++ y) p ∙ append_assoc a x y
 
@@ -40,7 +40,7 @@ five r a b c d e f x y v w u z p q = four r a c d e f (x ++ y) v w u z (next a b
 pub six : {T E : Type 0} (r : Result T E) (a b c d e f g x y v w u t z : List ℕ) → b ≡ a ++ x → c ≡ b ++ y → d ≡ c ++ v → e ≡ d ++ w → f ≡ e ++ u → OnOk r (g ≡ f ++ t) → ((((x ++ y) ++ v) ++ w) ++ u) ++ t ≡ z → OnOk r (g ≡ a ++ z)
 six r a b c d e f g x y v w u t z p q = five r a c d e f g (x ++ y) v w u t z (next a b c x y p q)
 
--- what is put behind a text where there is memory
+-- what is put after a text where there is memory
 pub put : {T E : Type 0} (r : Result T E) (s x y : List ℕ) → s ≡ (if is_ok r then x else y) → OnOk r (s ≡ x)
 put (Ok v) s x y e = e
 put (Err v) s x y e = tt

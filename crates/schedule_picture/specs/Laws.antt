@@ -52,7 +52,7 @@ pub record IsInView (batch : List Transfer) (columns j : ℕ) (x : Transfer) (e 
       × (cell_left j + CELL_WIDTH ≤ column_place j + COLUMN)
   pub in_half : (half_top batch x e ≤ cell_top batch x e)
       × (cell_top batch x e + CELL_HEIGHT ≤ half_top batch x e + HALF)
-  pub behind_labels : panel_place (j / PANEL) + LABELS ≤ cell_left j
+  pub after_labels : panel_place (j / PANEL) + LABELS ≤ cell_left j
   pub before_labels : cell_left j + CELL_WIDTH ≤ panel_place (j / PANEL + 1)
   pub within_width : cell_left j + CELL_WIDTH ≤ width_of columns
   pub below_top : TOP ≤ cell_top batch x e
@@ -65,10 +65,10 @@ AllIsInView =
     → (j i : ℕ) (x : Transfer) (e : End) → IsDrawnAt batch settings shown j i x
     → IsInView batch shown.count j x e
 
--- the rule before column j of so many stands behind the labels of its panel, within the width of
+-- the rule before column j of so many stands after the labels of its panel, within the width of
 -- the picture, and on no cell
 pub record RuleIsApart (columns j : ℕ) : Type 0 where
-  pub behind_labels : panel_place (j / PANEL) + LABELS ≤ column_place j
+  pub after_labels : panel_place (j / PANEL) + LABELS ≤ column_place j
   pub within_width : column_place j < width_of columns
   pub on_no_cell : (l : ℕ) → (column_place j < cell_left l)
       ⊎ (cell_left l + CELL_WIDTH < column_place j)

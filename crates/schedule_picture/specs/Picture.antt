@@ -109,7 +109,7 @@ opening_text batch settings verdict shown =
     title_part batch settings verdict shown ++ style_text
     ++ caption_part batch settings verdict shown
 
--- what stands behind the columns: the legend, below the rows
+-- what stands after the columns: the legend, below the rows
 unfoldable pub closing_text : List Transfer → List ℕ
 closing_text batch =
     codes "<g transform='translate(16," ++ decimal (legend_place batch) ++ codes ")'>\n"

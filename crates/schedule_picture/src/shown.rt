@@ -1,6 +1,6 @@
 //! Which settings a picture has columns for.
 
-/// The settings that have columns in a picture, one behind the other.
+/// The settings that have columns in a picture, one after the other.
 #[derive(Clone, Copy, Debug, PartialEq, Eq)]
 pub struct Shown {
     /// The first of them, counted from 0.

@@ -1,11 +1,10 @@
 -- The sessions of a host's clients, and the seats of their exchange.
 use Rattle.std.proofs.Common.{◌≡◌, ℕ, ◌+◌, ◌<◌, ◌≤◌, zero, suc, Bool, true, false, ◌||◌, List, [], ◌∷◌, ◌++◌, length, get_or, map, All, Option, Some, None, refl, sym, ap, ap₂, ◌∙◌, subst, drop, take, append-nil, inl, inr, arith}
-use Rattle.std.specs.List.{range_with_len, sum, list_any, flat_map}
+use Rattle.std.specs.List.{range_with_len, list_any, flat_map}
 use Rattle.std.proofs.lemmas.Bool.{cases_lt}
-use Rattle.std.proofs.lemmas.List.{length-map, length-take-le, map-id, append_assoc, map-append, take_more}
+use Rattle.std.proofs.lemmas.List.{length-map, length-take-le, append_assoc, map-append, take_more}
 use Rattle.std.proofs.lemmas.List.Elements.{All-map}
-use Rattle.std.proofs.lemmas.List.FromFn.{get_or-range_with_len, length-range_with_len}
-use Rattle.std.proofs.lemmas.List.Sums.{sum-map}
+use Rattle.std.proofs.lemmas.List.FromFn.{length-range_with_len}
 use Rattle.std.proofs.lemmas.Simd.{map-map}
 use Rattle.std.specs.Io.KnownBytes.{Appends}
 use Rattle.batch_book.specs.declared.entry.Entry.{Entry}
@@ -14,7 +13,7 @@ use Rattle.batch_book.specs.History.{Account}
 use Rattle.batch_book.specs.Seats.{SeatState, IsSameSeat}
 use Rattle.client_session.specs.declared.fault.ServeFault.{ServeFault}
 use Rattle.module_memory.specs.Store.{Store}
-use Rattle.session_answers.specs.declared.all_there.AllThere.{AllThere}
+use Rattle.session_answers.specs.declared.threads_started.ThreadsStarted.{ThreadsStarted}
 use Rattle.session_answers.specs.declared.ended_session.Ending.{Ending}
 use Rattle.session_answers.specs.declared.ended_session.Ending.TheVariants.{Unopened, Served}
 use Rattle.session_answers.specs.Histories.{part_of, IsClosing}
@@ -24,15 +23,14 @@ use Rattle.session_answers.specs.HostTexts.{ends_text, room_of, session_room}
 use Rattle.plan_answers.specs.Refusals.{Printed}
 use Rattle.session_answers.specs.Sessions.{beginning, IsServedSession}
 use Rattle.session_answers.specs.HostedSessions.{Ended, hosted_session, AreAllHosted, AreEach, IsOfSeat, AreHostedSessionsAt, HasReturned, HaveReturned, begins}
-use Rattle.session_answers.proofs.Sessions.{map_same, sum_mapped}
+use Rattle.session_answers.proofs.Sessions.{fresh_seat, seats_back}
 
 -- ---- what is so one by one
 
 pub each_length : {A B : Type 0} (P : A → B → Type 0) (xs : List A) (ys : List B) → AreEach P xs ys → length ys ≡ length xs
 each_length P [] [] each = refl
-each_length P [] (y ∷ ys) each = absurd each
-each_length P (x ∷ xs) [] each = absurd each
 each_length P (x ∷ xs) (y ∷ ys) each = ap suc (each_length P xs ys each.1)
+each_length P xs ys each = absurd each
 
 each_at : {A B : Type 0} (P : A → B → Type 0) (xs : List A) (ys : List B) → AreEach P xs ys → (k : ℕ) (d : A) (e : B) → k < length xs → P (get_or xs k d) (get_or ys k e)
 each_at P [] ys each k d e lt = absurd (omega (arith, lt))
@@ -42,9 +40,8 @@ each_at P (x ∷ xs) (y ∷ ys) each (suc k) d e lt = each_at P xs ys each.1 k d
 
 pub each_push : {A B : Type 0} (P : A → B → Type 0) (xs : List A) (ys : List B) (x : A) (y : B) → AreEach P xs ys → P x y → AreEach P (xs ++ x ∷ []) (ys ++ y ∷ [])
 each_push P [] [] x y each one = (one, tt)
-each_push P [] (b ∷ ys) x y each one = absurd each
-each_push P (a ∷ xs) [] x y each one = absurd each
 each_push P (a ∷ xs) (b ∷ ys) x y each one = (each.0, each_push P xs ys x y each.1 one)
+each_push P xs ys x y each one = absurd each
 
 -- the first of what is left
 each_split : {A B : Type 0} (P : A → B → Type 0) (rest : List A) (y : B) (more : List B) → AreEach P rest (y ∷ more) → (x : A) × (xs : List A) × (rest ≡ x ∷ xs) × P x y × AreEach P xs more
@@ -71,14 +68,7 @@ moved all done ys more y first was = append_assoc done (y ∷ []) more ∙ ap (�
 
 -- the seats of a new exchange have asked nothing
 pub all_fresh : (x : Exchange) (start n : ℕ) (seats : List SeatState) → AreNew x.word start n seats → All (IsFresh x) seats
-all_fresh x start n seats new k d lt =
-    let begun : get_or seats k d ≡ new_seat x.word start k (parts_at n k) = new.each k d (omega (arith, new.count, lt)) in
-    record {
-      exchange = ap (λ (s : SeatState). s.exchange) begun;
-      asked = ap (λ (s : SeatState). s.asked) begun;
-      log = ap (λ (s : SeatState). s.log) begun;
-      broken = ap (λ (s : SeatState). s.broken) begun;
-    }
+all_fresh x start n seats new k d lt = fresh_seat (new.each k d (omega (arith, new.count, lt)))
 
 -- and are all that it has
 pub all_new : (x : Exchange) (start n : ℕ) (seats : List SeatState) → AreNew x.word start n seats → AreAllSeats x seats
@@ -95,23 +85,12 @@ all_hosted {C} loses x start g received seats ss new each =
     let at : (k : ℕ) (s : Ended C) → k < length ss → IsOfSeat loses x g received (new_seat x.word start k (parts_at n k)) (get_or ss k s) =
     λ k s lt. (let d = new_seat x.word start k (parts_at n k) in
     subst (λ (seat : SeatState). IsOfSeat loses x g received seat (get_or ss k s)) (new.each k d (omega (arith, len, new.count, lt))) (each_at (IsOfSeat loses x g received) seats ss each k d s (omega (arith, len, lt)))) in
-    let numbers : map (λ (s : Ended C). s.0.session) ss ≡ map (λ (n : ℕ). n) (range_with_len 0 n) =
-    map_same (λ (s : Ended C). s.0.session) (λ (n : ℕ). n) ss (range_with_len 0 n) (omega (arith, len, new.count, length-range_with_len 0 n))
-    (λ k s e lt.
-    let here = get_or-range_with_len 0 n k e (omega (arith, len, new.count)) in
-    (at k s lt).same.session ∙ omega (arith, here)) in
-    let parts : map (λ (s : Ended C). s.0.parts) ss ≡ map (λ (t : SeatState). t.parts) seats =
-    map_same (λ (s : Ended C). s.0.parts) (λ (t : SeatState). t.parts) ss seats len
-    (λ k s e lt. (each_at (IsOfSeat loses x g received) seats ss each k e s (omega (arith, len, lt))).same.parts) in
+    let back = seats_back x start n seats ss (λ s. s.0) new len (λ k s lt. (at k s lt).same) in
     record {
-      all_seats = record {
-        each = All-map (λ (t : SeatState). t.exchange ≡ Some x.word) (λ (s : Ended C). s.0) ss (λ k s lt. (at k s lt).same.exchange);
-        parts = sum_mapped (λ (t : SeatState). t.parts) (λ (s : Ended C). s.0) ss ∙ sym (sum-map (λ (s : Ended C). s.0.parts) ss) ∙ ap sum parts ∙ sum-map (λ (t : SeatState). t.parts) seats ∙ new.parts;
-      };
+      all_seats = back.0;
       of_clients = record {
-        numbers = map-map (λ (v : HostedSession). v.part.session) (hosted_session received) ss ∙ numbers ∙ map-id (range_with_len 0 n);
-        each = All-map (λ (v : HostedSession). IsHostedSession (begun_at loses x start) g v.part v.end) (hosted_session received) ss
-            (λ k s lt. (at k s lt).its);
+        numbers = map-map (λ (v : HostedSession). v.part.session) (hosted_session received) ss ∙ back.1;
+        each = All-map (λ (v : HostedSession). IsHostedSession (begun_at loses x start) g v.part v.end) (hosted_session received) ss (λ k s lt. (at k s lt).its);
       };
     }
 
@@ -167,14 +146,14 @@ count_hosted {C} loses x start g received ss all =
     sym (length-map ss (λ (s : Ended C). s.0.session)) ∙ sym (ap length (map-map (λ (v : HostedSession). v.part.session) (hosted_session received) ss)) ∙ ap length all.of_clients.numbers ∙ length-range_with_len 0 g.clients
 
 -- where it was decided that sessions begin, each client has had its session
-pub begun_all : {C : Type 0} (loses : Bool) (x : Exchange) (start : ℕ) (g : KnownClients) (received : C → Option (List ℕ)) (decided : Option AllThere) (seats back : List SeatState) (endings : List (Ending C))
+pub begun_all : {C : Type 0} (loses : Bool) (x : Exchange) (start : ℕ) (g : KnownClients) (received : C → Option (List ℕ)) (decided : Option ThreadsStarted) (seats back : List SeatState) (endings : List (Ending C))
     → begins g.clients decided ≡ true → HaveReturned loses x g received (begins g.clients decided) seats back endings → AreNew x.word start g.clients seats → AreAllHosted loses x start g received back endings
 begun_all loses x start g received decided seats back endings is all new =
     let h = subst (λ (b : Bool). HaveReturned loses x g received b seats back endings) is all in
     (h.0, all_hosted loses x start g received seats h.0 new h.1, h.2, h.3)
 
 -- else the seats are as they were
-pub begun_none : {C : Type 0} (loses : Bool) (x : Exchange) (start : ℕ) (g : KnownClients) (received : C → Option (List ℕ)) (decided : Option AllThere) (seats back : List SeatState) (endings : List (Ending C))
+pub begun_none : {C : Type 0} (loses : Bool) (x : Exchange) (start : ℕ) (g : KnownClients) (received : C → Option (List ℕ)) (decided : Option ThreadsStarted) (seats back : List SeatState) (endings : List (Ending C))
     → begins g.clients decided ≡ false → HaveReturned loses x g received (begins g.clients decided) seats back endings → AreNew x.word start g.clients seats → AreNew x.word start g.clients back
 begun_none loses x start g received decided seats back endings is all new =
     let h = subst (λ (b : Bool). HaveReturned loses x g received b seats back endings) is all in

@@ -1,7 +1,7 @@
 -- The sessions of scripts, the seats of their exchange, and its history.
-use Rattle.std.proofs.Common.{◌≡◌, ℕ, ◌+◌, ◌<◌, ◌≤◌, suc, Bool, true, false, ◌||◌, List, [], ◌∷◌, ◌++◌, length, get_or, map, option_map, All, Option, Some, Result, Ok, Err, IfOk, OnOk, OnErr, is_ok, if◌then◌else◌, refl, sym, ap, ap₂, ◌∙◌, subst, slice_get, take, append-nil, append_assoc, arith}
+use Rattle.std.proofs.Common.{◌≡◌, ℕ, ◌+◌, ◌<◌, ◌≤◌, suc, Bool, true, false, ◌||◌, List, [], ◌∷◌, ◌++◌, length, get_or, map, option_map, All, Option, Some, Result, Ok, Err, IfOk, OnOk, is_ok, if◌then◌else◌, refl, sym, ap, ap₂, ◌∙◌, subst, slice_get, take, append-nil, arith}
 use Rattle.std.specs.List.{range_with_len, sum, sum_by, list_any}
-use Rattle.std.proofs.lemmas.List.{append_cancel_left, take_more, take-map, flat_map_more, get_or-map, length-map, map-id}
+use Rattle.std.proofs.lemmas.List.{take_more, take-map, flat_map_more, get_or-map, length-map, map-id}
 use Rattle.std.proofs.lemmas.List.Elements.{All-map}
 use Rattle.std.proofs.lemmas.List.FromFn.{get_or-range_with_len, length-range_with_len}
 use Rattle.std.proofs.lemmas.Option.{slice_get-map, slice_get_read}
@@ -11,17 +11,14 @@ use Rattle.std.specs.Io.KnownBytes.{Appends}
 use Rattle.module_memory.specs.Store.{Store}
 use Rattle.crossbar.specs.declared.port.ConfigPort.{Ghosts}
 use Rattle.batch_book.specs.declared.entry.Entry.{Entry}
-use Rattle.batch_book.specs.declared.unrecorded.Unrecorded.{Unrecorded}
 use Rattle.batch_book.specs.Closing.{AreClosed}
 use Rattle.batch_book.specs.Exchanges.{Exchange, AreNew, new_seat, parts_at}
 use Rattle.batch_book.specs.History.{Account, AreUnstopped, IsKeptBook, IsReplay, Starts}
-use Rattle.batch_book.specs.Recording.{Flushes}
 use Rattle.batch_book.specs.Machine.{opened}
 use Rattle.batch_book.specs.Replies.{NeverFail}
-use Rattle.batch_book.specs.Seats.{SeatState, IsSameSeat, IsRecorded, own}
+use Rattle.batch_book.specs.Seats.{SeatState, IsSameSeat, own}
 use Rattle.batch_book.specs.Values.{greatest}
 use Rattle.batch_book.proofs.Fronts.{front, starts_same}
-use Rattle.batch_book.proofs.Noting.{recorded_more}
 use Rattle.client_session.specs.declared.fault.ServeFault.{ServeFault}
 use Rattle.client_session.specs.declared.fault.ServeFault.TheVariants.{Record}
 use Rattle.client_session.specs.Seats.{SeatView, seat_view}
@@ -31,17 +28,16 @@ use Rattle.session_answers.specs.Frames.{Transcript, session_text, sessions_text
 use Rattle.session_answers.specs.Histories.{Part, part_of, HaveOneHistory}
 use Rattle.session_answers.specs.Serving.{HasItsScript}
 use Rattle.session_answers.specs.Sessions.{Beginning, IsServedSession}
-use Rattle.session_answers.specs.Hosting.{transcript, begun_at, IsFresh, AreServedAt}
+use Rattle.session_answers.specs.Hosting.{transcript, begun_at, AreAllSeats, IsFresh, AreServedAt}
 
 -- ---- lists
 
 -- lists of which some value agrees place by place
-pub map_same : {A B C : Type 0} (f : A → C) (g : B → C) (xs : List A) (ys : List B) → length xs ≡ length ys → ((k : ℕ) (d : A) (e : B) → k < length xs → f (get_or xs k d) ≡ g (get_or ys k e)) → map f xs ≡ map g ys
+map_same : {A B C : Type 0} (f : A → C) (g : B → C) (xs : List A) (ys : List B) → length xs ≡ length ys → ((k : ℕ) (d : A) (e : B) → k < length xs → f (get_or xs k d) ≡ g (get_or ys k e)) → map f xs ≡ map g ys
 map_same f g [] [] len same = refl
-map_same f g [] (y ∷ ys) len same = absurd (omega (arith, len))
-map_same f g (x ∷ xs) [] len same = absurd (omega (arith, len))
 map_same {A} {B} {C} f g (x ∷ xs) (y ∷ ys) len same =
     ap₂ (λ (c : C) (cs : List C). c ∷ cs) (same 0 x y (omega arith)) (map_same f g xs ys (omega (arith, len)) (λ k d e lt. same (suc k) d e (omega arith)))
+map_same f g xs ys len same = absurd (omega (arith, len))
 
 pub sum_mapped : {X Y : Type 0} (g : Y → ℕ) (f : X → Y) (xs : List X) → sum_by g (map f xs) ≡ sum_by (λ x. g (f x)) xs
 sum_mapped g f xs = sym (sum-map g (map f xs)) ∙ ap sum (map-map g f xs) ∙ sum-map (λ x. g (f x)) xs
@@ -123,6 +119,30 @@ its_script b scripts old new script rest told fault same at s = (
 
 -- ---- all sessions
 
+-- a seat of a new exchange has asked nothing
+pub fresh_seat : {x : Exchange} {start k parts : ℕ} {seat : SeatState} → seat ≡ new_seat x.word start k parts → IsFresh x seat
+fresh_seat {x} begun = subst (IsFresh x) (sym begun) (record { exchange = refl; asked = refl; log = refl; broken = refl })
+
+-- seats that come back as those of a new exchange, one for each session, are all that it has
+pub seats_back : {S : Type 0} (x : Exchange) (start n : ℕ) (seats : List SeatState) (ss : List S) (seat_of : S → SeatState)
+    → AreNew x.word start n seats → length ss ≡ length seats → ((k : ℕ) (s : S) → k < length ss → IsSameSeat (new_seat x.word start k (parts_at n k)) (seat_of (get_or ss k s)))
+    → AreAllSeats x (map seat_of ss) × (map (λ s. (seat_of s).session) ss ≡ range_with_len 0 n)
+seats_back {S} x start n seats ss seat_of new len same =
+    let numbers : map (λ (s : S). (seat_of s).session) ss ≡ map (λ (n : ℕ). n) (range_with_len 0 n) =
+    map_same (λ (s : S). (seat_of s).session) (λ (n : ℕ). n) ss (range_with_len 0 n) (omega (arith, len, new.count, length-range_with_len 0 n))
+    (λ k s e lt.
+    let here = get_or-range_with_len 0 n k e (omega (arith, len, new.count)) in
+    (same k s lt).session ∙ omega (arith, here)) in
+    let parts : map (λ (s : S). (seat_of s).parts) ss ≡ map (λ (t : SeatState). t.parts) seats =
+    map_same (λ (s : S). (seat_of s).parts) (λ (t : SeatState). t.parts) ss seats len
+    (λ k s e lt. (same k s lt).parts ∙ ap (λ (t : SeatState). t.parts) (sym (new.each k e (omega (arith, len, new.count))))) in (
+      record {
+        each = All-map (λ (t : SeatState). t.exchange ≡ Some x.word) seat_of ss (λ k s lt. (same k s lt).exchange);
+        parts = sum_mapped (λ (t : SeatState). t.parts) seat_of ss ∙ sym (sum-map (λ (s : S). (seat_of s).parts) ss) ∙ ap sum parts ∙ sum-map (λ (t : SeatState). t.parts) seats ∙ new.parts;
+      },
+      numbers ∙ map-id (range_with_len 0 n),
+    )
+
 -- the session of the seat at a place
 pub record IsOfSeat {L : Type 0} (x : Exchange) (scripts : List (List ℕ)) (seats : List SeatState) (k : ℕ) (s : Session L) : Type 0 where
   pub seat : SeatState
@@ -135,69 +155,39 @@ pub all_served : {L : Type 0} (x : Exchange) (start : ℕ) (scripts : List (List
     → n ≡ length scripts → AreNew x.word start n seats → length ss ≡ length seats → ((k : ℕ) (s : Session L) → k < length seats → IsOfSeat x scripts seats k (get_or ss k s))
     → AreServedAt x start scripts ss
 all_served {L} x start scripts n seats ss count new len each =
-    let begun : (k : ℕ) (s : Session L) (lt : k < length ss) → (each k s (omega (arith, len))).seat ≡ new_seat x.word start k (parts_at n k) =
-    λ k s lt. let o = each k s (omega (arith, len)) in sym (o.at o.seat) ∙ new.each k o.seat (omega (arith, len, new.count)) in
-    let numbers : map (λ (s : Session L). s.seat.session) ss ≡ map (λ (n : ℕ). n) (range_with_len 0 (length scripts)) =
-    map_same (λ (s : Session L). s.seat.session) (λ (n : ℕ). n) ss (range_with_len 0 (length scripts)) (omega (arith, len, count, new.count, length-range_with_len 0 (length scripts)))
-    (λ k s e lt.
-    let o = each k s (omega (arith, len)) in
-    let at = get_or-range_with_len 0 (length scripts) k e (omega (arith, len, count, new.count)) in
-    o.same.session ∙ ap (λ (t : SeatState). t.session) (begun k s lt) ∙ omega (arith, at)) in
-    let parts : map (λ (s : Session L). s.seat.parts) ss ≡ map (λ (t : SeatState). t.parts) seats =
-    map_same (λ (s : Session L). s.seat.parts) (λ (t : SeatState). t.parts) ss seats len
-    (λ k s e lt. let o = each k s (omega (arith, len)) in o.same.parts ∙ ap (λ (t : SeatState). t.parts) (sym (o.at e))) in
+    let at : (k : ℕ) (s : Session L) → k < length ss → IsSameSeat (new_seat x.word start k (parts_at n k)) (get_or ss k s).seat × HasItsScript (begun_at false x start) scripts (transcript (get_or ss k s)) =
+    λ k s lt. (let o = each k s (omega (arith, len)) in
+    subst (λ (t : SeatState). IsSameSeat t (get_or ss k s).seat × HasItsScript (begun_at false x t.seen) scripts (transcript (get_or ss k s))) (sym (o.at o.seat) ∙ new.each k o.seat (omega (arith, len, new.count))) (o.same, o.its)) in
+    let back = seats_back x start n seats ss (λ s. s.seat) new len (λ k s lt. (at k s lt).0) in
     record {
-      all_seats = record {
-        each = All-map (λ (t : SeatState). t.exchange ≡ Some x.word) (λ (s : Session L). s.seat) ss (λ k s lt. (let o = each k s (omega (arith, len)) in o.same.exchange ∙ ap (λ (t : SeatState). t.exchange) (begun k s lt)));
-        parts = sum_mapped (λ (t : SeatState). t.parts) (λ (s : Session L). s.seat) ss ∙ sym (sum-map (λ (s : Session L). s.seat.parts) ss) ∙ ap sum parts ∙ sum-map (λ (t : SeatState). t.parts) seats ∙ new.parts;
-      };
+      all_seats = back.0;
       of_scripts = record {
-        numbers = map-map (λ (t : Transcript). t.part.session) transcript ss ∙ numbers ∙ map-id (range_with_len 0 (length scripts));
-        each = All-map (HasItsScript (begun_at false x start) scripts) transcript ss
-            (λ k s lt. (let o = each k s (omega (arith, len)) in subst (λ (n : ℕ). HasItsScript (begun_at false x n) scripts (transcript (get_or ss k s))) (ap (λ (t : SeatState). t.seen) (begun k s lt)) o.its));
+        numbers = map-map (λ (t : Transcript). t.part.session) transcript ss ∙ back.1 ∙ ap (range_with_len 0) count;
+        each = All-map (HasItsScript (begun_at false x start) scripts) transcript ss (λ k s lt. (at k s lt).1);
       };
     }
 
 -- ---- the exchange is closed
 
--- the history that an exchange leaves is that of its sessions, of which these entries stand where they belong
-theirs : {P W : Type 0} (seen : Ghosts P) (sure : W → ℕ → Type 0) (limited loses : Bool) (opening : Store) (earlier : List Entry) (seats : List SeatState) (book : Account) (standing stands : List Entry) (whole : Bool)
-    → AreClosed seen sure opening earlier seats book → NeverFail seen sure → IsKeptBook limited loses book
-    → All (IsRecorded standing) seats → stands ≡ earlier ++ standing → Starts stands book.history → (whole ≡ true → stands ≡ book.history) → (whole ≡ false → loses ≡ true)
-    → HaveOneHistory loses opening earlier (map part_of seats) (record book { stands = stands; whole = whole })
-theirs seen sure limited loses opening earlier seats book standing stands whole closed never kept recorded stand first all lost =
-    let h = book.history in
-    record {
-      made = closed.made;
-      standing = standing;
-      is_opening = closed.opened;
-      replay = subst (λ (s : Store). IsReplay (opened s) h book.machine) closed.opened kept.replay;
-      are = closed.are;
-      stand = stand;
-      front = first;
-      counted = closed.counted ∙ sym (sum_mapped (λ (p : Part). length p.asked) part_of seats);
-      are_parts = All-map (λ (p : Part). p.asked ≡ own p.session closed.made) part_of seats closed.asked;
-      recorded = All-map (λ (p : Part). Starts p.log (own p.session standing)) part_of seats recorded;
-      unstopped = closed.unstopped never;
-      seen = All-map (λ (p : Part). p.seen ≤ greatest h) part_of seats closed.none_ahead;
-      whole = all;
-      lost = lost;
-    }
-
--- so it is behind a flush
-pub one_history : {P W : Type 0} (seen : Ghosts P) (sure : W → ℕ → Type 0) (limited loses : Bool) (opening : Store) (earlier : List Entry) (seats : List SeatState) (book left : Account) (r : Result (Unit {0}) Unrecorded)
-    → AreClosed seen sure opening earlier seats book → NeverFail seen sure → IsKeptBook limited loses book → Flushes book r left → OnErr r (loses ≡ true)
-    → HaveOneHistory loses opening earlier (map part_of seats) left
-one_history seen sure limited loses opening earlier seats book left (Ok done) closed never kept flushed lost =
-    let rest = front book.stands book.history kept.front in
-    let made : closed.standing ++ rest.0 ≡ closed.made =
-    append_cancel_left earlier _ _ (sym (append_assoc earlier closed.standing rest.0) ∙ ap (λ (es : List Entry). es ++ rest.0) (sym closed.stand) ∙ sym rest.1 ∙ closed.are) in
-    let recorded : All (IsRecorded closed.made) seats = subst (λ (es : List Entry). All (IsRecorded es) seats) made (λ k d less. recorded_more closed.standing rest.0 (get_or seats k d) (closed.recorded k d less)) in
-    subst (HaveOneHistory loses opening earlier (map part_of seats)) (sym flushed.1)
-    (theirs seen sure limited loses opening earlier seats book closed.made book.history book.whole closed never kept recorded closed.are (starts_same book.history book.history refl) (λ whole. refl) kept.lost)
-one_history seen sure limited loses opening earlier seats book left (Err lost) closed never kept flushed loses_is =
-    subst (HaveOneHistory loses opening earlier (map part_of seats)) (sym flushed)
-    (theirs seen sure limited loses opening earlier seats book closed.standing book.stands false closed never kept closed.recorded closed.stand kept.front (λ whole. absurd cc) (λ broken. loses_is))
+-- the history that an exchange leaves is that of its sessions
+pub one_history : {P W : Type 0} (seen : Ghosts P) (sure : W → ℕ → Type 0) (limited loses : Bool) (opening : Store) (earlier : List Entry) (seats : List SeatState) (book : Account)
+    → AreClosed seen sure opening earlier seats book → NeverFail seen sure → IsKeptBook limited loses book → HaveOneHistory loses opening earlier (map part_of seats) book
+one_history seen sure limited loses opening earlier seats book closed never kept = record {
+  made = closed.made;
+  standing = closed.standing;
+  is_opening = closed.opened;
+  replay = subst (λ (s : Store). IsReplay (opened s) book.history book.machine) closed.opened kept.replay;
+  are = closed.are;
+  stand = closed.stand;
+  front = kept.front;
+  counted = closed.counted ∙ sym (sum_mapped (λ (p : Part). length p.asked) part_of seats);
+  are_parts = All-map (λ (p : Part). p.asked ≡ own p.session closed.made) part_of seats closed.asked;
+  recorded = All-map (λ (p : Part). Starts p.log (own p.session closed.standing)) part_of seats closed.recorded;
+  unstopped = closed.unstopped never;
+  seen = All-map (λ (p : Part). p.seen ≤ greatest book.history) part_of seats closed.none_ahead;
+  whole = closed.all;
+  lost = kept.lost;
+}
 
 none_in : (P : Part → Type 0) → All P []
 none_in P k d lt = absurd (omega (arith, lt))

@@ -14,6 +14,7 @@ use Rattle.session_answers.specs.Hosting.{begun_at, IsFresh, AreAllSeats}
 use Rattle.plan_answers.specs.Refusals.{Printed}
 use Rattle.session_answers.specs.Sessions.{Beginning, beginning, IsServedSession}
 use Rattle.session_answers.specs.Talking.{HasTalked}
+use Rattle.session_answers.proofs.Sessions.{fresh_seat}
 
 empty_front : (xs : List SeatState) (x : SeatState) → length (xs ++ x ∷ []) ≡ 1 → xs ≡ []
 empty_front [] x len = refl
@@ -39,12 +40,7 @@ alone x start all rest seat new is =
     let whole : parts_of (seat ∷ []) ≡ ALL_PARTS = ap parts_of (sym one) ∙ new.parts in
     record {
       nothing = nothing;
-      fresh = record {
-        exchange = ap (λ (s : SeatState). s.exchange) begun;
-        asked = ap (λ (s : SeatState). s.asked) begun;
-        log = ap (λ (s : SeatState). s.log) begun;
-        broken = ap (λ (s : SeatState). s.broken) begun;
-      };
+      fresh = fresh_seat begun;
       seen = ap (λ (s : SeatState). s.seen) begun;
       first = ap (λ (s : SeatState). s.session) begun;
       parts = omega (arith, whole);

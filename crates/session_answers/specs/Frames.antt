@@ -28,7 +28,7 @@ abbrev pub end_line : Option ServeFault → List ℕ
 end_line None = []
 end_line (Some fault) = ended_line fault
 
--- the line feed that is missing behind a last byte
+-- the line feed that is missing after a last byte
 abbrev pub missing_feed : Option ℕ → List ℕ
 missing_feed None = []
 missing_feed (Some last) = if last == 10 then [] else 10 ∷ []
@@ -37,7 +37,7 @@ missing_feed (Some last) = if last == 10 then [] else 10 ∷ []
 abbrev pub last_of : List ℕ → Option ℕ
 last_of bytes = slice_get bytes (length bytes - 1)
 
--- behind what a session was told: where a fault ended it, a line that says so, which begins behind
+-- after what a session was told: where a fault ended it, a line that says so, which begins after
 -- a line feed
 abbrev pub end_text : List ℕ → Option ServeFault → List ℕ
 end_text told None = []

@@ -34,7 +34,7 @@ AreParts parts made = All (λ p. p.asked ≡ own p.session made) parts
 abbrev pub AreRecorded : List Part → List Entry → Type 0
 AreRecorded parts standing = All (λ p. Starts p.log (own p.session standing)) parts
 
--- The sessions have one history, behind what the book had earlier, when it was opened with this
+-- The sessions have one history, after what the book had earlier, when it was opened with this
 -- store. What they asked is in this book: just their entries, those of each session in its order.
 -- It leads to the book's machine. No run of it stopped, and no session saw the runs come further
 -- than it tells. The first of the entries stand where they belong, and only of these was any told.

@@ -44,7 +44,7 @@ pub record WasUnopened (b : Beginning) (g : KnownClients) (part : Part) : Type 0
   pub log : part.log ≡ []
   pub seen : part.seen ≡ b.seen
 
--- The session read of what its client said. What it told stands in its closed writer, behind what
+-- The session read of what its client said. What it told stands in its closed writer, after what
 -- that held at first.
 pub record WasServed (b : Beginning) (said out_before closed : Option (List ℕ))
     (fault : Option ServeFault) (part : Part) : Type 0 where
@@ -84,8 +84,8 @@ abbrev pub has_failed : {C : Type 0} → Ending C → Bool
 has_failed Unopened = true
 has_failed (Served fault receipt) = is_some fault
 
--- the sessions of the clients, which ended so, on one exchange over a book that was so, and the book
--- that they leave
+-- the sessions of the clients, which ended so, on one exchange over a book that was so, and the
+-- book that they leave
 abbrev pub AreHosted : Bool → Account → KnownClients → List SessionEnd → Printed → Account → Type 0
 AreHosted loses was g ends printed left =
     (sessions : List HostedSession) × (map (λ v. v.end) sessions ≡ ends)

@@ -2,7 +2,7 @@
 use Rattle.std.specs.Prelude.{◌≡◌, ℕ, ◌≤◌, ◌==◌, Bool, true, false, List, [], ◌∷◌, map, Option, Some, None, vec_capacity}
 use Rattle.batch_book.specs.Exchanges.{Exchange}
 use Rattle.batch_book.specs.Seats.{SeatState, IsSameSeat}
-use Rattle.session_answers.specs.declared.all_there.AllThere.{AllThere}
+use Rattle.session_answers.specs.declared.threads_started.ThreadsStarted.{ThreadsStarted}
 use Rattle.session_answers.specs.declared.ended_session.Ending.{Ending}
 use Rattle.session_answers.specs.declared.host_threads.Endings.{Endings}
 use Rattle.session_answers.specs.declared.host_threads.OfSeat.{OfSeat}
@@ -42,24 +42,22 @@ pub record AreHostedSessionsAt {C : Type 0} (loses : Bool) (x : Exchange) (start
 -- one by one, these are so to those
 abbrev pub AreEach : {A B : Type 0} → (A → B → Type 0) → List A → List B → Type 0
 AreEach P [] [] = Unit {0}
-AreEach P [] (y ∷ ys) = ⊥
-AreEach P (x ∷ xs) [] = ⊥
 AreEach P (x ∷ xs) (y ∷ ys) = P x y × AreEach P xs ys
+AreEach P xs ys = ⊥
 
 -- it was decided that all threads of so many clients are there
-abbrev pub begins : ℕ → Option AllThere → Bool
+abbrev pub begins : ℕ → Option ThreadsStarted → Bool
 begins clients None = false
 begins clients (Some there) = there.threads == clients
 
 -- its session has ended, where it was decided that sessions begin; else it is as it was
 abbrev pub HasReturned : {C : Type 0} → Bool → Exchange → KnownClients → (C → Option (List ℕ))
     → Bool → SeatState → SeatState → Option (Ending C) → Type 0
-HasReturned loses x g received true seat back None = ⊥
 HasReturned loses x g received true seat back (Some e) =
     IsSameSeat seat back
     × IsHostedSession (begun_at loses x seat.seen) g (part_of back) (seen_end received e)
 HasReturned loses x g received false seat back None = back ≡ seat
-HasReturned loses x g received false seat back (Some e) = ⊥
+HasReturned loses x g received begun seat back end = ⊥
 
 -- what the thread of this seat gives back, which waited for this latch
 pub record IsReturned {L C : Type 0} (loses : Bool) (x : Exchange) (g : KnownClients)

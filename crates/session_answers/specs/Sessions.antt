@@ -9,8 +9,8 @@ use Rattle.client_session.specs.Seats.{SeatView}
 use Rattle.client_session.specs.Sessions.{HasEnded}
 use Rattle.session_answers.specs.Frames.{Transcript}
 
--- what the sessions of an exchange begin with: the shape of its rack, how far its runs have come, and
--- whether its book's kind of history may lose an entry
+-- what the sessions of an exchange begin with: the shape of its rack, how far its runs have come,
+-- and whether its book's kind of history may lose an entry
 pub record Beginning : Type 0 where
   pub shape : Extent
   pub seen : ℕ

@@ -1,7 +1,7 @@
 ghost use Rattle.std.specs.Prelude.{◌≡◌, ℕ, List, Option, IfOk, IfErr, true};
 ghost use Rattle.session_answers.specs.HostAnswers.{KnownClients};
 
-use crate::all_there::AllThere;
+use crate::threads_started::ThreadsStarted;
 use std::io;
 use std::io::{Read, Write};
 
@@ -30,7 +30,7 @@ pub trait ClientStreams: Sync {
 
     /// Opens the files of a client, once there is a thread for each client. It may wait until the
     /// client has opened them too.
-    fn open(&self, there: AllThere, client: usize) -> io::Result<(Self::Reader, Self::Writer)>
+    fn open(&self, there: ThreadsStarted, client: usize) -> io::Result<(Self::Reader, Self::Writer)>
         requires there { there.threads ≡ (known self.now).clients }
         ensures reader { IfOk result (λ ends.
             Self.Reader.remaining ends.0 ≡ (known self.now).says client) }

@@ -50,7 +50,7 @@ pub fn end_line(fault: Option<ServeFault>) -> &'static [u8]
     }
 }
 
-/// Puts what is said of a session's end at the end of the text, behind what the session was told.
+/// Puts what is said of a session's end at the end of the text, after what the session was told.
 pub fn push_end(
     text: &mut Vec<u8>,
     told: &[u8],

@@ -9,24 +9,23 @@ ghost use Rattle.session_answers.specs.Hosting.{IsFresh};
 ghost use Rattle.session_answers.specs.HostAnswers.{IsUnhosted};
 ghost use Rattle.session_answers.specs.HostedSessions.{AreEach, IsOfSeat, IsThreadOf, IsReturned, HasReturned, HaveReturned, IsRoomFor, AreAllHosted, begins, is_refused};
 
-use crate::all_there::AllThere;
 use crate::client_streams::ClientStreams;
 use crate::ended_session::Ending;
-use crate::plain_exchange::{PlainExchange, serve_client};
+use crate::plain_exchange::{PlainExchange, Runtime, serve_client};
+use crate::threads_started::ThreadsStarted;
 use batch_book::{ExchangeName, History, Seat};
 use client_session::NoListener;
 use exchange_limits::WorkerCount;
 use refusals::Refusal;
 use std::alloc::Global;
 use std::snapshot::Snapshot;
-use std::sync::{OnceLock, OnceToken, Wait};
+use std::sync::{OnceLock, OnceToken};
 use std::thread;
-use std::thread::{Promise, PromisedHandle, Scope, Threads};
-use std::time::Clock;
+use std::thread::{Promise, PromisedHandle, Scope};
 use std::vec::IntoIter;
 
 /// Whether all threads are there, and what shows it. It is decided once.
-type Latch = OnceLock<Option<AllThere>>;
+type Latch = OnceLock<Option<ThreadsStarted>>;
 
 /// What the threads of a host share.
 #[derive(Drop)]
@@ -45,7 +44,7 @@ pub struct Returned<'a, L: ExchangeName, C> {
     seat: Seat<L>,
     // How its session ended, where all threads were there.
     ending: Option<Ending<C>>,
-    decided: OnceToken<'a, Option<AllThere>>,
+    decided: OnceToken<'a, Option<ThreadsStarted>>,
 }
 
 /// That a thread gives back this seat.
@@ -94,7 +93,11 @@ pub struct Endings<L: ExchangeName, C> {
 }
 
 /// Whether it was decided that all threads of so many clients are there.
-fn begins<'a>(latch: &'a Latch, decided: &OnceToken<'a, Option<AllThere>>, clients: usize) -> bool
+fn begins<'a>(
+    latch: &'a Latch,
+    decided: &OnceToken<'a, Option<ThreadsStarted>>,
+    clients: usize,
+) -> bool
     requires { decided.now.of ≡ latch.now.id }
     ensures { result ≡ begins clients decided.now.value }
 {
@@ -105,9 +108,9 @@ fn begins<'a>(latch: &'a Latch, decided: &OnceToken<'a, Option<AllThere>>, clien
 }
 
 /// Serves the client of a seat, once it has opened its files.
-fn host_client<L: ExchangeName, R: Clock + Threads + Wait + Sync, D: ClientStreams, K: History>(
+fn host_client<L: ExchangeName, R: Runtime, D: ClientStreams, K: History>(
     context: &HostContext<'_, L, R, D, K>,
-    there: AllThere,
+    there: ThreadsStarted,
     seat: Seat<L>,
 ) -> (Seat<L>, Ending<D::Receipt>)
     requires there { there.threads ≡ (D.known context.now.streams.now).clients }
@@ -134,13 +137,10 @@ fn host_client<L: ExchangeName, R: Clock + Threads + Wait + Sync, D: ClientStrea
 
 /// Waits until it is decided whether all threads are there. Serves the client of a seat where they
 /// are, or leaves its files closed where they aren't.
-fn wait_and_host<
-    'a,
-    L: ExchangeName,
-    R: Clock + Threads + Wait + Sync,
-    D: ClientStreams,
-    K: History,
->(context: &HostContext<'a, L, R, D, K>, seat: Seat<L>) -> Returned<'a, L, D::Receipt>
+fn wait_and_host<'a, L: ExchangeName, R: Runtime, D: ClientStreams, K: History>(
+    context: &HostContext<'a, L, R, D, K>,
+    seat: Seat<L>,
+) -> Returned<'a, L, D::Receipt>
     requires seat { IsFresh context.now.exchange.now seat }
     ensures { IsReturned K.loses context.now.exchange.now (D.known context.now.streams.now)
         D.received context.now.latch.now.id seat result }
@@ -168,14 +168,7 @@ fn wait_and_host<
 
 /// Gives a seat a thread, which waits for the latch. Where it can't be had no session begins, and
 /// the seat is there at once.
-fn start<
-    's,
-    E,
-    L: ExchangeName + Send + Sync,
-    R: Clock + Threads + Wait + Sync,
-    D: ClientStreams,
-    K: History + Send,
->(
+fn start<'s, E, L: ExchangeName + Send + Sync, R: Runtime, D: ClientStreams, K: History + Send>(
     scope: &Scope<'s, E>,
     context: &'s HostContext<'s, L, R, D, K>,
     seat: Seat<L>,
@@ -202,12 +195,12 @@ fn start<
     }
 }
 
-/// Gives each of the seats that are left a thread, for which there is room, behind the others.
+/// Gives each of the seats that are left a thread, for which there is room, after the others.
 fn start_rest<
     's,
     E,
     L: ExchangeName + Send + Sync,
-    R: Clock + Threads + Wait + Sync,
+    R: Runtime,
     D: ClientStreams,
     K: History + Send,
 >(
@@ -233,14 +226,7 @@ fn start_rest<
 }
 
 /// Gives each of these seats a thread, for which there is room.
-fn start_all<
-    's,
-    E,
-    L: ExchangeName + Send + Sync,
-    R: Clock + Threads + Wait + Sync,
-    D: ClientStreams,
-    K: History + Send,
->(
+fn start_all<'s, E, L: ExchangeName + Send + Sync, R: Runtime, D: ClientStreams, K: History + Send>(
     scope: &Scope<'s, E>,
     context: &'s HostContext<'s, L, R, D, K>,
     seats: Vec<Seat<L>>,
@@ -257,10 +243,10 @@ fn start_all<
 
 /// What comes back from a seat's thread, once it has ended: its session, where this is what was
 /// decided.
-fn join<'s, L: ExchangeName, R: Clock + Threads + Wait + Sync, D: ClientStreams, K: History>(
+fn join<'s, L: ExchangeName, R: Runtime, D: ClientStreams, K: History>(
     context: &'s HostContext<'s, L, R, D, K>,
     started: SeatThread<'s, L, D, K>,
-    decided: &OnceToken<'s, Option<AllThere>>,
+    decided: &OnceToken<'s, Option<ThreadsStarted>>,
 ) -> (Seat<L>, Option<Ending<D::Receipt>>)
     requires decided { decided.now.of ≡ context.now.latch.now.id }
     requires started { (seat : SeatState) × IsThreadOf K.loses D.known D.received
@@ -287,10 +273,10 @@ fn join<'s, L: ExchangeName, R: Clock + Threads + Wait + Sync, D: ClientStreams,
 }
 
 /// What comes back from the threads of seats, once all have ended, where there is room for it.
-fn join_all<'s, L: ExchangeName, R: Clock + Threads + Wait + Sync, D: ClientStreams, K: History>(
+fn join_all<'s, L: ExchangeName, R: Runtime, D: ClientStreams, K: History>(
     context: &'s HostContext<'s, L, R, D, K>,
     threads: Vec<SeatThread<'s, L, D, K>>,
-    decided: &OnceToken<'s, Option<AllThere>>,
+    decided: &OnceToken<'s, Option<ThreadsStarted>>,
     mut back: Endings<L, D::Receipt>,
 ) -> Endings<L, D::Receipt>
     requires decided { decided.now.of ≡ context.now.latch.now.id }
@@ -320,14 +306,7 @@ fn join_all<'s, L: ExchangeName, R: Clock + Threads + Wait + Sync, D: ClientStre
 
 /// Serves the clients of these seats side by side, once each has a thread. Their seats come back
 /// where one of these can't be had.
-fn host_all<
-    's,
-    E,
-    L: ExchangeName + Send + Sync,
-    R: Clock + Threads + Wait + Sync,
-    D: ClientStreams,
-    K: History + Send,
->(
+fn host_all<'s, E, L: ExchangeName + Send + Sync, R: Runtime, D: ClientStreams, K: History + Send>(
     scope: &Scope<'s, E>,
     context: &'s HostContext<'s, L, R, D, K>,
     seats: Vec<Seat<L>>,
@@ -347,7 +326,7 @@ fn host_all<
         return Err((Refusal::NoMemory, seats));
     };
     let threads = start_all(scope, context, seats, threads);
-    let shown = AllThere::of(threads.as_slice());
+    let shown = ThreadsStarted::of(threads.as_slice());
     let decided = context.latch.init(context.rt, move || shown);
     let back = join_all(context, threads, &decided, back);
     if begins(context.latch, &decided, context.streams.clients()) {
@@ -360,7 +339,7 @@ fn host_all<
 pub fn host_seats<
     'a,
     L: ExchangeName + Send + Sync,
-    R: Clock + Threads + Wait + Sync,
+    R: Runtime,
     D: ClientStreams,
     K: History + Send,
 >(

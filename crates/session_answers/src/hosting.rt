@@ -14,7 +14,7 @@ use crate::closing::Closing;
 use crate::ended_session::Ending;
 use crate::frames::{END_ROOM, end_line, put};
 use crate::host_threads::{Endings, host_seats};
-use crate::plain_exchange::{close_exchange, finish, open_exchange};
+use crate::plain_exchange::{Runtime, close_exchange, finish, open_exchange};
 use batch_book::{Book, ExchangeBlank, ExchangeName, History, Kept};
 use exchange_limits::{MAX_SESSIONS, WorkerCount};
 use line_words::Line;
@@ -22,9 +22,6 @@ use progress_word::ALL_PARTS;
 use refusals::Refusal;
 use std::alloc::{AllocError, Global};
 use std::marker::Brand;
-use std::sync::Wait;
-use std::thread::Threads;
-use std::time::Clock;
 
 /// What is left of a host.
 #[derive(Drop)]
@@ -146,12 +143,7 @@ fn room_for_endings<L: ExchangeName, C: Drop>(
 }
 
 /// What is left of the sessions of the clients on an exchange over this book.
-fn host<
-    L: ExchangeName + Send + Sync,
-    K: History + Send,
-    R: Clock + Threads + Wait + Sync,
-    D: ClientStreams,
->(
+fn host<L: ExchangeName + Send + Sync, K: History + Send, R: Runtime, D: ClientStreams>(
     rt: &R,
     alloc: Global,
     blank: ExchangeBlank,
@@ -172,7 +164,7 @@ fn host<
 {
     // Asked for only for its contract, which says that the history is legal.
     book.log();
-    // All memory is taken before a session begins, so that nothing fails behind one.
+    // All memory is taken before a session begins, so that nothing fails after one.
     let Ok(text) = room_for_text(alloc, streams) else {
         return Err((Refusal::NoMemory, book));
     };
@@ -207,8 +199,8 @@ fn host<
 /// line `ended ..` that says so, under the status [`REFUSED`](plan_answers::REFUSED).
 ///
 /// Where a thread can't be had, or there is no memory, no file is opened, and the book comes back
-/// as sessions leave it that asked nothing. Nothing fails for want of memory behind the sessions.
-pub fn host_on<K: History + Send, R: Clock + Threads + Wait + Sync, D: ClientStreams>(
+/// as sessions leave it that asked nothing. Nothing fails for want of memory after the sessions.
+pub fn host_on<K: History + Send, R: Runtime, D: ClientStreams>(
     rt: &R,
     alloc: Global,
     book: Book<K>,

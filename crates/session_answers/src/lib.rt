@@ -11,14 +11,13 @@
 //! `IsServeAnswer`, `HasTalked` and `AreHosted` (`specs/Serving.antt`, `specs/Talking.antt`,
 //! `specs/HostAnswers.antt`) say this: each session is one that its client's bytes may have, as far
 //! as these are known (`IsServedSession`), unless its files couldn't be opened, and what all asked
-//! is one legal history, that of the book behind what it had before (`HaveOneHistory` of
+//! is one legal history, that of the book after what it had before (`HaveOneHistory` of
 //! `specs/Histories.antt`). No run of it stopped, and no session saw the runs come further than it
 //! tells. What a session was told stands where it belongs. Where the book is whole all entries do;
 //! where it isn't, some last ones may be missing, which nobody was told. The files of a client are
-//! opened only for who shows that each client has a thread ([`AllThere`]).
+//! opened only for who shows that each client has a thread ([`ThreadsStarted`]).
 #![tactic(auto)]
 
-mod all_there;
 mod client_streams;
 mod closing;
 mod ended_session;
@@ -29,12 +28,14 @@ mod plain_exchange;
 mod serving;
 mod session;
 mod talking;
+mod threads_started;
 
-pub use all_there::AllThere;
 pub use client_streams::ClientStreams;
 pub use closing::Closing;
 pub use ended_session::Ending;
 pub use frames::push_end;
 pub use hosting::{Hosted, host_on};
+pub use plain_exchange::Runtime;
 pub use serving::{Served, answer_serve};
 pub use talking::talk_on;
+pub use threads_started::ThreadsStarted;

@@ -32,6 +32,11 @@ use std::sync::Wait;
 use std::thread::Threads;
 use std::time::Clock;
 
+/// What sessions run on: threads, locks that wait, and a clock.
+pub trait Runtime: Clock + Threads + Wait + Sync {}
+
+impl<R: Clock + Threads + Wait + Sync> Runtime for R {}
+
 /// An exchange whose port and wires never fail.
 pub type PlainExchange<L, K = Kept> = Shared<L, MemoryPort, PlainWires, OpenGate, K>;
 
@@ -68,14 +73,7 @@ pub fn open_exchange<L: ExchangeName, K: History>(
 /// Serves a client from a seat that has done nothing yet, to the session's end: gives the seat
 /// back, and the fault that ended the session, where one did. The listener hears each command, and
 /// each refusal.
-pub fn serve_client<
-    L: ExchangeName,
-    K: History,
-    R: Clock + Threads + Wait + Sync,
-    I: Read,
-    O: Write,
-    H: Listener,
->(
+pub fn serve_client<L: ExchangeName, K: History, R: Runtime, I: Read, O: Write, H: Listener>(
     rt: &R,
     alloc: Global,
     exchange: &PlainExchange<L, K>,
@@ -100,7 +98,7 @@ pub fn serve_client<
     }
 }
 
-/// Closes the exchange behind its sessions, which leave this book. No entry of it waits.
+/// Closes the exchange after its sessions, which leave this book.
 pub fn close_exchange<L: ExchangeName, K: History>(
     exchange: PlainExchange<L, K>,
     seats: Vec<Seat<L>>,
@@ -115,10 +113,7 @@ pub fn close_exchange<L: ExchangeName, K: History>(
             // Parted only for the contract, which says that the history is legal, and what may be
             // lost.
             let (bare, history) = book.part();
-            let mut book = Book::go_on(bare, history);
-            // Each session has settled what it was told. Where this fails the book tells so.
-            let _ = book.flush();
-            book
+            Book::go_on(bare, history)
         }
         Err(
             SeatMissing {
@@ -129,7 +124,7 @@ pub fn close_exchange<L: ExchangeName, K: History>(
     }
 }
 
-/// Closes the exchange behind its sessions, of which this text is printed, and one of which was
+/// Closes the exchange after its sessions, of which this text is printed, and one of which was
 /// ended by a fault or none.
 pub fn finish<L: ExchangeName, K: History>(
     exchange: PlainExchange<L, K>,

@@ -13,7 +13,7 @@ ghost use Rattle.session_answers.specs.Serving.{HasItsScript, AreServed, IsServe
 
 use crate::closing::Closing;
 use crate::frames::{frame, has_fault};
-use crate::plain_exchange::{PlainExchange, finish, open_exchange, serve_client};
+use crate::plain_exchange::{PlainExchange, Runtime, finish, open_exchange, serve_client};
 use crate::session::Session;
 use batch_book::{Book, ExchangeBlank, ExchangeName, Kept, Seat};
 use client_session::NoListener;
@@ -24,22 +24,19 @@ use rack_answers::read_rack;
 use refusals::Refusal;
 use std::alloc::{AllocError, Global};
 use std::marker::Brand;
-use std::sync::Wait;
 use std::thread;
-use std::thread::Threads;
-use std::time::Clock;
 
 /// What is left of scripts, once all have been served.
 #[derive(Drop)]
 pub struct Served {
     /// What their sessions were told, or the refusal.
     pub answer: Answer,
-    /// The book of their exchange. There is none behind a refusal.
+    /// The book of their exchange. There is none after a refusal.
     pub book: Option<Book>,
 }
 
 impl Served {
-    /// A refusal, behind which there is no book.
+    /// A refusal, after which there is no book.
     fn refused(alloc: Global, refusal: Refusal) -> Result<Served, AllocError>
         ensures answer { IfOk result (λ served. Refuses refusal served.answer) }
         ensures book { IfOk result (λ served. served.book ≡ None) }
@@ -52,7 +49,7 @@ impl Served {
 }
 
 /// Serves the script at the place of the seat's session, to the session's end.
-fn serve_script<L: ExchangeName, R: Clock + Threads + Wait + Sync>(
+fn serve_script<L: ExchangeName, R: Runtime>(
     rt: &R,
     alloc: Global,
     exchange: &PlainExchange<L>,
@@ -82,7 +79,7 @@ fn serve_script<L: ExchangeName, R: Clock + Threads + Wait + Sync>(
 
 /// Serves the scripts side by side, one thread for each where it can be had. The sessions come in
 /// the order of the scripts.
-fn serve_all<L: ExchangeName + Send + Sync, R: Clock + Threads + Wait + Sync>(
+fn serve_all<L: ExchangeName + Send + Sync, R: Runtime>(
     rt: &R,
     alloc: Global,
     exchange: &PlainExchange<L>,
@@ -118,7 +115,7 @@ fn seats_of<L: ExchangeName>(
 }
 
 /// What is left of the scripts' sessions on one exchange over this book, which is new.
-fn serve_scripts<L: ExchangeName + Send + Sync, R: Clock + Threads + Wait + Sync>(
+fn serve_scripts<L: ExchangeName + Send + Sync, R: Runtime>(
     rt: &R,
     alloc: Global,
     blank: ExchangeBlank,
@@ -155,7 +152,7 @@ fn serve_scripts<L: ExchangeName + Send + Sync, R: Clock + Threads + Wait + Sync
 /// `session I`, and then what the session was told; where a fault ended it, a line `ended ..` says
 /// so, and the status is [`REFUSED`](plan_answers::REFUSED). When all have ended the exchange is
 /// closed.
-pub fn answer_serve<R: Clock + Threads + Wait + Sync>(
+pub fn answer_serve<R: Runtime>(
     rt: &R,
     alloc: Global,
     shape: &[u8],

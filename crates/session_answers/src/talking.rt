@@ -9,7 +9,7 @@ ghost use Rattle.session_answers.specs.Talking.{HasTalked, IsUntouched};
 
 use crate::closing::Closing;
 use crate::frames::{END_ROOM, end_line, put};
-use crate::plain_exchange::{finish, open_exchange, serve_client};
+use crate::plain_exchange::{Runtime, finish, open_exchange, serve_client};
 use batch_book::{Book, ExchangeBlank, ExchangeName, History};
 use client_session::Listener;
 use exchange_limits::WorkerCount;
@@ -17,19 +17,9 @@ use progress_word::ALL_PARTS;
 use std::alloc::{AllocError, Global};
 use std::io::{Read, Write};
 use std::marker::Brand;
-use std::sync::Wait;
-use std::thread::Threads;
-use std::time::Clock;
 
 /// What is left of the session of this reader and this writer, on an exchange over this book.
-fn talk<
-    L: ExchangeName,
-    K: History,
-    R: Clock + Threads + Wait + Sync,
-    I: Read,
-    O: Write,
-    H: Listener,
->(
+fn talk<L: ExchangeName, K: History, R: Runtime, I: Read, O: Write, H: Listener>(
     rt: &R,
     alloc: Global,
     blank: ExchangeBlank,
@@ -49,7 +39,7 @@ fn talk<
     ensures beside { TellsOfRefusals H.may_tell (H.told listener.old) (H.told listener.new) }
     ensures unheard { OnErr result (H.told listener.new ≡ H.told listener.old) }
 {
-    // All memory is taken before the session begins, so that nothing fails behind it.
+    // All memory is taken before the session begins, so that nothing fails after it.
     let Ok(mut line) = Vec::with_capacity(alloc, END_ROOM) else {
         return Err((AllocError, book));
     };
@@ -73,11 +63,11 @@ fn talk<
 ///
 /// Reply lines are written, and the writer flushed, before more is read, as
 /// [`serve`](client_session::serve) tells. The listener hears each command, and each refusal of the
-/// session. Behind a session that ended by itself there is nothing more to print; where a fault
+/// session. After a session that ended by itself there is nothing more to print; where a fault
 /// ended it a line `ended ..` says so, under the status [`REFUSED`](plan_answers::REFUSED). Want of
 /// memory comes before the session alone: then nothing is read or told, and the book comes back as
 /// it was.
-pub fn talk_on<K: History, R: Clock + Threads + Wait + Sync, I: Read, O: Write, H: Listener>(
+pub fn talk_on<K: History, R: Runtime, I: Read, O: Write, H: Listener>(
     rt: &R,
     alloc: Global,
     book: Book<K>,

@@ -14,7 +14,7 @@ use Rattle.link_graph.proofs.Sums.{hit, swap, sum_ones}
 use Rattle.link_graph.proofs.Firsts.{all_left, all_right}
 use Rattle.switch_settings.proofs.Counting.{each_once, length_range}
 
--- the numbers before a setting, those of the setting, and those behind it
+-- the numbers before a setting, those of the setting, and those after it
 pub split_concat : (settings : List (List ℕ)) (k : ℕ) → k < length settings → concat settings ≡ concat (take k settings) ++ get_or settings k [] ++ concat (drop (k + 1) settings)
 split_concat [] k h = absurd (omega arith)
 split_concat (s ∷ ss) zero h = refl

@@ -42,7 +42,7 @@ abbrev pub first_sent : (ℕ → List ℕ) → ℕ → List ℕ
 first_sent bytes count = flat_map bytes (range_with_len 0 count)
 
 -- A wire has carried the bytes of so many words, one after the other, and no others where these are
--- all. Where it failed, it has carried less than the next word's bytes behind them.
+-- all. Where it failed, it has carried less than the next word's bytes after them.
 pub record HasCarried (bytes : ℕ → List ℕ) (words count : ℕ) (old new : List ℕ) : Type 0 where
   pub whole : count ≡ words → new ≡ old ++ first_sent bytes count
   pub short : count < words → IsCut (bytes count) (old ++ first_sent bytes count) new

@@ -26,7 +26,7 @@ AreMovable rest batch (t ∷ numbers) (bay ∷ bays) =
     IsMovable rest batch t bay × AreMovable rest batch numbers bays
 AreMovable rest batch _ _ = ⊥
 
--- a block into which so many words have moved: they stand in front, and behind them its own
+-- a block into which so many words have moved: they stand in front, and after them its own
 abbrev pub moved_into : ℕ → List ℕ → List ℕ → List ℕ
 moved_into count words old = take count words ++ drop count old
 

@@ -21,7 +21,7 @@ use Rattle.setting_runner.specs.declared.outcome.StopCause.TheVariants.{Port, Sw
 use Rattle.switch_settings.specs.Answers.{HasOutput}
 use Rattle.switch_settings.specs.Settings.{numbers_in, setting_pairs}
 
--- the bays of a setting stand behind those of the settings before it
+-- the bays of a setting stand after those of the settings before it
 abbrev pub HasOwnBays : Store → List BlockAt → List Transfer → List (List ℕ) → ℕ → Type 0
 HasOwnBays rest bays batch settings k =
     AreBaysOf rest bays

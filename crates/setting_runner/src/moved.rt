@@ -75,7 +75,7 @@ impl Moved {
         self.entries.as_slice()
     }
 
-    /// Puts a transfer behind the others.
+    /// Puts a transfer after the others.
     pub(crate) fn push(&mut self, transfer: usize, words: usize)
         requires room { length self.old < MAX_MODULES }
         requires transfer { transfer < MAX_TRANSFERS }
@@ -85,7 +85,7 @@ impl Moved {
         self.push_entry((transfer as u16, words as u16));
     }
 
-    /// Puts a transfer behind the others, with the words that it has moved.
+    /// Puts a transfer after the others, with the words that it has moved.
     fn push_entry(&mut self, entry: (u16, u16))
         requires { length self.old < MAX_MODULES }
         ensures { self.new ≡ self.old ++ entry ∷ [] }
@@ -93,7 +93,7 @@ impl Moved {
         self.entries.push(entry);
     }
 
-    /// These transfers, and behind them the others.
+    /// These transfers, and after them the others.
     pub(crate) fn and(self, others: Moved) -> Moved
         requires { length self + length others ≤ MAX_MODULES }
         ensures { result ≡ self ++ others }

@@ -59,7 +59,7 @@ pub enum Outcome {
     /// Nothing was done, for this cause.
     Refused(RunRefusal),
     /// This setting, counted from 0, was not run to its end: its transfers have moved so many words
-    /// each. All settings before it were run, and none behind it.
+    /// each. All settings before it were run, and none after it.
     Stopped {
         setting: usize,
         cause: StopCause,

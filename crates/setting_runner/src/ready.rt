@@ -57,7 +57,7 @@ pub fn destinations(
     Ok(places)
 }
 
-/// Puts the blocks that these transfers write behind the others.
+/// Puts the blocks that these transfers write after the others.
 fn push_destinations(
     places: &mut Vec<Place>,
     batch: &Batch,

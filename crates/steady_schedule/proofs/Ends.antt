@@ -33,6 +33,3 @@ has_ends batch t r fits t_in is = elim (slice_get_cases batch t).1 [
 pub one_more : (batch : List Transfer) (t : ℕ) (x : Transfer) → slice_get batch t ≡ Some x → take (t + 1) batch ≡ take t batch ++ x ∷ []
 one_more batch t x here =
     take_more batch t x (slice_get_within batch t x here) ∙ ap (λ (y : Transfer). take t batch ++ y ∷ []) (get_or_from_slice_get batch t x x here)
-
-pub modules_low : (batch : List Transfer) → IsBatch batch → (t : ℕ) (x : Transfer) → slice_get batch t ≡ Some x → (x.initiator < MAX_MODULES) × (x.responder < MAX_MODULES)
-modules_low batch fits t x here = modules_of batch t x here fits

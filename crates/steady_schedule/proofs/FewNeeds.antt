@@ -1,12 +1,14 @@
 -- A schedule that changes the switch only at need does so at most once for each pair of links in use
 -- together, and once for each link in use: each pair is over once, and each link is needed at last.
-use Rattle.std.proofs.Common.{◌≡◌, ◌==◌, ℕ, zero, suc, ◌+◌, ◌<◌, ◌≤◌, List, [], ◌∷◌, length, get_or, slice_get, Bool, true, false, not, ◌&&◌, ◌||◌, Some, All, refl, sym, ap, ◌∙◌, subst, inl, inr, eq-eqb, arith}
-use Rattle.std.specs.Prelude.{count_by, nat_lt}
+use Rattle.std.proofs.Common.{◌≡◌, ◌==◌, ℕ, suc, ◌+◌, ◌<◌, ◌≤◌, List, [], ◌∷◌, length, get_or, slice_get, Bool, true, false, not, ◌&&◌, ◌||◌, Some, All, refl, sym, ◌∙◌, subst, inl, inr, eq-eqb, arith}
+use Rattle.std.specs.Prelude.{nat_lt}
 use Rattle.std.specs.List.{AllByRecursion, list_any, list_all}
-use Rattle.std.proofs.lemmas.Bool.{cases_Bool, and_parts, eqb-true, or_cases, or_left, or_right, lt-ltb, false≢true}
-use Rattle.std.proofs.lemmas.List.Elements.{Contains-get_or, recursion_from_All}
-use Rattle.std.proofs.lemmas.List.Sums.{sum_by-cons}
-use Rattle.std.proofs.lemmas.Option.{slice_get_cases, none-some, same_Some}
+use Rattle.std.proofs.lemmas.Bool.{cases_Bool, and_parts, eqb-true, lt-ltb, ltb-true}
+use Rattle.std.proofs.lemmas.Bool.Decides.{nat_tests}
+use Rattle.std.proofs.lemmas.List.Folds.{Any-from_list_any, list_any-from_Any, list_any_none}
+use Rattle.std.proofs.lemmas.List.Elements.{All-from_get_or, Contains-get_or, recursion_from_All}
+use Rattle.std.proofs.lemmas.List.Sums.{list_all-from_AllPass}
+use Rattle.std.proofs.lemmas.Option.{get_or_from_slice_get, slice_get_cases, slice_get_within}
 use Rattle.batch.specs.Batches.{IsBatch}
 use Rattle.batch.specs.declared.limits.TheConstants.{MAX_MODULES}
 use Rattle.batch.specs.declared.transfer.Transfer.{Transfer}
@@ -25,8 +27,9 @@ use Rattle.steady_schedule.specs.Needs.IsOver.{pair_done, link_needed}
 use Rattle.steady_schedule.specs.Partners.{joins_to, partners}
 use Rattle.steady_schedule.specs.Waiting.{sum_below}
 use Rattle.steady_schedule.proofs.StepSums.{count_is_sum}
-use Rattle.steady_schedule.proofs.Ends.{modules_low}
-use Rattle.steady_schedule.proofs.Members.{member_any, any_member, pair_stands}
+use Rattle.link_graph.proofs.Tables.{module_fits, modules_of}
+use Rattle.steady_schedule.proofs.Runs.{any_some}
+use Rattle.steady_schedule.proofs.Standing.{member_any, any_member, pair_stands}
 use Rattle.steady_schedule.proofs.Sums.{sum_most, sum_less, at_most_sum}
 
 -- ---- what some settings join and use
@@ -62,15 +65,10 @@ module _ (batch : List Transfer) where
   -- ---- one setting more
 
   more_joined : (a b : Bool) → bit b ≤ bit (a || b)
-  more_joined true true = omega arith
-  more_joined true false = omega arith
-  more_joined false b = omega arith
+  more_joined a b = grind (arith, nat_tests)
 
   more_idle : (c a e : Bool) → bit (c && not e) ≤ bit (c && not (a && e))
-  more_idle c true e = omega arith
-  more_idle true false true = omega arith
-  more_idle true false false = omega arith
-  more_idle false false e = omega arith
+  more_idle c a e = grind (arith, nat_tests)
 
   rows_more : (s : List ℕ) (rest : List (List ℕ)) (u : ℕ) → row_of rest u ≤ row_of (s ∷ rest) u
   rows_more s rest u = sum_most MAX_MODULES (pair_at rest u) (pair_at (s ∷ rest) u) (λ v lt. more_joined (are_partners (members batch s) u v) (joins rest u v))
@@ -84,21 +82,13 @@ module _ (batch : List Transfer) where
   worth_more : (s : List ℕ) (rest : List (List ℕ)) → worth rest ≤ worth (s ∷ rest)
   worth_more s rest = omega (arith, pairs_more s rest, idle_more s rest Zero, idle_more s rest Three)
 
-  none_joins : (rest : List (List ℕ)) (u v : ℕ) → ((i : ℕ) → i < length rest → are_partners (members batch (get_or rest i [])) u v ≡ false) → joins rest u v ≡ false
-  none_joins [] u v none = refl
-  none_joins (s ∷ rest) u v none = rw (none 0 (omega arith)) (none_joins rest u v (λ i lt. none (suc i) (omega arith)))
-
-  all_use : (rest : List (List ℕ)) (end : End) (m : ℕ) → ((i : ℕ) → i < length rest → uses_it end m (get_or rest i []) ≡ true) → each_uses rest end m ≡ true
-  all_use [] end m each = refl
-  all_use (s ∷ rest) end m each = rw (each 0 (omega arith)) (all_use rest end m (λ i lt. each (suc i) (omega arith)))
-
   module _ (fits : IsBatch batch) where
     -- a setting that joins a pair no later one joins
     pair_less : (s : List ℕ) (rest : List (List ℕ)) (u v : ℕ) → are_partners (members batch s) u v ≡ true → joins rest u v ≡ false → worth rest < worth (s ∷ rest)
     pair_less s rest u v here none =
         let m = any_member batch s (λ x. x.initiator == u && x.responder == v) here in
         let both = and_parts (m.1.initiator == u) (m.1.responder == v) m.4 in
-        let low = modules_low batch fits m.0 m.1 m.3 in
+        let low = modules_of batch m.0 m.1 m.3 fits in
         let u_in : u < MAX_MODULES = omega (arith, low.0, eqb-true m.1.initiator u both.0) in
         let v_in : v < MAX_MODULES = omega (arith, low.1, eqb-true m.1.responder v both.1) in
         let at : pair_at rest u v < pair_at (s ∷ rest) u v = rw (here, none) (omega arith) in
@@ -118,10 +108,8 @@ module _ (batch : List Transfer) where
 
   -- ---- what is over
 
-  some_uses : (p : Transfer → Bool) (xs : List Transfer) (t : ℕ) (x : Transfer) → slice_get xs t ≡ Some x → p x ≡ true → 0 < count_by p xs
-  some_uses p [] t x here passes = absurd (none-some x here)
-  some_uses p (y ∷ ys) zero x here passes = omega (arith, sum_by-cons (λ z. bit (p z)) y ys, ap bit (ap p (same_Some y x here) ∙ passes))
-  some_uses p (y ∷ ys) (suc t) x here passes = omega (arith, sum_by-cons (λ z. bit (p z)) y ys, some_uses p ys t x here passes)
+  any_in : (p : Transfer → Bool) (xs : List Transfer) (t : ℕ) (x : Transfer) → slice_get xs t ≡ Some x → p x ≡ true → list_any p xs ≡ true
+  any_in p xs t x here passes = list_any-from_Any p xs (t, x, slice_get_within xs t x here, get_or_from_slice_get xs t x x here, passes)
 
   used_is : (s : List ℕ) (link : Link) → IsUsed batch s link → uses_it link.end link.«module» s ≡ true
   used_is s link used =
@@ -132,22 +120,19 @@ module _ (batch : List Transfer) where
       let m = any_member batch s (λ x. module_at link.end x == link.«module») any in
       (m.0, m.2, uses_at batch m.0 link m.1 m.3 (eqb-true (module_at link.end m.1) link.«module» m.4))
 
-  low_end : IsBatch batch → (t : ℕ) (x : Transfer) (end : End) → slice_get batch t ≡ Some x → module_at end x < MAX_MODULES
-  low_end fits t x Zero here = (modules_low batch fits t x here).0
-  low_end fits t x Three here = (modules_low batch fits t x here).1
-
   over_less : IsBatch batch → (s : List ℕ) (rest : List (List ℕ)) → 0 < length rest → IsOver batch (s ∷ rest) 0 → worth rest < worth (s ∷ rest)
-  over_less fits s rest some (pair_done u v here none) = pair_less fits s rest u v here (none_joins rest u v (λ i lt. none (suc i) (omega arith) (omega arith)))
+  over_less fits s rest some (pair_done u v here none) = pair_less fits s rest u v here (list_any_none (λ t. are_partners (members batch t) u v) rest (All-from_get_or (λ t. are_partners (members batch t) u v ≡ false) rest [] (λ i lt. none (suc i) (omega arith) (omega arith))))
   over_less fits s rest some (link_needed link unused used) =
       let next = used 1 (omega arith) (omega (arith, some)) in
       let at = at_used batch next.0 link next.2.0 next.2.1 next.2 in
-      let low : link.«module» < MAX_MODULES = omega (arith, at, low_end fits next.0 next.2.0 link.end next.2.1) in
-      let in_use : 0 < uses batch link = some_uses (λ x. module_at link.end x == link.«module») batch next.0 next.2.0 next.2.1 (eq-eqb (module_at link.end next.2.0) link.«module» at) in
+      let low : link.«module» < MAX_MODULES = omega (arith, at, module_fits link.end next.2.0 (modules_of batch next.0 next.2.0 next.2.1 fits)) in
+      let used_by : Transfer → Bool = λ x. module_at link.end x == link.«module» in
+      let in_use : 0 < uses batch link = ltb-true 0 (uses batch link) (any_some used_by batch ∙ any_in used_by batch next.0 next.2.0 next.2.1 (eq-eqb (module_at link.end next.2.0) link.«module» at)) in
       let free : uses_it link.end link.«module» s ≡ false = elim (cases_Bool (uses_it link.end link.«module» s)) [
         | inl t ↦ absurd (unused (is_used s link t))
         | inr f ↦ f
       ] in
-      link_less fits s rest link.end link.«module» low in_use free (all_use rest link.end link.«module» (λ i lt. used_is (get_or rest i []) link (used (suc i) (omega arith) (omega arith))))
+      link_less fits s rest link.end link.«module» low in_use free (list_all-from_AllPass (uses_it link.end link.«module») rest (All-from_get_or (λ t. uses_it link.end link.«module» t ≡ true) rest [] (λ i lt. used_is (get_or rest i []) link (used (suc i) (omega arith) (omega arith)))))
 
   over_tail : (s : List ℕ) (rest : List (List ℕ)) (k : ℕ) → IsOver batch (s ∷ rest) (suc k) → IsOver batch rest k
   over_tail s rest k (pair_done u v here none) = pair_done u v here (λ later lt within. none (suc later) (omega arith) (omega arith))
@@ -168,7 +153,7 @@ module _ (batch : List Transfer) where
       let t = get_or s 0 0 in
       elim (slice_get_cases batch t).1 [
         | inl q ↦
-            let low = modules_low batch fits t q.0 q.2 in
+            let low = modules_of batch t q.0 q.2 fits in
             let here : are_partners (members batch s) q.0.initiator q.0.responder ≡ true = pair_stands batch s t q.0 (Contains-get_or s 0 0 fills.0) q.2 in
             let one : pair_at (s ∷ rest) q.0.initiator q.0.responder ≡ 1 = rw here refl in
             omega (arith, one, at_most_sum MAX_MODULES q.0.responder (pair_at (s ∷ rest) q.0.initiator) low.1, at_most_sum MAX_MODULES q.0.initiator (row_of (s ∷ rest)) low.0)
@@ -187,16 +172,10 @@ module _ (batch : List Transfer) where
   -- ---- at most what is in use
 
   joins_any : (settings : List (List ℕ)) (u v : ℕ) → joins settings u v ≡ true → (t : ℕ) × (x : Transfer) × (slice_get batch t ≡ Some x) × ((x.initiator == u && x.responder == v) ≡ true)
-  joins_any [] u v any = absurd (false≢true any)
-  joins_any (s ∷ rest) u v any = elim (or_cases (are_partners (members batch s) u v) (joins rest u v) any) [
-    | inl here ↦ let m = any_member batch s (λ x. x.initiator == u && x.responder == v) here in (m.0, m.1, m.3, m.4)
-    | inr later ↦ joins_any rest u v later
-  ]
-
-  any_in : (p : Transfer → Bool) (xs : List Transfer) (t : ℕ) (x : Transfer) → slice_get xs t ≡ Some x → p x ≡ true → list_any p xs ≡ true
-  any_in p [] t x here passes = absurd (none-some x here)
-  any_in p (y ∷ ys) zero x here passes = or_left (p y) (list_any p ys) (ap p (same_Some y x here) ∙ passes)
-  any_in p (y ∷ ys) (suc t) x here passes = or_right (p y) (list_any p ys) (any_in p ys t x here passes)
+  joins_any settings u v any =
+      let one = Any-from_list_any (λ s. are_partners (members batch s) u v) settings any in
+      let m = any_member batch one.1 (λ x. x.initiator == u && x.responder == v) one.4 in
+      (m.0, m.1, m.3, m.4)
 
   pair_used : (settings : List (List ℕ)) (u v : ℕ) → pair_at settings u v ≤ bit (list_any (joins_to (link_of Zero u) v) batch)
   pair_used settings u v = elim (cases_Bool (joins settings u v)) [
@@ -208,14 +187,9 @@ module _ (batch : List Transfer) where
   unfolding partners
   row_used settings u = omega (arith, sum_most MAX_MODULES (pair_at settings u) (λ v. bit (list_any (joins_to (link_of Zero u) v) batch)) (λ v v_in. pair_used settings u v), count_is_sum MAX_MODULES (λ v. list_any (joins_to (link_of Zero u) v) batch))
 
-  bit_and_few : (c e : Bool) → bit (c && e) ≤ bit c
-  bit_and_few true true = omega arith
-  bit_and_few true false = omega arith
-  bit_and_few false e = omega arith
-
   worth_most : (settings : List (List ℕ)) → worth settings ≤ most_changes batch
   worth_most settings =
-      let links = λ (end : End). sum_most MAX_MODULES (idle_at settings end) (in_use batch end) (λ m lt. bit_and_few (nat_lt 0 (uses batch (link_of end m))) (not (each_uses settings end m))) in
+      let links = λ (end : End). sum_most MAX_MODULES (idle_at settings end) (in_use batch end) (λ m lt. grind (arith, nat_tests)) in
       omega (arith, sum_most MAX_MODULES (row_of settings) (λ u. partners batch (link_of Zero u)) (λ u lt. row_used settings u), links Zero, links Three)
 
 -- a schedule that changes at need, none of whose settings is empty

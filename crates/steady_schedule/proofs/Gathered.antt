@@ -1,8 +1,8 @@
 -- Lists of transfers by the numbers of their settings, grown one transfer at a time.
-use Rattle.std.proofs.Common.{◌≡◌, ℕ, ◌+◌, ◌-◌, ◌<◌, ◌≤◌, List, [], ◌∷◌, ◌++◌, length, get_or, drop, slice_get, Some, All, refl, sym, ap, ◌∙◌, subst, inl, inr, get_or-set_same, get_or-set_other, arith, zero, suc}
+use Rattle.std.proofs.Common.{◌≡◌, ℕ, ◌+◌, ◌-◌, ◌<◌, ◌≤◌, List, [], ◌∷◌, ◌++◌, length, get_or, drop, slice_get, Some, All, refl, sym, ap, ◌∙◌, subst, inl, inr, get_or-set_same, get_or-set_other, arith}
 use Rattle.std.specs.Prelude.{AllPairs, Contains}
 use Rattle.std.proofs.lemmas.Bool.{cases_eq, cases_lt}
-use Rattle.std.proofs.lemmas.List.{length-set, get_or_past, get_or_append_left, get_or_push, length_push, map_push}
+use Rattle.std.proofs.lemmas.List.{get_or_default, length-set, get_or_past, get_or_append_left, get_or_push, length_push, map_push}
 use Rattle.std.proofs.lemmas.List.Elements.{All-set, All-push, All-head, All-tail, All-get_or, Contains-get_or, Contains-push_cases}
 use Rattle.std.proofs.lemmas.List.Quantifiers.{all_pairs_push}
 use Rattle.std.proofs.lemmas.List.Sums.{sum_by-cons}
@@ -111,23 +111,18 @@ more_lists lists all v n pushed empty so_far =
 
 -- ---- a schedule
 
-pub any_default : (lists : List (List ℕ)) (k : ℕ) (d e : List ℕ) → k < length lists → get_or lists k d ≡ get_or lists k e
-any_default [] k d e lt = absurd (omega arith)
-any_default (x ∷ xs) zero d e lt = refl
-any_default (x ∷ xs) (suc k) d e lt = any_default xs k d e (omega arith)
-
 module _ (batch : List Transfer) (count : ℕ) (numbers : List ℕ) (settings : List (List ℕ)) (proper : AreProper batch count numbers) (g : AreGathered numbers count settings) where
   known : (k t : ℕ) → Contains (get_or settings k []) t → t < length batch
   known k t stands = omega (arith, (g.within k t stands).0, proper.sized)
 
   pub gathered_schedule : IsScheduleOf batch settings
   gathered_schedule = record {
-    matchings = λ k d k_in. subst (IsMatching batch) (any_default settings k [] d k_in) (λ i j e less j_in.
+    matchings = λ k d k_in. subst (IsMatching batch) (get_or_default settings k [] d k_in) (λ i j e less j_in.
         let list : List ℕ = get_or settings k [] in
         let ascend : AllPairs (λ t u. t < u) list = g.ascending k [] k_in in
         let t_stands : Contains list (get_or list i e) = Contains-get_or list i e (omega arith) in
         let u_stands : Contains list (get_or list j e) = Contains-get_or list j e j_in in
         proper.apart (get_or list i e) (get_or list j e) (ascend i j e less j_in) (known k (get_or list j e) u_stands) ((g.within k (get_or list i e) t_stands).1 ∙ sym (g.within k (get_or list j e) u_stands).1));
     once = λ t t_in. g.once t (omega (arith, t_in, proper.sized));
-    no_other = λ k d k_in. subst (All (λ t. t < length batch)) (any_default settings k [] d k_in) (λ i e i_in. known k (get_or (get_or settings k []) i e) (Contains-get_or (get_or settings k []) i e i_in));
+    no_other = λ k d k_in. subst (All (λ t. t < length batch)) (get_or_default settings k [] d k_in) (λ i e i_in. known k (get_or (get_or settings k []) i e) (Contains-get_or (get_or settings k []) i e i_in));
   }

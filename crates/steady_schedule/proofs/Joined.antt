@@ -1,5 +1,6 @@
 -- The table of what a setting joins, and the count of changes.
-use Rattle.std.proofs.Common.{◌≡◌, ◌≢◌, ◌==◌, ℕ, zero, suc, ◌+◌, ◌-◌, ◌<◌, ◌≤◌, List, [], ◌∷◌, ◌++◌, length, get_or, set, take, drop, replicate, Bool, true, false, not, ◌&&◌, ◌||◌, cond, Option, Some, None, All, slice_get, refl, sym, ap, ◌∙◌, subst, inl, inr, eq-eqb, get_or-set_same, get_or-set_other, arith}
+use Rattle.std.proofs.Common.{◌↔◌, ◌≡◌, ◌≢◌, ◌==◌, ℕ, zero, suc, ◌+◌, ◌-◌, ◌<◌, ◌≤◌, List, [], ◌∷◌, ◌++◌, length, get_or, set, take, drop, replicate, Bool, true, false, not, ◌&&◌, cond, Option, Some, None, All, slice_get, refl, sym, ap, ◌∙◌, subst, inl, inr, eq-eqb, get_or-set_same, get_or-set_other, arith}
+use Rattle.std.proofs.Math.Bool.{not-not}
 use Rattle.std.proofs.lemmas.Bool.{cases_Bool, and_parts, and_from, eqb-true, false≢true}
 use Rattle.std.proofs.lemmas.Bool.Decides.{nat_tests, eqb_tells, same_from_decides}
 use Rattle.std.specs.Bool.{Decides}
@@ -38,36 +39,29 @@ none_joined = record {
   just = λ u v. (λ e. absurd (none-some v (sym (none_there MAX_MODULES u) ∙ e)), λ t. absurd (false≢true t));
 }
 
-module _ (xs : List Transfer) (x : Transfer) (joined : List (Option ℕ)) (a b : ℕ) (so_far : HaveResponders xs joined) (start : a ≡ x.initiator) (answer : b ≡ x.responder) (low : a < MAX_MODULES) (fresh : (v : ℕ) → are_partners xs a v ≡ false) where
-  abbrev now : List (Option ℕ)
-  now = set joined a (Some b)
+-- the entry of a module is another, and the pairs of all others are as they were
+table_set : (xs ys : List Transfer) (joined : List (Option ℕ)) (a : ℕ) (o : Option ℕ) → HaveResponders xs joined → a < MAX_MODULES → ((v : ℕ) → (o ≡ Some v) ↔ (are_partners ys a v ≡ true)) → ((u v : ℕ) → a ≢ u → are_partners ys u v ≡ are_partners xs u v) → HaveResponders ys (set joined a o)
+table_set xs ys joined a o so_far low here others = record {
+  sized = length-set joined a o ∙ so_far.sized;
+  just = λ u v. elim (eqb_tells a u) [
+    | inl p ↦
+        let at = get_or-set_same joined a o None (omega (arith, so_far.sized)) in
+        subst (λ (w : ℕ). (get_or (set joined a o) w None ≡ Some v) ↔ (are_partners ys w v ≡ true)) p.1 (λ e. (here v).0 (sym at ∙ e), λ t. at ∙ (here v).1 t)
+    | inr p ↦
+        let other = get_or-set_other joined a u o None (λ e. p.1 (sym e)) in
+        (λ e. others u v p.1 ∙ (so_far.just u v).0 (sym other ∙ e), λ t. other ∙ (so_far.just u v).1 (sym (others u v p.1) ∙ t))
+  ];
+}
 
-  pushed : (u v : ℕ) → are_partners (xs ++ x ∷ []) u v ≡ (are_partners xs u v || (x.initiator == u && x.responder == v))
-  pushed u v = any_push (λ (y : Transfer). y.initiator == u && y.responder == v) xs x
-
-  at_place : (v : ℕ) → get_or now a None ≡ Some v → are_partners (xs ++ x ∷ []) a v ≡ true
-  at_place v e =
-      let same : b ≡ v = same_Some b v (sym (get_or-set_same joined a (Some b) None (omega (arith, so_far.sized))) ∙ e) in
-      rw (pushed a v, fresh v) (and_from (x.initiator == a) (x.responder == v) (eq-eqb x.initiator a (sym start)) (eq-eqb x.responder v (omega arith)))
-
-  from_place : (v : ℕ) → are_partners (xs ++ x ∷ []) a v ≡ true → get_or now a None ≡ Some v
-  from_place v t =
-      let both = and_parts (x.initiator == a) (x.responder == v) (rw (pushed a v, fresh v) at t) in
-      get_or-set_same joined a (Some b) None (omega (arith, so_far.sized)) ∙ ap (λ (n : ℕ). Some n) (answer ∙ eqb-true x.responder v both.1)
-
-  elsewhere : (u v : ℕ) → a ≢ u → are_partners (xs ++ x ∷ []) u v ≡ are_partners xs u v
-  elsewhere u v ne = grind (arith, nat_tests, pushed u v)
-
-  pub joined_more : HaveResponders (xs ++ x ∷ []) now
-  joined_more = record {
-    sized = length-set joined a (Some b) ∙ so_far.sized;
-    just = λ u v. elim (eqb_tells a u) [
-      | inl p ↦ subst (λ (w : ℕ). (get_or now w None ≡ Some v → are_partners (xs ++ x ∷ []) w v ≡ true) × (are_partners (xs ++ x ∷ []) w v ≡ true → get_or now w None ≡ Some v)) p.1 (at_place v, from_place v)
-      | inr p ↦
-          let other = get_or-set_other joined a u (Some b) None (λ e. p.1 (sym e)) in
-          (λ e. elsewhere u v p.1 ∙ (so_far.just u v).0 (sym other ∙ e), λ t. other ∙ (so_far.just u v).1 (sym (elsewhere u v p.1) ∙ t))
-    ];
-  }
+pub joined_more : (xs : List Transfer) (x : Transfer) (joined : List (Option ℕ)) (a b : ℕ) → HaveResponders xs joined → a ≡ x.initiator → b ≡ x.responder → a < MAX_MODULES → ((v : ℕ) → are_partners xs a v ≡ false) → HaveResponders (xs ++ x ∷ []) (set joined a (Some b))
+joined_more xs x joined a b so_far start answer low fresh =
+    let pushed = λ (u v : ℕ). any_push (λ (y : Transfer). y.initiator == u && y.responder == v) xs x in
+    table_set xs (xs ++ x ∷ []) joined a (Some b) so_far low (λ v. (
+      λ e. rw (pushed a v, fresh v) (and_from (x.initiator == a) (x.responder == v) (eq-eqb x.initiator a (sym start)) (eq-eqb x.responder v (sym answer ∙ same_Some b v e))),
+      λ t.
+          let both = and_parts (x.initiator == a) (x.responder == v) (rw (pushed a v, fresh v) at t) in
+          ap (λ (n : ℕ). Some n) (answer ∙ eqb-true x.responder v both.1),
+    )) (λ u v ne. grind (arith, nat_tests, pushed u v))
 
 matching-take : (batch : List Transfer) (n : ℕ) (setting : List ℕ) → IsMatching batch setting → IsMatching batch (take n setting)
 matching-take batch n setting matching i j d lt within =
@@ -105,29 +99,10 @@ not_joined : (x : Transfer) (v : ℕ) (xs : List Transfer) → AllByRecursion (�
 not_joined x v [] others = refl
 not_joined x v (y ∷ ys) others = grind (arith, nat_tests, others.0, not_joined x v ys others.1)
 
-module _ (xs : List Transfer) (x : Transfer) (joined : List (Option ℕ)) (a : ℕ) (so_far : HaveResponders (x ∷ xs) joined) (start : a ≡ x.initiator) (low : a < MAX_MODULES) (others : AllByRecursion (λ y. same_start x y ≡ false) xs) where
-  abbrev less : List (Option ℕ)
-  less = set joined a None
-
-  taken : get_or less a None ≡ None
-  taken = get_or-set_same joined a None None (omega (arith, so_far.sized))
-
-  gone : (v : ℕ) → are_partners xs a v ≡ false
-  gone v = rw start (not_joined x v xs others)
-
-  kept : (u v : ℕ) → a ≢ u → are_partners (x ∷ xs) u v ≡ are_partners xs u v
-  kept u v ne = grind (arith, nat_tests)
-
-  pub joined_less : HaveResponders xs less
-  joined_less = record {
-    sized = length-set joined a None ∙ so_far.sized;
-    just = λ u v. elim (eqb_tells a u) [
-      | inl p ↦ subst (λ (w : ℕ). (get_or less w None ≡ Some v → are_partners xs w v ≡ true) × (are_partners xs w v ≡ true → get_or less w None ≡ Some v)) p.1 (λ e. absurd (none-some v (sym taken ∙ e)), λ t. absurd (false≢true (sym (gone v) ∙ t)))
-      | inr p ↦
-          let other = get_or-set_other joined a u None None (λ e. p.1 (sym e)) in
-          (λ e. sym (kept u v p.1) ∙ (so_far.just u v).0 (sym other ∙ e), λ t. other ∙ (so_far.just u v).1 (kept u v p.1 ∙ t))
-    ];
-  }
+pub joined_less : (xs : List Transfer) (x : Transfer) (joined : List (Option ℕ)) (a : ℕ) → HaveResponders (x ∷ xs) joined → a ≡ x.initiator → a < MAX_MODULES → AllByRecursion (λ y. same_start x y ≡ false) xs → HaveResponders xs (set joined a None)
+joined_less xs x joined a so_far start low others =
+    let gone : (v : ℕ) → are_partners xs a v ≡ false = λ v. rw start (not_joined x v xs others) in
+    table_set (x ∷ xs) xs joined a None so_far low (λ v. (λ e. absurd (none-some v e), λ t. absurd (false≢true (sym (gone v) ∙ t)))) (λ u v ne. grind (arith, nat_tests))
 
 -- ---- matchings have no link 0 twice
 
@@ -238,14 +213,10 @@ test_is others joined x a b are start answer =
     rw (start, answer)
     (same_from_decides (option_eq ◌==◌ (get_or joined x.initiator None) (Some x.responder)) (are_partners others x.initiator x.responder) (option_decides (get_or joined x.initiator None) (Some x.responder)) (λ t. (are.just x.initiator x.responder).1 t, λ e. (are.just x.initiator x.responder).0 e))
 
-not_not : (b : Bool) → not (not b) ≡ b
-not_not true = refl
-not_not false = refl
-
 -- the pair of a transfer stands among others just where the table has it
 pub stands : (others : List Transfer) (joined : List (Option ℕ)) (x : Transfer) (a b : ℕ) (differ : Bool) → HaveResponders others joined → a ≡ x.initiator → b ≡ x.responder → differ ≡ not (option_eq ◌==◌ (get_or joined a None) (Some b)) → are_partners others x.initiator x.responder ≡ not differ
 stands others joined x a b differ are start answer test =
-    sym (test_is others joined x a b are start answer) ∙ (sym (not_not (option_eq ◌==◌ (get_or joined a None) (Some b))) ∙ ap not (sym test))
+    sym (test_is others joined x a b are start answer) ∙ (sym (not-not (option_eq ◌==◌ (get_or joined a None) (Some b))) ∙ ap not (sym test))
 
 pub within_less : (batch others : List Transfer) (setting : List ℕ) (place : ℕ) (x : Transfer) → place < length setting → slice_get batch (get_or setting place 0) ≡ Some x → join_within (members batch (drop place setting)) others ≡ (are_partners others x.initiator x.responder && join_within (members batch (drop (place + 1) setting)) others)
 within_less batch others setting place x lt here = ap (λ (xs : List Transfer). join_within xs others) (one_less batch setting place x lt here)

@@ -1,8 +1,10 @@
 -- What can be held as long once a matching was held.
-use Rattle.std.proofs.Common.{◌≡◌, ℕ, ◌+◌, ◌<◌, ◌≤◌, List, Option, Some, None, sym, ap, subst, inl, inr, arith}
+use Rattle.std.proofs.Common.{true, ◌≡◌, ℕ, ◌+◌, ◌<◌, ◌≤◌, List, Option, Some, None, ap, subst, inl, inr, arith}
+use borrow.Author.Count.{below_more}
 use Rattle.std.proofs.lemmas.Bool.{cases_eq}
 use Rattle.std.proofs.lemmas.Option.{none-some, same_Some}
 use Rattle.batch.specs.declared.limits.TheConstants.{MAX_MODULES}
+use Rattle.link_graph.specs.Masks.{has_pair}
 use Rattle.steady_schedule.specs.Matchings.{partner, AreMatched}
 use Rattle.steady_schedule.specs.Reaches.{HasLeft, HaveLeft}
 use Rattle.steady_schedule.specs.Steps.{AreTaken}
@@ -13,14 +15,8 @@ pub left_one_more : (counts : List ℕ) (k held : ℕ) (zero : List (Option ℕ)
 left_one_more counts k held zero n zo to zn tn zm tm so_far now = record {
   zero_was = λ x y t. so_far.zero_was x y (now.zero_was x y t);
   three_was = λ x y t. so_far.three_was x y (now.three_was x y t);
-  zero_out = λ x y lt joined t. elim (cases_eq x n) [
-    | inl e ↦ subst (λ (u : ℕ). k + held ≤ count_at counts u y) (sym e) (now.zero_out y (rw (sym e) joined) (rw (sym e) t))
-    | inr ne ↦ so_far.zero_out x y (omega (arith, lt, ne)) joined (now.zero_was x y t)
-  ];
-  three_out = λ x y lt joined t. elim (cases_eq x n) [
-    | inl e ↦ subst (λ (u : ℕ). k + held ≤ count_at counts u y) (sym e) (now.three_out y (rw (sym e) joined) (rw (sym e) t))
-    | inr ne ↦ so_far.three_out x y (omega (arith, lt, ne)) joined (now.three_was x y t)
-  ];
+  zero_out = λ x y. below_more (λ u. partner zero u ≡ Some y → has_pair zm u y ≡ true → k + held ≤ count_at counts u y) n (λ u lt joined t. so_far.zero_out u y lt joined (now.zero_was u y t)) (now.zero_out y) x;
+  three_out = λ x y. below_more (λ u. partner zero u ≡ Some y → has_pair tm y u ≡ true → k + held ≤ count_at counts u y) n (λ u lt joined t. so_far.three_out u y lt joined (now.three_was u y t)) (now.three_out y) x;
   zero_still = λ x y t long. now.zero_still x y (so_far.zero_still x y t long) (λ e joined. subst (λ (u : ℕ). k + held ≤ count_at counts u y) e (long (rw e joined)));
   three_still = λ x y t long. now.three_still x y (so_far.three_still x y t long) (λ e joined. subst (λ (u : ℕ). k + held ≤ count_at counts u y) e (long (rw e joined)));
 }

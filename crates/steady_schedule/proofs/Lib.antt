@@ -17,6 +17,7 @@ pub mod Reaches
 pub mod Longest
 pub mod Slots
 pub mod Members
+pub mod Standing
 pub mod Needs
 pub mod FewNeeds
 pub mod LongSteps

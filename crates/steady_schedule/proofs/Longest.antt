@@ -3,7 +3,7 @@
 -- joined to one of these.
 use Rattle.std.proofs.Common.{◌≡◌, ◌≢◌, ◌==◌, ℕ, ◌+◌, ◌-◌, ◌<◌, ◌≤◌, ◌||◌, List, get_or, Bool, true, false, not, cond, Option, Some, None, refl, sym, ap, ◌∙◌, subst, inl, inr, arith}
 use Rattle.std.specs.Prelude.{IsSome, nat_lt}
-use Rattle.std.proofs.lemmas.Bool.{cases_Bool, cases_lt, cases_eq, or_cases, or_left, or_right, eqb-true, eq-eqb, false≢true, lt-ltb, and_from, and_parts, ltb-true}
+use Rattle.std.proofs.lemmas.Bool.{cases_Bool, cases_lt, or_cases, or_left, or_right, eqb-true, eq-eqb, false≢true, lt-ltb, and_from, and_parts, ltb-true}
 use Rattle.std.proofs.lemmas.Option.{none-some, same_Some}
 use Rattle.batch.specs.declared.limits.TheConstants.{MAX_MODULES}
 use Rattle.link_graph.specs.declared.link.End.{End}
@@ -11,7 +11,7 @@ use Rattle.link_graph.specs.declared.link.End.TheVariants.{Zero, Three}
 use Rattle.steady_schedule.specs.Covers.{KeepsPartners}
 use Rattle.link_graph.specs.Masks.{has_bit, has_pair}
 use Rattle.steady_schedule.specs.Matchings.{partner, AreMatched}
-use Rattle.steady_schedule.specs.Reaches.{HaveHeld, HaveEach, IsOverMask, JoinsNeeded, IsBarred, IsInWay, AreAtMost, HaveWay}
+use Rattle.steady_schedule.specs.Reaches.{HaveHeld, HaveEach, IsOverMask, JoinsNeeded, IsBarred, IsInWay, HaveWay}
 use Rattle.steady_schedule.specs.Searches.{AllSeen, IsInVain}
 use Rattle.steady_schedule.specs.Steps.{CanHoldAt, CanHold, IsTight, NoneLonger, AreTaken}
 use Rattle.steady_schedule.specs.Steps.IsTight.{all, by_pair, by_zero, by_three}
@@ -156,7 +156,7 @@ over_has uses count n mask x over lt more = over x ∙ and_from (nat_lt x n) (na
 
 -- ---- what stands in the way
 
--- a search in vain, behind one that was in vain without some links
+-- a search in vain, after one that was in vain without some links
 pub barred_is : (near : List ℕ) (needed before first_unseen unseen x : ℕ) (of mid now back back_mid back_now : List (Option ℕ)) → partner of x ≡ None → IsInVain near needed before first_unseen of mid back back_mid → IsInVain near needed 4294967295 unseen mid now back_mid back_now → AllSeen near unseen x → IsBarred near needed unseen x now back_now
 barred_is near needed before first_unseen unseen x of mid now back back_mid back_now free first vain seen = record {
   free = vain.same x ∙ (first.same x ∙ free);
@@ -194,20 +194,6 @@ joined_over counts end uses needed most k n of few none is over joined x x_in mo
   | inl lt ↦ joined x (over_has uses (most - k) n needed x over lt (omega (arith, more, is x x_in, few)))
   | inr past ↦ absurd (omega (arith, more, few, none end x past x_in))
 ]
-
--- one link more that is in the way, or isn't
-module _ (counts : List ℕ) (end : End) (unseen x most n old now : ℕ) (of : List (Option ℕ)) (le : old ≤ now) where
-  pub full_more : ((z : ℕ) → z < n → IsInWay unseen x of z → most ≤ waiting counts end z + old) → (IsInWay unseen x of n → most ≤ waiting counts end n + now) → (z : ℕ) → z < n + 1 → IsInWay unseen x of z → most ≤ waiting counts end z + now
-  full_more so_far here z lt is = elim (cases_eq z n) [
-    | inl e ↦ subst (λ (w : ℕ). most ≤ waiting counts end w + now) (sym e) (here (subst (IsInWay unseen x of) e is))
-    | inr ne ↦ omega (arith, le, so_far z (omega arith) is)
-  ]
-
-  pub few_more : ((z : ℕ) → z < n → IsInWay unseen x of z → AreAtMost counts end z unseen old) → (IsInWay unseen x of n → AreAtMost counts end n unseen now) → (z : ℕ) → z < n + 1 → IsInWay unseen x of z → AreAtMost counts end z unseen now
-  few_more so_far here z lt is = elim (cases_eq z n) [
-    | inl e ↦ subst (λ (w : ℕ). AreAtMost counts end w unseen now) (sym e) (here (subst (IsInWay unseen x of) e is))
-    | inr ne ↦ λ y y_in free. omega (arith, le, so_far z (omega arith) is y y_in free)
-  ]
 
 -- ---- longest
 

@@ -1,13 +1,13 @@
 -- Each partner of a link wants a change of its own: a setting joins the link to one partner at
 -- most.
-use Rattle.std.proofs.Common.{◌≡◌, ◌==◌, ℕ, zero, suc, ◌+◌, ◌<◌, ◌≤◌, List, [], ◌∷◌, Bool, true, false, not, ◌&&◌, ◌||◌, All, Some, slice_get, subst, refl, ap, ◌∙◌, inl, inr, arith}
+use Rattle.std.proofs.Common.{get_or, ◌≡◌, ◌==◌, ℕ, zero, suc, ◌+◌, ◌≤◌, List, [], ◌∷◌, Bool, true, false, not, ◌&&◌, ◌||◌, All, Some, slice_get, subst, refl, ap, ◌∙◌, inl, inr, arith}
 use Rattle.std.specs.List.{list_any}
-use Rattle.std.proofs.lemmas.Bool.{cases_lt, cases_Bool, and_parts, or_left, or_right}
+use Rattle.std.proofs.lemmas.Bool.{cases_lt, cases_Bool, and_parts}
 use Rattle.std.proofs.lemmas.Bool.Decides.{nat_tests, eqb_tells, same_from_decides}
 use Rattle.std.proofs.lemmas.List.Elements.{All-head, All-tail}
-use Rattle.std.proofs.lemmas.List.Folds.{Any-from_list_any, list_any-from_Any}
+use Rattle.std.proofs.lemmas.List.Folds.{Any-from_list_any, list_any_at, list_any-from_Any}
 use Rattle.std.proofs.lemmas.List.Sums.{sum_by-cons, AllPass-from_list_all}
-use Rattle.std.proofs.lemmas.Option.{slice_get_cases, slice_get-get_or}
+use Rattle.std.proofs.lemmas.Option.{slice_get-get_or}
 use Rattle.batch.specs.declared.limits.TheConstants.{MAX_MODULES}
 use Rattle.batch.specs.declared.transfer.Transfer.{Transfer}
 use Rattle.link_graph.specs.declared.link.End.{End}
@@ -16,15 +16,14 @@ use Rattle.link_graph.specs.declared.link.Link.{Link}
 use Rattle.link_graph.specs.Counts.{count_below, module_at, uses}
 use Rattle.link_graph.specs.Links.{other_end}
 use Rattle.link_graph.specs.Marks.{members}
-use Rattle.link_graph.specs.Schedules.{times, IsScheduleOf}
+use Rattle.link_graph.specs.Schedules.{IsScheduleOf}
 use Rattle.link_graph.specs.Uses.{IsMatching}
 use Rattle.link_graph.proofs.Sharing.{shared_from_count, shared_no_matching}
-use Rattle.link_graph.proofs.Sums.{hit, hit_other}
-use Rattle.link_graph.proofs.Once.{standings}
 use Rattle.link_graph.proofs.Users.{use_of}
 use Rattle.link_graph.proofs.Masks.{bit}
 use Rattle.steady_schedule.specs.Changes.{are_partners, join_within, join_same, changes_after, changes}
 use Rattle.steady_schedule.specs.Partners.{joins_to, partners}
+use Rattle.steady_schedule.proofs.Standing.{member_any, some_stands}
 
 -- ---- counts
 
@@ -135,31 +134,12 @@ module _ (link : Link) where
 
   -- ---- each transfer stands in a setting
 
-  module _ (batch : List Transfer) (t m : ℕ) (x : Transfer) (here : slice_get batch t ≡ Some x) (joined : joins_to link m x ≡ true) where
-    meets_in : (setting : List ℕ) → 0 < standings t setting → meets (members batch setting) m ≡ true
-    meets_in [] some = absurd (omega arith)
-    meets_in (u ∷ us) some = elim (eqb_tells u t) [
-      | inl p ↦ rw (ap (λ (v : ℕ). slice_get batch v) p.1 ∙ here) (or_left (joins_to link m x) (meets (members batch us) m) joined)
-      | inr p ↦
-          let rest = meets_in us (omega (arith, some, sum_by-cons (hit t) u us, hit_other t u p.1)) in
-          elim (slice_get_cases batch u).1 [
-            | inl q ↦ rw q.2 (or_right (joins_to link m q.0) (meets (members batch us) m) rest)
-            | inr q ↦ rw q.1 rest
-          ]
-    ]
-
-    met_in : (settings : List (List ℕ)) → 0 < times t settings → met batch settings m ≡ true
-    met_in [] some = absurd (omega arith)
-    met_in (setting ∷ rest) some = elim (cases_lt 0 (standings t setting)) [
-      | inl stands ↦ or_left (meets (members batch setting) m) (met batch rest m) (meets_in setting stands)
-      | inr none ↦ or_right (meets (members batch setting) m) (met batch rest m) (met_in rest (omega (arith, some, none, sum_by-cons (standings t) setting rest)))
-    ]
-
   all_met : (batch : List Transfer) (settings : List (List ℕ)) (m : ℕ) → IsScheduleOf batch settings → meets batch m ≡ true → met batch settings m ≡ true
   all_met batch settings m schedule some =
       let one = Any-from_list_any (joins_to link m) batch some in
       let here : slice_get batch one.0 ≡ Some one.1 = slice_get-get_or batch one.0 one.1 one.2 ∙ ap (λ (x : Transfer). Some x) one.3 in
-      met_in batch one.0 m one.1 here one.4 settings (omega (arith, schedule.once one.0 one.2))
+      let at = some_stands one.0 settings (omega (arith, schedule.once one.0 one.2)) in
+      list_any_at (λ setting. meets (members batch setting) m) settings at.0 [] at.1 (member_any batch (get_or settings at.0 []) (joins_to link m) one.0 one.1 at.2 here one.4)
 
 pub need_changes : (batch : List Transfer) (settings : List (List ℕ)) (link : Link) → IsScheduleOf batch settings → partners batch link ≤ changes batch settings
 unfolding partners

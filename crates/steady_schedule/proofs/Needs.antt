@@ -1,5 +1,5 @@
 -- What is over with the last number of a step: a pair of it, or a link is full from then on.
-use Rattle.std.proofs.Common.{◌≡◌, ℕ, ◌+◌, ◌-◌, ◌<◌, ◌≤◌, List, [], length, get_or, slice_get, false, Option, Some, refl, sym, ap, ◌∙◌, subst, inl, inr, arith}
+use Rattle.std.proofs.Common.{◌≡◌, ℕ, ◌+◌, ◌-◌, ◌<◌, ◌≤◌, List, [], length, get_or, false, Option, Some, sym, ◌∙◌, subst, inl, inr, arith}
 use Rattle.std.specs.Prelude.{Contains}
 use Rattle.std.proofs.lemmas.Bool.{cases_Bool, cases_lt, false≢true}
 use Rattle.std.proofs.lemmas.Option.{none-some, slice_get_within}
@@ -9,21 +9,19 @@ use Rattle.link_graph.specs.declared.link.End.{End}
 use Rattle.link_graph.specs.declared.link.End.TheVariants.{Zero, Three}
 use Rattle.link_graph.specs.declared.link.Link.{Link}
 use Rattle.link_graph.specs.Marks.{members}
-use Rattle.link_graph.proofs.Users.{made, at_used}
 use Rattle.steady_schedule.specs.Changes.{are_partners}
 use Rattle.steady_schedule.specs.Gathered.{AreGathered}
 use Rattle.steady_schedule.specs.Matchings.{partner, AreMatched}
 use Rattle.steady_schedule.specs.Needs.{IsUsed, IsOver, ChangesAtNeed}
 use Rattle.steady_schedule.specs.Needs.IsOver.{pair_done as pair_over, link_needed as link_over}
-use Rattle.steady_schedule.specs.Slots.{StandsIn, AreNumberedFrom, KeepNumbers, LinkHas, IsOverAt, AreAtNeed, JoinsAs, UsesAs, IsOverAs, HaveNeeds, AreNumbered, AreReadTo}
+use Rattle.steady_schedule.specs.Slots.{StandsIn, AreNumberedFrom, KeepNumbers, LinkHas, IsOverAt, AreAtNeed, JoinsAs, UsesAs, IsOverAs, HaveNeeds}
 use Rattle.steady_schedule.specs.Slots.IsOverAt.{pair_done as pair_at, link_needed as link_at}
 use Rattle.steady_schedule.specs.Slots.IsOverAs.{pair_done as pair_as, link_needed as link_as}
 use Rattle.steady_schedule.specs.Steps.{CanHold, AreTaken, IsTight}
 use Rattle.steady_schedule.specs.Steps.IsTight.{all, by_pair, by_zero, by_three}
-use Rattle.steady_schedule.specs.Waiting.{count_at, waiting, HaveMost, ArePairCounts}
+use Rattle.steady_schedule.specs.Waiting.{waiting, HaveMost}
 use Rattle.steady_schedule.proofs.Members.{stands_at, joins_in, joins_out, same_joined}
 use Rattle.steady_schedule.proofs.Matchings.{has_low}
-use Rattle.steady_schedule.proofs.Slots.{joins_from, joins_to_number}
 use Rattle.steady_schedule.proofs.Steps.{at_pair, fewer, zero_free, three_free, full_joined}
 use Rattle.steady_schedule.proofs.Sums.{partner_cases}
 
@@ -127,37 +125,6 @@ step_apart totals remaining slots zeros threes settings first k m can needs with
     by (link_at Three y y_in unused used full) = partner_cases (partner threes y) ⊥
         (λ none. omega (arith, full, can.some, (can.each y y_in).three_out none))
         (λ x back. unused (x, (same x y).1 ((m.each_other x y).1 back)))
-
--- ---- the numbers as they are read
-
-module _ (batch : List Transfer) (totals remaining slots numbers : List ℕ) (settings : ℕ) (counted : ArePairCounts batch totals) (done : (u v : ℕ) → u < MAX_MODULES → v < MAX_MODULES → count_at remaining u v ≡ 0) (n : AreNumbered totals remaining slots settings) (read : AreReadTo batch totals slots numbers (length batch)) (low : (t : ℕ) (x : Transfer) → slice_get batch t ≡ Some x → (x.initiator < MAX_MODULES) × (x.responder < MAX_MODULES)) where
-  from_slots : (d u v : ℕ) → StandsIn totals remaining slots d u v → JoinsAs batch numbers d u v
-  from_slots = joins_to_number batch totals remaining slots numbers settings counted done n read low
-
-  to_slots : (d u v : ℕ) → JoinsAs batch numbers d u v → StandsIn totals remaining slots d u v
-  to_slots = joins_from batch totals remaining slots numbers settings counted done n read low
-
-  uses_from : (d : ℕ) (end : End) (x : ℕ) → LinkHas totals remaining slots d end x → UsesAs batch numbers d (made end x)
-  uses_from d Zero x has =
-      let j = from_slots d x has.0 has.1 in
-      record { t = j.t; used = (j.x, j.here, inl (ap (made Zero) (sym j.zero_is))); number = j.number }
-  uses_from d Three x has =
-      let j = from_slots d has.0 x has.1 in
-      record { t = j.t; used = (j.x, j.here, inr (ap (made Three) (sym j.three_is))); number = j.number }
-
-  uses_to : (d : ℕ) (end : End) (x : ℕ) → UsesAs batch numbers d (made end x) → LinkHas totals remaining slots d end x
-  uses_to d Zero x u = (u.used.0.responder, to_slots d x u.used.0.responder (record { t = u.t; x = u.used.0; here = u.used.1; zero_is = at_used batch u.t (made Zero x) u.used.0 u.used.1 u.used; three_is = refl; number = u.number }))
-  uses_to d Three x u = (u.used.0.initiator, to_slots d u.used.0.initiator x (record { t = u.t; x = u.used.0; here = u.used.1; zero_is = refl; three_is = at_used batch u.t (made Three x) u.used.0 u.used.1 u.used; number = u.number }))
-
-  over_read : (d : ℕ) → IsOverAt totals remaining slots settings settings d → IsOverAs batch settings numbers d
-  over_read d (pair_at u v has none gone) = pair_as u v (from_slots d u v has) (λ e later j. none e later (to_slots e u v j))
-  over_read d (link_at end x x_in unused used full) = link_as (made end x) (λ u. unused (uses_to d end x u)) (λ e later to. uses_from e end x (used e later to))
-
-  pub needs_read : AreAtNeed totals remaining slots settings settings → HaveNeeds batch settings numbers
-  needs_read needs d lt = elim (needs d (omega arith) lt) [
-    | inl same ↦ inl (λ u v. (λ j. from_slots (d + 1) u v ((same.1 u v).0 (to_slots d u v j)), λ j. from_slots d u v ((same.1 u v).1 (to_slots (d + 1) u v j))))
-    | inr is ↦ inr (over_read d is)
-  ]
 
 -- ---- the settings
 

@@ -1,8 +1,9 @@
 -- What follows from a shortest schedule: no setting is empty. And it changes once a setting at
 -- most.
-use Rattle.std.proofs.Common.{◌≡◌, ℕ, ◌<◌, ◌≤◌, List, [], ◌∷◌, length, get_or, take, drop, suc, cond, Bool, true, false, Option, Some, None, All, refl, ap, ◌∙◌, inl, inr, arith}
+use Rattle.std.proofs.Common.{◌≡◌, ℕ, ◌<◌, ◌≤◌, List, [], ◌∷◌, length, get_or, take, drop, suc, cond, Bool, Option, Some, None, All, refl, ap, ◌∙◌, inl, inr, arith}
 use Rattle.std.specs.List.{remove}
 use Rattle.std.proofs.lemmas.Bool.{cases_lt}
+use Rattle.std.proofs.lemmas.Bool.Decides.{nat_tests}
 use Rattle.std.proofs.lemmas.List.Edits.{length-remove}
 use Rattle.std.proofs.lemmas.List.Elements.{All-append, All-take, All-drop}
 use Rattle.std.proofs.lemmas.List.Sums.{sum_by-remove}
@@ -14,7 +15,7 @@ use Rattle.link_graph.specs.Counts.{uses}
 use Rattle.link_graph.specs.Schedules.{times, IsScheduleOf}
 use Rattle.link_graph.specs.Uses.{IsMatching}
 use Rattle.link_graph.proofs.Koenig.{certified}
-use Rattle.steady_schedule.proofs.Gathered.{any_default}
+use Rattle.std.proofs.lemmas.List.{get_or_default}
 use Rattle.steady_schedule.specs.Changes.{join_same, changes_after, changes}
 use Rattle.steady_schedule.specs.Plans.{NamesBusiest}
 
@@ -40,7 +41,7 @@ none_empty : (batch : List Transfer) (settings : List (List ℕ)) → IsShortest
 none_empty batch settings s k d k_in = elim (cases_lt 0 (length (get_or settings k d))) [
   | inl some ↦ some
   | inr none ↦
-      let empty : get_or settings k [] ≡ [] = any_default settings k [] d k_in ∙ no_items (get_or settings k d) none in
+      let empty : get_or settings k [] ≡ [] = get_or_default settings k [] d k_in ∙ no_items (get_or settings k d) none in
       absurd (omega (arith, s.least (remove settings k) (without_empty batch settings k k_in empty s.schedule), length-remove settings k k_in))
 ]
 
@@ -51,8 +52,7 @@ abbrev change_of : Bool → ℕ
 change_of b = cond b 0 1
 
 one_change : (b : Bool) → change_of b ≤ 1
-one_change true = omega arith
-one_change false = omega arith
+one_change b = grind (arith, nat_tests)
 
 after_few : (batch : List Transfer) (before : List ℕ) (rest : List (List ℕ)) → changes_after batch before rest ≤ length rest
 after_few batch before [] = omega arith

@@ -1,5 +1,5 @@
 -- What prices show: over the steps of a schedule, each of which has each link with one partner, or idle.
-use Rattle.std.proofs.Common.{◌≡◌, ℕ, zero, suc, ◌+◌, ◌-◌, ◌*◌, ◌/◌, ◌<◌, ◌≤◌, List, [], ◌∷◌, length, All, Bool, true, false, cond, refl, sym, ap, subst, ◌∙◌, inl, inr, add-one, zero-add, arith}
+use Rattle.std.proofs.Common.{◌≡◌, ℕ, zero, suc, ◌+◌, ◌-◌, ◌*◌, ◌/◌, ◌<◌, ◌≤◌, List, [], ◌∷◌, length, All, Bool, true, cond, refl, sym, ap, subst, ◌∙◌, inl, inr, add-one, zero-add, arith}
 use Rattle.std.specs.Prelude.{nat_lt, sum_by}
 use Rattle.std.specs.List.{AllByRecursion}
 use Rattle.std.proofs.lemmas.Bool.{cases_Bool, cases_lt, lt-ltb, le-ltb}
@@ -22,9 +22,10 @@ use Rattle.link_graph.proofs.Sums.{each}
 use Rattle.steady_schedule.specs.Changes.{join_same, changes}
 use Rattle.steady_schedule.specs.Prices.{AreNeeded, LimitsSteps, CostsAtLeast, SCALE, price_at, price_for, AreFair, number_for, NoneCostsMore, ShowChanges}
 use Rattle.steady_schedule.specs.Waiting.{sum_below, count_at, count_between, waiting, ArePairCounts, HaveMost}
-use Rattle.steady_schedule.proofs.StepSums.{sum_equal, swap_below}
+use Rattle.link_graph.proofs.Sums.{sum_same as sum_equal}
+use Rattle.steady_schedule.proofs.StepSums.{swap_below}
 use Rattle.steady_schedule.proofs.Runs.{Step, steps_from, steps_of, many_steps, has, step_numbers, each_now, number_low, number_idle, at_link, shared}
-use Rattle.steady_schedule.proofs.Sums.{only, only_few, sum_none, sum_same, sum_both, sum_swap, sum_more, sum_zero, at_most_sum}
+use Rattle.steady_schedule.proofs.Sums.{only, only_few, split_only, sum_none, sum_same, sum_both, sum_swap, sum_more, sum_zero, at_most_sum}
 use Rattle.steady_schedule.proofs.Waiting.{all_low, waiting_uses}
 
 -- ---- making up numbers
@@ -142,10 +143,6 @@ each_side n b c x same one = sum_same n (λ m. only (b m) x) (λ m. only (c m) x
 none_side : (n : ℕ) (b : ℕ → Bool) (x : ℕ) → x ≡ 0 → sum_below n (λ m. only (b m) x) ≡ x
 none_side n b x none = sum_same n (λ m. only (b m) x) (λ m. 0) (λ m lt. omega (arith, only_few (b m) x, none)) ∙ (sum_none n ∙ sym none)
 
-split_only : (b : Bool) (x y : ℕ) → only b (x + y) ≡ only b x + only b y
-split_only true x y = refl
-split_only false x y = refl
-
 all_few : {J : Type 0} (f : J → ℕ) (scale : ℕ) (js : List J) → AllByRecursion (λ j. f j ≤ scale) js → sum_by f js ≤ length js * scale
 all_few f scale [] all = omega arith
 all_few f scale (j ∷ js) all = omega (arith, sum_by-cons f j js, all.0, all_few f scale js all.1)
@@ -233,7 +230,7 @@ split_sum n (suc m) f =
     let same : n + suc m ≡ n + m + 1 = omega arith in
     omega (arith, ap (λ (k : ℕ). sum_below k f) same, sum_more (n + m) f, ap (λ (k : ℕ). sum_below k (λ i. f (n + i))) (add-one m), sum_more m (λ i. f (n + i)), split_sum n m f)
 
--- the price of a link for a length; none behind all modules
+-- the price of a link for a length; none after all modules
 abbrev side_price : List ℕ → End → ℕ → ℕ → ℕ
 side_price prices end m k = cond (nat_lt m MAX_MODULES) (price_at prices (index_by end m) k) 0
 
@@ -251,7 +248,7 @@ number_three : (counts : List ℕ) (n u v : ℕ) → MAX_MODULES ≤ u → v < M
 number_three counts n u v le v_in = rw (le-ltb u MAX_MODULES le, lt-ltb v MAX_MODULES v_in) refl
 
 module _ (batch : List Transfer) (fits : IsBatch batch) where
-  -- whether a step joins a pair; or where the one or the other place is behind all modules, whether it leaves the link idle
+  -- whether a step joins a pair; or where the one or the other place is after all modules, whether it leaves the link idle
   abbrev joined : Step → ℕ → ℕ → Bool
   joined j u v = cond (nat_lt u MAX_MODULES) (has batch fits (made Zero u) j v) (has batch fits (made Three v) j MAX_MODULES)
 
@@ -338,14 +335,14 @@ module _ (batch : List Transfer) (fits : IsBatch batch) where
 
         long_zero : (u v : ℕ) → u < MAX_MODULES → v ≤ MAX_MODULES → long u v ≡ number_for counts (length settings) u v
         long_zero u v u_in v_few =
-            let same = sum_equal (λ j. only (joined j u v) j.settings) (λ j. taken (made Zero u) j v) (λ j. ap (λ (b : Bool). only b j.settings) (joined_low j u v u_in)) js in
+            let same = sum_equal (λ j. only (joined j u v) j.settings) (λ j. taken (made Zero u) j v) js (λ j. ap (λ (b : Bool). only b j.settings) (joined_low j u v u_in)) in
             elim (cases_lt v MAX_MODULES) [
               | inl v_in ↦ omega (arith, same, step_numbers batch fits (made Zero u) settings schedule v (omega (arith, v_in)), number_low batch (length settings) (made Zero u) v v_in, shared_is Zero u v u_in v_in, number_pair counts (length settings) u v u_in v_in)
               | inr le ↦ omega (arith, same, ap (λ (k : ℕ). sum_by (λ j. taken (made Zero u) j k) js) {x = v} {y = MAX_MODULES} (omega (arith, v_few, le)), long_idle Zero u u_in, number_zero counts (length settings) u v u_in le)
             ]
 
         long_three : (u v : ℕ) → MAX_MODULES ≤ u → v < MAX_MODULES → long u v ≡ number_for counts (length settings) u v
-        long_three u v le v_in = sum_equal (λ j. only (joined j u v) j.settings) (λ j. taken (made Three v) j MAX_MODULES) (λ j. ap (λ (b : Bool). only b j.settings) (joined_high j u v le)) js
+        long_three u v le v_in = sum_equal (λ j. only (joined j u v) j.settings) (λ j. taken (made Three v) j MAX_MODULES) js (λ j. ap (λ (b : Bool). only b j.settings) (joined_high j u v le))
             ∙ (long_idle Three v v_in ∙ sym (number_three counts (length settings) u v le v_in))
 
         paid : NoneCostsMore counts (length settings) prices top pays

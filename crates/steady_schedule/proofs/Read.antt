@@ -1,5 +1,5 @@
 -- Settings as they are read from slots that are filled, and what the schedule of them keeps.
-use Rattle.std.proofs.Common.{◌≡◌, ◌≤◌, ◌⊎◌, ℕ, List, length, sym, ◌∙◌, inl, inr}
+use Rattle.std.proofs.Common.{◌≡◌, ◌≤◌, ◌⊎◌, ℕ, List, length, slice_get, Some, sym, ◌∙◌, inl, inr}
 use Rattle.batch.specs.Batches.{IsBatch}
 use Rattle.batch.specs.declared.transfer.Transfer.{Transfer}
 use Rattle.link_graph.specs.Schedules.{IsScheduleOf}
@@ -8,16 +8,16 @@ use Rattle.steady_schedule.specs.Needs.{ChangesAtNeed}
 use Rattle.steady_schedule.specs.Plans.{IsNoWorse}
 use Rattle.steady_schedule.specs.Slots.{AreReadInto, AreFilled, AreFilledLong, AreNumberedSettings, AreLongSettings}
 use Rattle.steady_schedule.specs.Waiting.{ArePairCounts}
-use Rattle.steady_schedule.proofs.Ends.{modules_low}
+use Rattle.link_graph.proofs.Tables.{modules_of}
 use Rattle.steady_schedule.proofs.Gathered.{gathered_schedule}
 use Rattle.steady_schedule.proofs.LongSteps.{long_read, long_gathered, shorter_gathered}
-use Rattle.steady_schedule.proofs.Needs.{needs_read, needs_gathered}
-use Rattle.steady_schedule.proofs.Slots.{are_proper, joins_from, joins_to_number}
+use Rattle.steady_schedule.proofs.Needs.{needs_gathered}
+use Rattle.steady_schedule.proofs.Slots.{are_proper, needs_read, joins_from, joins_to_number}
 
 module _ (batch : List Transfer) (totals slots : List ℕ) (settings : ℕ) (lists : List (List ℕ)) (fits : IsBatch batch) (counted : ArePairCounts batch totals) (into : AreReadInto batch totals slots settings (length batch) lists) where
   pub numbered_settings : AreFilled totals slots settings → AreNumberedSettings batch settings lists
   numbered_settings f =
-      let low = modules_low batch fits in
+      let low = λ (t : ℕ) (x : Transfer) (here : slice_get batch t ≡ Some x). modules_of batch t x here fits in
       record {
         numbers = into.numbers;
         proper = are_proper batch totals f.counts slots into.numbers settings counted f.done f.numbered into.read low;
@@ -29,7 +29,7 @@ module _ (batch : List Transfer) (totals slots : List ℕ) (settings : ℕ) (lis
   unfolding numbered_settings
   long_settings l =
       let f = l.filled in
-      let low = modules_low batch fits in
+      let low = λ (t : ℕ) (x : Transfer) (here : slice_get batch t ≡ Some x). modules_of batch t x here fits in
       record {
         numbered = numbered_settings f;
         long = long_read batch totals f.counts slots into.numbers settings f.done (joins_to_number batch totals f.counts slots into.numbers settings counted f.done f.numbered into.read low) (joins_from batch totals f.counts slots into.numbers settings counted f.done f.numbered into.read low) l.long;

@@ -1,8 +1,9 @@
 -- The steps of a schedule: runs of settings that join the same pairs, so that each link has one partner
 -- throughout, or is idle.
-use Rattle.std.proofs.Common.{◌≡◌, ◌==◌, ℕ, zero, suc, ◌+◌, ◌-◌, ◌<◌, ◌≤◌, List, [], ◌∷◌, length, All, Bool, true, false, ◌&&◌, cond, refl, sym, ap, ◌∙◌, inl, inr, arith}
+use Rattle.std.proofs.Common.{◌≡◌, ◌==◌, ℕ, zero, suc, ◌+◌, ◌-◌, ◌<◌, ◌≤◌, List, [], ◌∷◌, length, All, Bool, true, ◌&&◌, cond, refl, sym, ap, ◌∙◌, inl, inr, arith}
 use Rattle.std.specs.Prelude.{count_by, nat_lt, sum_by}
 use Rattle.std.specs.List.{list_any}
+use Rattle.std.proofs.Math.Bool.{and_comm}
 use Rattle.std.proofs.lemmas.Bool.{cases_Bool, cases_lt, lt-ltb, le-ltb, or_left}
 use Rattle.std.proofs.lemmas.List.Elements.{All-head, All-tail, All-nil, All-cons}
 use Rattle.std.proofs.lemmas.List.Sums.{sum_by-cons}
@@ -22,10 +23,10 @@ use Rattle.link_graph.proofs.Masks.{bit}
 use Rattle.steady_schedule.specs.Changes.{join_same, changes_after, changes}
 use Rattle.steady_schedule.specs.Partners.{joins_to}
 use Rattle.steady_schedule.specs.Waiting.{sum_below}
-use Rattle.steady_schedule.proofs.StepSums.{sum_equal}
-use Rattle.steady_schedule.proofs.Ends.{modules_low}
+use Rattle.link_graph.proofs.Sums.{sum_same as sum_equal}
+use Rattle.link_graph.proofs.Tables.{modules_of}
 use Rattle.steady_schedule.proofs.NeedChanges.{same_meets}
-use Rattle.steady_schedule.proofs.Sums.{only, sum_same, sum_more, at_most_sum}
+use Rattle.steady_schedule.proofs.Sums.{only, split_only, sum_same, sum_more, at_most_sum}
 use Rattle.steady_schedule.proofs.Totals.{counted_once}
 use Rattle.steady_schedule.proofs.Waiting.{IsLow, at_end, pair_uses}
 
@@ -35,19 +36,13 @@ use Rattle.steady_schedule.proofs.Waiting.{IsLow, at_end, pair_uses}
 abbrev pub shared : List Transfer → Link → ℕ → ℕ
 shared batch link m = count_by (joins_to link m) batch
 
--- that; and behind all modules, in how many of so many settings the link is idle
+-- that; and after all modules, in how many of so many settings the link is idle
 abbrev pub link_number : List Transfer → ℕ → Link → ℕ → ℕ
 link_number batch settings link m = cond (nat_lt m MAX_MODULES) (shared batch link m) (settings - uses batch link)
 
-swapped : (a b : Bool) → bit (a && b) ≡ bit (b && a)
-swapped true true = refl
-swapped true false = refl
-swapped false true = refl
-swapped false false = refl
-
 pub at_link : (xs : List Transfer) (end : End) (x m : ℕ) → shared xs (record { end = end; «module» = x }) m ≡ at_end xs end x m
 at_link xs Zero x m = refl
-at_link xs Three x m = sum_equal (λ t. bit (t.responder == x && t.initiator == m)) (λ t. bit (t.initiator == m && t.responder == x)) (λ t. swapped (t.responder == x) (t.initiator == m)) xs
+at_link xs Three x m = sum_equal (λ t. bit (t.responder == x && t.initiator == m)) (λ t. bit (t.initiator == m && t.responder == x)) xs (λ t. ap bit (and_comm (t.responder == x) (t.initiator == m)))
 
 shared_uses : (xs : List Transfer) (link : Link) → All IsLow xs → sum_below MAX_MODULES (shared xs link) ≡ uses xs link
 shared_uses xs link low = sum_same MAX_MODULES (shared xs link) (at_end xs link.end link.«module») (λ m lt. at_link xs link.end link.«module» m) ∙ pair_uses xs link.end link.«module» low
@@ -63,7 +58,7 @@ bit_number : (k : ℕ) → k ≤ 1 → only (nat_lt 0 k) 1 ≡ k
 bit_number zero few = refl
 bit_number (suc k) few = omega (arith, few, ap (λ (b : Bool). only b 1) (lt-ltb 0 (suc k) (omega arith)))
 
-any_some : (p : Transfer → Bool) (xs : List Transfer) → nat_lt 0 (count_by p xs) ≡ list_any p xs
+pub any_some : (p : Transfer → Bool) (xs : List Transfer) → nat_lt 0 (count_by p xs) ≡ list_any p xs
 any_some p [] = refl
 any_some p (x ∷ xs) = elim (cases_Bool (p x)) [
   | inl t ↦
@@ -78,7 +73,7 @@ any_some p (x ∷ xs) = elim (cases_Bool (p x)) [
 pub members_low : (batch : List Transfer) → IsBatch batch → (setting : List ℕ) → All IsLow (members batch setting)
 members_low batch fits [] = All-nil IsLow
 members_low batch fits (t ∷ ts) = elim (slice_get_cases batch t).1 [
-  | inl q ↦ rw q.2 (All-cons IsLow q.0 (members batch ts) (modules_low batch fits t q.0 q.2) (members_low batch fits ts))
+  | inl q ↦ rw q.2 (All-cons IsLow q.0 (members batch ts) (modules_of batch t q.0 q.2 fits) (members_low batch fits ts))
   | inr q ↦ rw q.1 (members_low batch fits ts)
 ]
 
@@ -135,10 +130,10 @@ module _ (batch : List Transfer) (fits : IsBatch batch) (link : Link) where
   pub all_numbers : (settings : List (List ℕ)) → IsScheduleOf batch settings → (m : ℕ) → sum_by (λ setting. now setting m) settings ≡ link_number batch (length settings) link m
   all_numbers settings schedule m = elim (cases_lt m MAX_MODULES) [
     | inl lt ↦
-        sum_equal (λ setting. now setting m) (λ setting. shared (members batch setting) link m) (λ setting. number_low (members batch setting) 1 link m lt) settings
+        sum_equal (λ setting. now setting m) (λ setting. shared (members batch setting) link m) settings (λ setting. number_low (members batch setting) 1 link m lt)
         ∙ (counted_once batch (joins_to link m) settings schedule ∙ sym (number_low batch (length settings) link m lt))
     | inr le ↦
-        let idle = sum_equal (λ setting. now setting m) (λ setting. 1 - uses (members batch setting) link) (λ setting. number_idle (members batch setting) 1 link m le) settings in
+        let idle = sum_equal (λ setting. now setting m) (λ setting. 1 - uses (members batch setting) link) settings (λ setting. number_idle (members batch setting) 1 link m le) in
         omega (arith, idle, sums_idle settings schedule.matchings, counted_once batch (λ x. module_at link.end x == link.«module») settings schedule, number_idle batch (length settings) link m le)
   ]
 
@@ -167,10 +162,6 @@ pub many_steps : (batch : List Transfer) (settings : List (List ℕ)) → length
 many_steps batch [] = refl
 many_steps batch (x ∷ rest) = many_from batch x 1 rest
 
-only_sum : (b : Bool) (k : ℕ) → only b (k + 1) ≡ only b k + only b 1
-only_sum true k = refl
-only_sum false k = refl
-
 module _ (batch : List Transfer) (fits : IsBatch batch) (link : Link) where
   abbrev pub has : Step → ℕ → Bool
   has j m = nat_lt 0 (now batch fits link j.setting m)
@@ -183,7 +174,7 @@ module _ (batch : List Transfer) (fits : IsBatch batch) (link : Link) where
       let rest_are = All-tail (IsMatching batch) x rest all in
       let split = sum_by-cons (λ y. only (nat_lt 0 (now batch fits link y m)) 1) x rest in
       elim (cases_Bool (join_same batch before x)) [
-        | inl t ↦ rw t (omega (arith, split, long_from m lt x (k + 1) rest x_is rest_are, only_sum (nat_lt 0 (now batch fits link x m)) k, ap (λ (b : Bool). only b k) (same_now batch fits link before x is x_is t m lt)))
+        | inl t ↦ rw t (omega (arith, split, long_from m lt x (k + 1) rest x_is rest_are, split_only (nat_lt 0 (now batch fits link x m)) k 1, ap (λ (b : Bool). only b k) (same_now batch fits link before x is x_is t m lt)))
         | inr f ↦ rw f (omega (arith, split, long_from m lt x 1 rest x_is rest_are, sum_by-cons (λ j. only (has j m) j.settings) (record { setting = before; settings = k }) (steps_from batch x 1 rest)))
       ]
 

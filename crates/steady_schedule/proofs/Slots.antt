@@ -1,8 +1,8 @@
 -- Slots, as the numbers of some settings are written, and as they are read.
-use Rattle.std.proofs.Common.{◌≡◌, ◌≢◌, ◌==◌, ℕ, zero, suc, ◌+◌, ◌-◌, ◌*◌, ◌/◌, ◌%◌, ◌<◌, ◌≤◌, ◌⊎◌, All, List, [], ◌∷◌, ◌++◌, length, get_or, set, drop, slice_index, slice_get, Bool, ◌&&◌, eq-eqb, Option, Some, refl, sym, ap, ◌∙◌, subst, inl, inr, get_or-set_same, get_or-set_other, arith, None, true}
+use Rattle.std.proofs.Common.{◌≡◌, ◌≢◌, ◌==◌, ℕ, zero, suc, ◌+◌, ◌-◌, ◌*◌, ◌/◌, ◌%◌, ◌<◌, ◌≤◌, ◌⊎◌, All, List, [], ◌∷◌, ◌++◌, length, get_or, set, drop, slice_index, slice_get, Option, Some, refl, sym, ap, ◌∙◌, subst, inl, inr, get_or-set_same, get_or-set_other, arith, None, true}
+use borrow.Author.Count.{below_more}
 use Rattle.std.proofs.lemmas.Bool.{cases_eq, cases_lt, cases_order, cases_Bool, and_parts, eqb-true}
-use Rattle.std.proofs.lemmas.Bool.Decides.{eqb_tells}
-use Rattle.std.proofs.lemmas.List.{length-set, length_push, drop_more, get_or_append_left, get_or_push}
+use Rattle.std.proofs.lemmas.List.{length_push, drop_more, get_or_append_left, get_or_push}
 use Rattle.std.proofs.lemmas.List.Sums.{sum_by-cons, count_by-le-length}
 use Rattle.std.proofs.lemmas.List.Elements.{All-from_get_or}
 use Rattle.std.proofs.lemmas.Option.{same_Some, slice_get_cases, slice_get_within, get_or_from_slice_get, none-some}
@@ -12,14 +12,16 @@ use Rattle.link_graph.specs.declared.link.End.{End}
 use Rattle.link_graph.specs.declared.link.End.TheVariants.{Zero, Three}
 use Rattle.link_graph.specs.Counts.{module_at}
 use Rattle.link_graph.specs.Uses.{AreApart}
-use Rattle.link_graph.proofs.Users.{at_used}
+use Rattle.link_graph.proofs.Users.{made, at_used}
 use Rattle.link_graph.proofs.Masks.{bit}
 use Rattle.steady_schedule.specs.Matchings.{partner, AreMatched, AreBelow}
 use Rattle.steady_schedule.specs.Waiting.{sum_below, pair_count, pair_index, count_at, HaveMost, ArePairCounts}
-use Rattle.steady_schedule.specs.Slots.{slot, IsWritten, AreOneOrApart, AreNumbered, AreNumberedFrom, AreSlotsFilled, AreReadTo, AreProper, StandsIn, KeepNumbers, JoinsAs}
+use Rattle.steady_schedule.specs.Slots.{LinkHas, IsOverAt, AreAtNeed, UsesAs, IsOverAs, HaveNeeds, slot, IsWritten, AreOneOrApart, AreNumbered, AreNumberedFrom, AreSlotsFilled, AreReadTo, AreProper, StandsIn, KeepNumbers, JoinsAs}
+use Rattle.steady_schedule.specs.Slots.IsOverAt.{pair_done as pair_at, link_needed as link_at}
+use Rattle.steady_schedule.specs.Slots.IsOverAs.{pair_done as pair_as, link_needed as link_as}
 use Rattle.steady_schedule.proofs.Matchings.{has_low, partner_low}
 use Rattle.steady_schedule.proofs.Sums.{at_most_sum}
-use Rattle.steady_schedule.proofs.Waiting.{same_place, count_here, count_other}
+use Rattle.steady_schedule.proofs.Waiting.{same_place, same_or_other, count_here, count_other, hits, own_hit, counted_now}
 
 -- ---- where slots lie
 
@@ -133,21 +135,11 @@ module _ (totals remaining slots after : List ℕ) (zero three : List (Option �
       ]
 
   new_or_old : (u v i : ℕ) → IsWritten totals less u v i → IsNew u v i ⊎ IsOld u v i
-  new_or_old u v i is = elim (cases_eq n u) [
-    | inl e ↦ elim (cases_eq y v) [
-      | inl f ↦
-          let place : pair_index n y ≡ pair_index u v = omega (arith, e, f) in
-          let done : c - k ≤ i = omega (arith, is.done, count_here remaining n y (c - k) places n_in y_in, ap (λ (q : ℕ). get_or less q 0) place) in
-          subst (λ (a : ℕ). IsNew a v i ⊎ IsOld a v i) e (subst (λ (b : ℕ). IsNew n b i ⊎ IsOld n b i) f (here i done (subst (λ (b : ℕ). i < count_at totals n b) (sym f) (subst (λ (a : ℕ). i < count_at totals a v) (sym e) is.there))))
-      | inr ne ↦ old u v i is (λ _ f. ne f)
-    ]
-    | inr ne ↦ old u v i is (λ e _. ne e)
-  ]
-    where
-      old : (u v i : ℕ) → IsWritten totals less u v i → (n ≡ u → y ≡ v → ⊥) → IsNew u v i ⊎ IsOld u v i
-      old u v i is other =
-          let was : IsWritten totals remaining u v i = record { zero_in = is.zero_in; three_in = is.three_in; done = omega (arith, is.done, count_other remaining n y (c - k) places n_in y_in u v is.three_in other); there = is.there } in
-          inr (was, elsewhere u v i other was)
+  new_or_old u v i = same_or_other n y u v (λ a b. IsWritten totals less a b i → IsNew a b i ⊎ IsOld a b i)
+      (λ is. here i (omega (arith, is.done, count_here remaining n y (c - k) places n_in y_in)) is.there)
+      (λ other is.
+      let was : IsWritten totals remaining u v i = record { zero_in = is.zero_in; three_in = is.three_in; done = omega (arith, is.done, count_other remaining n y (c - k) places n_in y_in u v is.three_in other); there = is.there } in
+      inr (was, elsewhere u v i other was))
 
   -- numbers of the pair that were written before are less
   old_less : (i : ℕ) → IsWritten totals remaining n y i → slot totals slots n y i < first
@@ -197,15 +189,9 @@ module _ (totals remaining slots after : List ℕ) (zero three : List (Option �
   still_written u v i is = record {
     zero_in = is.zero_in;
     three_in = is.three_in;
-    done = elim (cases_eq n u) [
-      | inl e ↦ elim (cases_eq y v) [
-        | inl f ↦
-            let place : pair_index n y ≡ pair_index u v = omega (arith, e, f) in
-            omega (arith, is.done, count_here remaining n y (c - k) places n_in y_in, ap (λ (q : ℕ). get_or less q 0) place, ap (λ (q : ℕ). get_or remaining q 0) place)
-        | inr ne ↦ omega (arith, is.done, count_other remaining n y (c - k) places n_in y_in u v is.three_in (λ _ f. ne f))
-      ]
-      | inr ne ↦ omega (arith, is.done, count_other remaining n y (c - k) places n_in y_in u v is.three_in (λ e _. ne e))
-    ];
+    done = same_or_other n y u v (λ a b. count_at remaining a b ≤ i → count_at less a b ≤ i)
+        (λ le. omega (arith, le, count_here remaining n y (c - k) places n_in y_in))
+        (λ other le. omega (arith, le, count_other remaining n y (c - k) places n_in y_in u v is.three_in other)) is.done;
     there = is.there;
   }
 
@@ -213,13 +199,9 @@ module _ (totals remaining slots after : List ℕ) (zero three : List (Option �
   joined_numbered = record {
     numbered = record {
       sized = w.sized ∙ so_far.numbered.sized;
-      within = λ u v u_in v_in. elim (cases_eq n u) [
-        | inl e ↦ elim (cases_eq y v) [
-          | inl f ↦ subst (λ (a : ℕ). count_at less a v ≤ count_at totals a v) e (subst (λ (b : ℕ). count_at less n b ≤ count_at totals n b) f (omega (arith, count_here remaining n y (c - k) places n_in y_in, within_old)))
-          | inr ne ↦ omega (arith, count_other remaining n y (c - k) places n_in y_in u v v_in (λ _ f. ne f), so_far.numbered.within u v u_in v_in)
-        ]
-        | inr ne ↦ omega (arith, count_other remaining n y (c - k) places n_in y_in u v v_in (λ e _. ne e), so_far.numbered.within u v u_in v_in)
-      ];
+      within = λ u v u_in v_in. same_or_other n y u v (λ a b. count_at less a b ≤ count_at totals a b)
+          (omega (arith, count_here remaining n y (c - k) places n_in y_in, within_old))
+          (λ other. omega (arith, count_other remaining n y (c - k) places n_in y_in u v v_in other, so_far.numbered.within u v u_in v_in));
       below = λ u v i is. elim (new_or_old u v i is) [
         | inl new ↦ omega (arith, new.3, new_done u v i is new, k_there)
         | inr old ↦ omega (arith, old.1, so_far.numbered.below u v i old.0)
@@ -283,14 +265,8 @@ keep_both totals first remaining slots remaining_now slots_now remaining_then sl
 
 -- ---- the numbers as they are read
 
-abbrev hits : ℕ → ℕ → Transfer → Bool
-hits u v x = x.initiator == u && x.responder == v
-
-hits_own : (x : Transfer) → bit (hits x.initiator x.responder x) ≡ 1
-hits_own x = rw (eq-eqb x.initiator x.initiator refl, eq-eqb x.responder x.responder refl) refl
-
-pub pair_behind : (batch : List Transfer) (t : ℕ) (x : Transfer) (u v : ℕ) → slice_get batch t ≡ Some x → pair_count (drop t batch) u v ≡ bit (hits u v x) + pair_count (drop (t + 1) batch) u v
-pair_behind batch t x u v here =
+pub pair_after : (batch : List Transfer) (t : ℕ) (x : Transfer) (u v : ℕ) → slice_get batch t ≡ Some x → pair_count (drop t batch) u v ≡ bit (hits u v x) + pair_count (drop (t + 1) batch) u v
+pair_after batch t x u v here =
     let split : drop t batch ≡ x ∷ drop (t + 1) batch = drop_more batch t x (slice_get_within batch t x here) ∙ ap (λ (y : Transfer). y ∷ drop (t + 1) batch) (get_or_from_slice_get batch t x x here) in
     ap (λ (xs : List Transfer). pair_count xs u v) split ∙ sum_by-cons (λ y. bit (hits u v y)) x (drop (t + 1) batch)
 
@@ -306,23 +282,23 @@ pair_later [] (suc n) (suc m) u v le = omega arith
 pair_later (x ∷ xs) (suc n) (suc m) u v le = pair_later xs n m u v (omega arith)
 
 own_behind : (batch : List Transfer) (t : ℕ) (x : Transfer) → slice_get batch t ≡ Some x → pair_count (drop (t + 1) batch) x.initiator x.responder < pair_count batch x.initiator x.responder
-own_behind batch t x here = omega (arith, pair_behind batch t x x.initiator x.responder here, hits_own x, pair_drop batch t x.initiator x.responder)
+own_behind batch t x here = omega (arith, pair_after batch t x x.initiator x.responder here, own_hit x x.initiator x.responder refl refl, pair_drop batch t x.initiator x.responder)
 
 later_fewer : (batch : List Transfer) (t u : ℕ) (y : Transfer) → t < u → slice_get batch u ≡ Some y → pair_count (drop (u + 1) batch) y.initiator y.responder < pair_count (drop (t + 1) batch) y.initiator y.responder
-later_fewer batch t u y less there = omega (arith, pair_behind batch u y y.initiator y.responder there, hits_own y, pair_later batch (t + 1) u y.initiator y.responder (omega arith))
+later_fewer batch t u y less there = omega (arith, pair_after batch u y y.initiator y.responder there, own_hit y y.initiator y.responder refl refl, pair_later batch (t + 1) u y.initiator y.responder (omega arith))
 
 other_modules : (e : End) (m : ℕ) (x y : Transfer) → (x.initiator ≢ y.initiator) × (x.responder ≢ y.responder) → module_at e x ≡ m → module_at e y ≡ m → ⊥
 other_modules Zero m x y apart one other = apart.0 (one ∙ sym other)
 other_modules Three m x y apart one other = apart.1 (one ∙ sym other)
 
--- the transfer of a pair behind which so many of its transfers stand
-find_behind : (batch : List Transfer) (u v i : ℕ) → i < pair_count batch u v → (t : ℕ) × (x : Transfer) × (slice_get batch t ≡ Some x) × (hits u v x ≡ true) × (pair_count (drop (t + 1) batch) u v ≡ i)
-find_behind [] u v i lt = absurd (omega arith)
-find_behind (x ∷ xs) u v i lt =
+-- the transfer of a pair after which so many of its transfers stand
+find_after : (batch : List Transfer) (u v i : ℕ) → i < pair_count batch u v → (t : ℕ) × (x : Transfer) × (slice_get batch t ≡ Some x) × (hits u v x ≡ true) × (pair_count (drop (t + 1) batch) u v ≡ i)
+find_after [] u v i lt = absurd (omega arith)
+find_after (x ∷ xs) u v i lt =
     let split = sum_by-cons (λ y. bit (hits u v y)) x xs in
     elim (cases_lt i (pair_count xs u v)) [
       | inl later ↦
-          let r = find_behind xs u v i later in
+          let r = find_after xs u v i later in
           let more : suc r.0 + 1 ≡ suc (r.0 + 1) = omega arith in
           (suc r.0, r.1, r.2, r.3, ap (λ (n : ℕ). pair_count (drop n (x ∷ xs)) u v) more ∙ r.4)
       | inr here ↦ elim (cases_Bool (hits u v x)) [
@@ -332,7 +308,7 @@ find_behind (x ∷ xs) u v i lt =
     ]
 
 module _ (batch : List Transfer) (totals remaining slots numbers : List ℕ) (settings : ℕ) (counted : ArePairCounts batch totals) (done : (u v : ℕ) → u < MAX_MODULES → v < MAX_MODULES → count_at remaining u v ≡ 0) (n : AreNumbered totals remaining slots settings) (read : AreReadTo batch totals slots numbers (length batch)) (low : (t : ℕ) (x : Transfer) → slice_get batch t ≡ Some x → (x.initiator < MAX_MODULES) × (x.responder < MAX_MODULES)) where
-  -- how many of a pair stand behind transfer t
+  -- how many of a pair stand after transfer t
   abbrev behind : ℕ → ℕ → ℕ → ℕ
   behind t u v = pair_count (drop (t + 1) batch) u v
 
@@ -389,7 +365,7 @@ module _ (batch : List Transfer) (totals remaining slots numbers : List ℕ) (se
   pub joins_to_number : (d u v : ℕ) → StandsIn totals remaining slots d u v → JoinsAs batch numbers d u v
   joins_to_number d u v has =
       let is = has.1 in
-      let f = find_behind batch u v has.0 (omega (arith, is.there, counted.at u v is.zero_in is.three_in)) in
+      let f = find_after batch u v has.0 (omega (arith, is.there, counted.at u v is.zero_in is.three_in)) in
       let both = and_parts (f.1.initiator == u) (f.1.responder == v) f.3 in
       let a = eqb-true f.1.initiator u both.0 in
       let b = eqb-true f.1.responder v both.1 in
@@ -397,22 +373,35 @@ module _ (batch : List Transfer) (totals remaining slots numbers : List ℕ) (se
       let moved : slot totals slots f.1.initiator f.1.responder (behind f.0 f.1.initiator f.1.responder) ≡ slot totals slots u v (behind f.0 u v) = rw (a, b) refl in
       record { t = f.0; x = f.1; here = f.2; zero_is = a; three_is = b; number = at ∙ (moved ∙ (ap (slot totals slots u v) f.4 ∙ has.2)) }
 
+  -- ---- what is over, as they are read
+
+  uses_from : (d : ℕ) (end : End) (x : ℕ) → LinkHas totals remaining slots d end x → UsesAs batch numbers d (made end x)
+  uses_from d Zero x has =
+      let j = joins_to_number d x has.0 has.1 in
+      record { t = j.t; used = (j.x, j.here, inl (ap (made Zero) (sym j.zero_is))); number = j.number }
+  uses_from d Three x has =
+      let j = joins_to_number d has.0 x has.1 in
+      record { t = j.t; used = (j.x, j.here, inr (ap (made Three) (sym j.three_is))); number = j.number }
+
+  uses_to : (d : ℕ) (end : End) (x : ℕ) → UsesAs batch numbers d (made end x) → LinkHas totals remaining slots d end x
+  uses_to d Zero x u = (u.used.0.responder, joins_from d x u.used.0.responder (record { t = u.t; x = u.used.0; here = u.used.1; zero_is = at_used batch u.t (made Zero x) u.used.0 u.used.1 u.used; three_is = refl; number = u.number }))
+  uses_to d Three x u = (u.used.0.initiator, joins_from d u.used.0.initiator x (record { t = u.t; x = u.used.0; here = u.used.1; zero_is = refl; three_is = at_used batch u.t (made Three x) u.used.0 u.used.1 u.used; number = u.number }))
+
+  over_read : (d : ℕ) → IsOverAt totals remaining slots settings settings d → IsOverAs batch settings numbers d
+  over_read d (pair_at u v has none gone) = pair_as u v (joins_to_number d u v has) (λ e later j. none e later (joins_from e u v j))
+  over_read d (link_at end x x_in unused used full) = link_as (made end x) (λ u. unused (uses_to d end x u)) (λ e later to. uses_from e end x (used e later to))
+
+  pub needs_read : AreAtNeed totals remaining slots settings settings → HaveNeeds batch settings numbers
+  needs_read needs d lt = elim (needs d (omega arith) lt) [
+    | inl same ↦ inl (λ u v. (λ j. joins_to_number (d + 1) u v ((same.1 u v).0 (joins_from d u v j)), λ j. joins_to_number d u v ((same.1 u v).1 (joins_from (d + 1) u v j))))
+    | inr is ↦ inr (over_read d is)
+  ]
+
 -- ---- where slots begin
 
 pub starts_more : (totals starts : List ℕ) (n room : ℕ) → n < length starts → room ≡ sum_below n (slice_index totals) → ((p : ℕ) → p < n → get_or starts p 0 ≡ sum_below p (slice_index totals)) → (p : ℕ) → p < n + 1 → get_or (set starts n room) p 0 ≡ sum_below p (slice_index totals)
-starts_more totals starts n room n_in is so_far p lt = elim (cases_eq p n) [
-  | inl e ↦ ap (λ (q : ℕ). get_or (set starts n room) q 0) e ∙ (get_or-set_same starts n room 0 n_in ∙ (is ∙ ap (λ (q : ℕ). sum_below q (slice_index totals)) (sym e)))
-  | inr ne ↦ get_or-set_other starts n p room 0 ne ∙ so_far p (omega arith)
-]
-
-no_hit : (u v : ℕ) (x : Transfer) → (x.initiator ≡ u → x.responder ≡ v → ⊥) → bit (hits u v x) ≡ 0
-no_hit u v x other = elim (eqb_tells x.initiator u) [
-  | inl p ↦ elim (eqb_tells x.responder v) [ inl q ↦ absurd (other p.1 q.1) | inr q ↦ rw (p.0, q.0) refl ]
-  | inr p ↦ rw p.0 refl
-]
-
-at_end : (xs : List ℕ) (y i : ℕ) → i ≡ length xs → get_or (xs ++ y ∷ []) i 0 ≡ y
-at_end xs y i e = get_or_push xs y 0 i (sym e)
+starts_more totals starts n room n_in is so_far =
+    below_more (λ p. get_or (set starts n room) p 0 ≡ sum_below p (slice_index totals)) n (λ p lt. get_or-set_other starts n p room 0 (λ e. omega (arith, e, lt)) ∙ so_far p lt) (get_or-set_same starts n room 0 n_in ∙ is)
 
 -- ---- one pair at a time
 
@@ -420,31 +409,14 @@ pub all_taken : (remaining : List ℕ) → HaveMost remaining 0 → (u v : ℕ) 
 all_taken remaining most u v u_in v_in = omega (arith, most Zero u u_in, at_most_sum MAX_MODULES v (λ w. count_at remaining u w) v_in)
 
 pub counted_less : (batch : List Transfer) (t : ℕ) (x : Transfer) (remaining : List ℕ) (a b : ℕ) → ArePairCounts (drop t batch) remaining → slice_get batch t ≡ Some x → a ≡ x.initiator → b ≡ x.responder → a < MAX_MODULES → b < MAX_MODULES → ArePairCounts (drop (t + 1) batch) (set remaining (pair_index a b) (count_at remaining a b - 1))
-counted_less batch t x remaining a b c here start answer a_in b_in = record {
-  places = length-set remaining (pair_index a b) (count_at remaining a b - 1) ∙ c.places;
-  at = λ u v u_in v_in.
-      let split = pair_behind batch t x u v here in
-      elim (cases_eq a u) [
-        | inl e ↦ elim (cases_eq b v) [
-          | inl f ↦
-              let place : pair_index u v ≡ pair_index a b = omega (arith, e, f) in
-              let one : bit (hits u v x) ≡ 1 = rw (eq-eqb x.initiator u (omega (arith, e, start)), eq-eqb x.responder v (omega (arith, f, answer))) refl in
-              omega (arith, split, one, c.at u v u_in v_in, count_here remaining a b (count_at remaining a b - 1) c.places a_in b_in, ap (λ (p : ℕ). get_or (set remaining (pair_index a b) (count_at remaining a b - 1)) p 0) place, ap (λ (p : ℕ). get_or remaining p 0) place)
-          | inr ne ↦
-              let none : bit (hits u v x) ≡ 0 = no_hit u v x (λ _ g. ne (answer ∙ g)) in
-              omega (arith, split, none, c.at u v u_in v_in, count_other remaining a b (count_at remaining a b - 1) c.places a_in b_in u v v_in (λ _ g. ne g))
-        ]
-        | inr ne ↦
-            let none : bit (hits u v x) ≡ 0 = no_hit u v x (λ g _. ne (start ∙ g)) in
-            omega (arith, split, none, c.at u v u_in v_in, count_other remaining a b (count_at remaining a b - 1) c.places a_in b_in u v v_in (λ g _. ne g))
-      ];
-}
+counted_less batch t x remaining a b c here start answer a_in b_in =
+    counted_now (drop t batch) (drop (t + 1) batch) x remaining a b (count_at remaining a b - 1) c start answer a_in b_in
+    (omega (arith, pair_after batch t x a b here, own_hit x a b start answer, c.at a b a_in b_in)) (λ u v none. omega (arith, pair_after batch t x u v here, none))
 
 -- the transfer waits
 pub own_waits : (batch : List Transfer) (t : ℕ) (x : Transfer) (remaining : List ℕ) (a b : ℕ) → ArePairCounts (drop t batch) remaining → slice_get batch t ≡ Some x → a ≡ x.initiator → b ≡ x.responder → a < MAX_MODULES → b < MAX_MODULES → count_at remaining a b ≡ 1 + pair_count (drop (t + 1) batch) a b
 own_waits batch t x remaining a b c here start answer a_in b_in =
-    let one : bit (hits a b x) ≡ 1 = rw (eq-eqb x.initiator a (sym start), eq-eqb x.responder b (sym answer)) refl in
-    omega (arith, c.at a b a_in b_in, pair_behind batch t x a b here, one)
+    omega (arith, c.at a b a_in b_in, pair_after batch t x a b here, own_hit x a b start answer)
 
 pub few_left : (batch : List Transfer) (t : ℕ) (totals remaining : List ℕ) (a b : ℕ) → ArePairCounts batch totals → ArePairCounts (drop t batch) remaining → a < MAX_MODULES → b < MAX_MODULES → count_at remaining a b ≤ count_at totals a b
 few_left batch t totals remaining a b all c a_in b_in = omega (arith, all.at a b a_in b_in, c.at a b a_in b_in, pair_drop batch t a b)
@@ -455,7 +427,7 @@ read_more batch totals slots numbers n number x r here is = record {
   at = λ t y lt there. elim (cases_eq t n) [
     | inl e ↦
         let same : x ≡ y = same_Some x y (sym here ∙ subst (λ (k : ℕ). slice_get batch k ≡ Some y) e there) in
-        let value : get_or (numbers ++ number ∷ []) t 0 ≡ number = at_end numbers number t (omega (arith, e, r.sized)) in
+        let value = get_or_push numbers number 0 t (omega (arith, e, r.sized)) in
         value ∙ (is ∙ subst (λ (z : Transfer). slot totals slots x.initiator x.responder (pair_count (drop (n + 1) batch) x.initiator x.responder) ≡ slot totals slots z.initiator z.responder (pair_count (drop (t + 1) batch) z.initiator z.responder)) same (ap (λ (k : ℕ). slot totals slots x.initiator x.responder (pair_count (drop (k + 1) batch) x.initiator x.responder)) (sym e)))
     | inr ne ↦
         let before : t < n = omega arith in

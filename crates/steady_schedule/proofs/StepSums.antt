@@ -12,10 +12,6 @@ unfolding sum_below
 count_is_sum zero f = refl
 count_is_sum (suc n) f = omega (arith, count_is_sum n f)
 
-pub sum_equal : {J : Type 0} (f g : J → ℕ) → ((j : J) → f j ≡ g j) → (js : List J) → sum_by f js ≡ sum_by g js
-sum_equal f g same [] = refl
-sum_equal f g same (j ∷ js) = omega (arith, sum_by-cons f j js, sum_by-cons g j js, same j, sum_equal f g same js)
-
 pub swap_below : {J : Type 0} (n : ℕ) (F : J → ℕ → ℕ) (js : List J) → sum_below n (λ m. sum_by (λ j. F j m) js) ≡ sum_by (λ j. sum_below n (F j)) js
 swap_below n F [] = sum_none n
 swap_below n F (j ∷ js) =

@@ -1,6 +1,7 @@
 -- Steps: which matchings can be held, and what waits after that.
 use Rattle.std.proofs.Common.{◌≡◌, ◌≢◌, ℕ, ◌+◌, ◌-◌, ◌*◌, ◌<◌, ◌≤◌, List, length, set, Bool, true, false, ◌&&◌, cond, Option, Some, None, refl, sym, ap, ◌∙◌, subst, inl, inr, arith}
 use Rattle.std.specs.Prelude.{min, ◌⊎◌, nat_lt}
+use borrow.Author.Count.{below_more}
 use Rattle.std.proofs.lemmas.Bool.{cases_eq, lt-ltb, le-ltb, eq-eqb, ne_eqb, ltb-true, cases_lt}
 use Rattle.std.proofs.lemmas.Bool.Decides.{nat_tests}
 use Rattle.std.proofs.lemmas.List.{length-set}
@@ -182,13 +183,11 @@ all_taken zero k n old new within low taken = record {
 }
 
 -- where one module's pair is parted if none of it waits, and the others stay
-pub behind_now : (zero zero_now : List (Option ℕ)) (counts now : List ℕ) (n : ℕ) → ((x y : ℕ) → x < n → partner zero x ≡ Some y → 0 < count_at counts x y) → ((x : ℕ) → x ≢ n → partner zero_now x ≡ partner zero x) → ((y : ℕ) → partner zero_now n ≡ Some y → 0 < count_at now n y) → ((x y : ℕ) → x ≢ n → partner zero x ≡ Some y → count_at now x y ≡ count_at counts x y) → (x y : ℕ) → x < n + 1 → partner zero_now x ≡ Some y → 0 < count_at now x y
-behind_now zero zero_now counts now n so_far others here same x y lt joined = elim (cases_eq x n) [
-  | inl e ↦ subst (λ (u : ℕ). 0 < count_at now u y) (sym e) (here y (subst (λ (u : ℕ). partner zero_now u ≡ Some y) e joined))
-  | inr ne ↦
-      let was = sym (others x ne) ∙ joined in
-      omega (arith, same x y ne was, so_far x y (omega arith) was)
-]
+pub after_now : (zero zero_now : List (Option ℕ)) (counts now : List ℕ) (n : ℕ) → ((x y : ℕ) → x < n → partner zero x ≡ Some y → 0 < count_at counts x y) → ((x : ℕ) → x ≢ n → partner zero_now x ≡ partner zero x) → ((y : ℕ) → partner zero_now n ≡ Some y → 0 < count_at now n y) → ((x y : ℕ) → x ≢ n → partner zero x ≡ Some y → count_at now x y ≡ count_at counts x y) → (x y : ℕ) → x < n + 1 → partner zero_now x ≡ Some y → 0 < count_at now x y
+after_now zero zero_now counts now n so_far others here same x y = below_more (λ u. partner zero_now u ≡ Some y → 0 < count_at now u y) n (λ u lt joined.
+    let ne : u ≢ n = λ e. omega (arith, e, lt) in
+    let was = sym (others u ne) ∙ joined in
+    omega (arith, same u y ne was, so_far u y lt was)) (here y) x
 
 -- ---- no longer
 

@@ -53,6 +53,10 @@ pub only_few : (b : Bool) (k : ℕ) → only b k ≤ k
 only_few true k = omega arith
 only_few false k = omega arith
 
+pub split_only : (b : Bool) (x y : ℕ) → only b (x + y) ≡ only b x + only b y
+split_only true x y = refl
+split_only false x y = refl
+
 pub only_most : (b : Bool) (k most : ℕ) → k ≤ most → only b k ≤ only b most
 only_most true k most le = le
 only_most false k most le = omega arith

@@ -12,7 +12,8 @@ use Rattle.link_graph.specs.Marks.{members}
 use Rattle.link_graph.specs.Schedules.{IsScheduleOf}
 use Rattle.link_graph.proofs.Once.{times_concat}
 use Rattle.steady_schedule.specs.Waiting.{sum_below}
-use Rattle.steady_schedule.proofs.StepSums.{sum_equal, swap_below, one_at}
+use Rattle.link_graph.proofs.Sums.{sum_same as sum_equal}
+use Rattle.steady_schedule.proofs.StepSums.{swap_below, one_at}
 use Rattle.steady_schedule.proofs.Ends.{one_more}
 use Rattle.steady_schedule.proofs.Sums.{only, sum_same, sum_none, sum_changed}
 
@@ -25,21 +26,15 @@ module _ (batch : List Transfer) (p : Transfer → Bool) where
   abbrev pub worth : ℕ → ℕ
   worth t = worth_of (slice_get batch t)
 
-  one_member : (t : ℕ) (ts : List ℕ) (x : Transfer) → slice_get batch t ≡ Some x → members batch (t ∷ ts) ≡ x ∷ members batch ts
-  one_member t ts x here = rw here refl
-
-  no_member : (t : ℕ) (ts : List ℕ) → slice_get batch t ≡ None → members batch (t ∷ ts) ≡ members batch ts
-  no_member t ts none = rw none refl
-
   pub members_worth : (setting : List ℕ) → count_by p (members batch setting) ≡ sum_by worth setting
   members_worth [] = refl
   members_worth (t ∷ ts) = elim (slice_get_cases batch t).1 [
     | inl q ↦
-        let more : count_by p (q.0 ∷ members batch ts) ≡ sum_by worth (t ∷ ts) = omega (arith, sum_by-cons worth t ts, ap worth_of q.2, sum_by-cons (λ x. cond (p x) 1 0) q.0 (members batch ts), members_worth ts) in
-        ap (count_by p) (one_member t ts q.0 q.2) ∙ more
+        let one : members batch (t ∷ ts) ≡ q.0 ∷ members batch ts = rw q.2 refl in
+        omega (arith, ap (count_by p) one, sum_by-cons worth t ts, ap worth_of q.2, sum_by-cons (λ x. cond (p x) 1 0) q.0 (members batch ts), members_worth ts)
     | inr q ↦
-        let same : count_by p (members batch ts) ≡ sum_by worth (t ∷ ts) = omega (arith, sum_by-cons worth t ts, ap worth_of q.1, members_worth ts) in
-        ap (count_by p) (no_member t ts q.1) ∙ same
+        let none : members batch (t ∷ ts) ≡ members batch ts = rw q.1 refl in
+        omega (arith, ap (count_by p) none, sum_by-cons worth t ts, ap worth_of q.1, members_worth ts)
   ]
 
   below_worth : (n : ℕ) → n ≤ length batch → sum_below n worth ≡ count_by p (take n batch)
@@ -75,7 +70,7 @@ module _ (batch : List Transfer) (p : Transfer → Bool) where
   once_worth : (xs : List ℕ) → ((t : ℕ) → t < length batch → count_by (λ u. u == t) xs ≡ 1) → sum_by worth xs ≡ sum_below (length batch) worth
   once_worth xs once =
       let n : ℕ = length batch in
-      sym (sum_equal (λ u. sum_below n (λ t. only (u == t) (worth t))) worth one_worth xs)
+      sym (sum_equal (λ u. sum_below n (λ t. only (u == t) (worth t))) worth xs one_worth)
       ∙ (sym (swap_below n (λ u t. only (u == t) (worth t)) xs)
       ∙ sum_same n (λ t. sum_by (λ u. only (u == t) (worth t)) xs) worth (λ t lt. one_at (λ u. u) (λ u m. u == m) t (λ k. worth t) xs (once t lt)))
 

@@ -1,10 +1,10 @@
 -- Counts of the pairs of links, and what stands beside them.
-use Rattle.std.proofs.Common.{◌≡◌, ◌≢◌, ◌==◌, ℕ, zero, suc, ◌+◌, ◌*◌, ◌<◌, ◌≤◌, List, [], ◌∷◌, ◌++◌, length, get_or, set, take, replicate, Bool, true, false, ◌&&◌, ◌||◌, cond, All, refl, sym, ap, ◌∙◌, subst, inl, inr, get_or-set_same, get_or-set_other, arith}
+use Rattle.std.proofs.Common.{◌≡◌, ◌≢◌, ◌==◌, ℕ, ◌+◌, ◌*◌, ◌<◌, ◌≤◌, List, [], ◌∷◌, ◌++◌, length, get_or, set, take, replicate, Bool, true, false, ◌&&◌, ◌||◌, cond, All, refl, sym, ap, ◌∙◌, subst, inl, inr, get_or-set_same, get_or-set_other, arith}
 use Rattle.std.specs.Prelude.{nat_lt}
-use Rattle.std.proofs.lemmas.Bool.{lt-ltb, le-ltb}
+use Rattle.std.proofs.lemmas.Bool.{cases_eq, eq-eqb, lt-ltb, le-ltb}
 use Rattle.std.proofs.lemmas.Bool.Decides.{nat_tests, eqb_tells}
 use Rattle.std.proofs.lemmas.Grind.{elements}
-use Rattle.std.proofs.lemmas.List.{length-set, length-replicate, get_or_past, length-take-le}
+use Rattle.std.proofs.lemmas.List.{length-set, set-get_or, length-replicate, get_or_past, length-take-le}
 use Rattle.std.proofs.lemmas.List.Elements.{All-head, All-tail, All-take}
 use Rattle.std.proofs.lemmas.List.Sums.{sum_by-cons, sum_by_push}
 use Rattle.std.proofs.lemmas.Nat.{same_from_place}
@@ -27,6 +27,13 @@ place_low u v u_in v_in = omega arith
 
 pub same_place : (a b u v : ℕ) → b < MAX_MODULES → v < MAX_MODULES → pair_index a b ≡ pair_index u v → (a ≡ u) × (b ≡ v)
 same_place a b u v b_in v_in e = same_from_place a b u v MAX_MODULES b_in v_in e
+
+-- a pair is this one, or another
+pub same_or_other : (a b u v : ℕ) (P : ℕ → ℕ → Type 0) → P a b → ((a ≡ u → b ≡ v → ⊥) → P u v) → P u v
+same_or_other a b u v P same other = elim (cases_eq a u) [
+  | inl e ↦ elim (cases_eq b v) [ inl f ↦ subst (λ (p : ℕ). P p v) e (subst (P a) f same) | inr ne ↦ other (λ _ f. ne f) ]
+  | inr ne ↦ other (λ e _. ne e)
+]
 
 -- the module of a pair at an end
 abbrev pub end_of : ℕ → ℕ → End → ℕ
@@ -116,30 +123,31 @@ none_counted = record { places = length-replicate {A = ℕ} (MAX_MODULES * MAX_M
 
 -- ---- one transfer more
 
-abbrev hits : ℕ → ℕ → Transfer → Bool
+abbrev pub hits : ℕ → ℕ → Transfer → Bool
 hits u v x = x.initiator == u && x.responder == v
 
-pub counted_more : (xs : List Transfer) (x : Transfer) (counts : List ℕ) (a b : ℕ) → ArePairCounts xs counts → a ≡ x.initiator → b ≡ x.responder → a < MAX_MODULES → b < MAX_MODULES → ArePairCounts (xs ++ x ∷ []) (set counts (pair_index a b) (count_at counts a b + 1))
-counted_more xs x counts a b c start answer a_in b_in = record {
-  places = length-set counts (pair_index a b) (count_at counts a b + 1) ∙ c.places;
-  at = λ u v u_in v_in.
-      let pushed = sum_by_push (λ y. bit (hits u v y)) xs x in
-      elim (eqb_tells x.initiator u) [
-        | inl p ↦ elim (eqb_tells x.responder v) [
-          | inl q ↦
-              let same : count_at (set counts (pair_index a b) (count_at counts a b + 1)) u v ≡ count_at counts a b + 1 = ap (λ (i : ℕ). get_or (set counts (pair_index a b) (count_at counts a b + 1)) i 0) (omega (arith, p.1, q.1, start, answer)) ∙ count_here counts a b (count_at counts a b + 1) c.places a_in b_in in
-              let old : count_at counts a b ≡ count_at counts u v = ap (λ (i : ℕ). get_or counts i 0) (omega (arith, p.1, q.1, start, answer)) in
-              let one : bit (hits u v x) ≡ 1 = rw (p.0, q.0) refl in
-              omega (arith, pushed, same, old, one, c.at u v u_in v_in)
-          | inr q ↦
-              let none : bit (hits u v x) ≡ 0 = rw (p.0, q.0) refl in
-              omega (arith, pushed, none, count_other counts a b (count_at counts a b + 1) c.places a_in b_in u v v_in (λ _ e. q.1 (omega (arith, e, answer))), c.at u v u_in v_in)
-        ]
-        | inr p ↦
-            let none : bit (hits u v x) ≡ 0 = rw p.0 refl in
-            omega (arith, pushed, none, count_other counts a b (count_at counts a b + 1) c.places a_in b_in u v v_in (λ e _. p.1 (omega (arith, e, start))), c.at u v u_in v_in)
-      ];
+no_hit : (u v : ℕ) (x : Transfer) → (x.initiator ≡ u → x.responder ≡ v → ⊥) → bit (hits u v x) ≡ 0
+no_hit u v x other = elim (eqb_tells x.initiator u) [
+  | inl p ↦ elim (eqb_tells x.responder v) [ inl q ↦ absurd (other p.1 q.1) | inr q ↦ rw (p.0, q.0) refl ]
+  | inr p ↦ rw p.0 refl
+]
+
+-- the count of a transfer's pair is another, and all others are as they were
+pub counted_now : (xs ys : List Transfer) (x : Transfer) (counts : List ℕ) (a b k : ℕ) → ArePairCounts xs counts → a ≡ x.initiator → b ≡ x.responder → a < MAX_MODULES → b < MAX_MODULES → pair_count ys a b ≡ k → ((u v : ℕ) → bit (hits u v x) ≡ 0 → pair_count ys u v ≡ pair_count xs u v) → ArePairCounts ys (set counts (pair_index a b) k)
+counted_now xs ys x counts a b k c start answer a_in b_in here others = record {
+  places = length-set counts (pair_index a b) k ∙ c.places;
+  at = λ u v u_in v_in. same_or_other a b u v (λ p q. count_at (set counts (pair_index a b) k) p q ≡ pair_count ys p q) (count_here counts a b k c.places a_in b_in ∙ sym here) (λ other.
+      count_other counts a b k c.places a_in b_in u v v_in other ∙ (c.at u v u_in v_in ∙ sym (others u v (no_hit u v x (λ e f. other (start ∙ e) (answer ∙ f))))));
 }
+
+-- whether the transfer is one of the pair
+pub own_hit : (x : Transfer) (a b : ℕ) → a ≡ x.initiator → b ≡ x.responder → bit (hits a b x) ≡ 1
+own_hit x a b start answer = rw (eq-eqb x.initiator a (sym start), eq-eqb x.responder b (sym answer)) refl
+
+pub counted_more : (xs : List Transfer) (x : Transfer) (counts : List ℕ) (a b : ℕ) → ArePairCounts xs counts → a ≡ x.initiator → b ≡ x.responder → a < MAX_MODULES → b < MAX_MODULES → ArePairCounts (xs ++ x ∷ []) (set counts (pair_index a b) (count_at counts a b + 1))
+counted_more xs x counts a b c start answer a_in b_in =
+    let pushed = λ (u v : ℕ). sum_by_push (λ y. bit (hits u v y)) xs x in
+    counted_now xs (xs ++ x ∷ []) x counts a b (count_at counts a b + 1) c start answer a_in b_in (omega (arith, pushed a b, own_hit x a b start answer, c.at a b a_in b_in)) (λ u v none. omega (arith, pushed u v, none))
 
 -- ---- how many wait of a link
 
@@ -207,11 +215,6 @@ kept_bits old b k some has m m_in = elim (eqb_tells b m) [
   | inr p ↦ rw p.0 refl
 ]
 
-set_own : (xs : List ℕ) (i : ℕ) → set xs i (get_or xs i 0) ≡ xs
-set_own [] i = refl
-set_own (x ∷ xs) zero = refl
-set_own (x ∷ xs) (suc i) = ap (λ (ys : List ℕ). x ∷ ys) (set_own xs i)
-
 module _ (counts zn zu tn tu : List ℕ) (a b : ℕ) (t : AreTold counts zn zu tn tu) (a_in : a < MAX_MODULES) (b_in : b < MAX_MODULES) where
   pub zero_waits : count_at counts a b ≤ get_or zu a 0
   zero_waits = omega (arith, t.uses_zero a a_in, at_most_sum MAX_MODULES b (λ v. count_at counts a v) b_in)
@@ -227,4 +230,4 @@ module _ (counts zn zu tn tu : List ℕ) (a b : ℕ) (t : AreTold counts zn zu t
   told_some k uz ut some had uz_is ut_is =
       let near = has_near had in
       let told = told_now counts a b k t.places a_in b_in zn zu tn tu (get_or zn a 0) uz (get_or tn b 0) ut t (kept_bits (get_or zn a 0) b k some near.0) (kept_bits (get_or tn b 0) a k some near.1) uz_is ut_is in
-      rw (set_own zn a, set_own tn b) at told
+      rw (set-get_or zn a 0, set-get_or tn b 0) at told

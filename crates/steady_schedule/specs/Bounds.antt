@@ -1,5 +1,5 @@
 -- How often a steady schedule changes the switch at most: once for each pair of links in use
--- together, and once for each link in use. Behind each change a pair is over, or a link is needed
+-- together, and once for each link in use. After each change a pair is over, or a link is needed
 -- from then on.
 use Rattle.std.specs.Prelude.{ℕ, ◌+◌, List, cond, nat_lt}
 use Rattle.batch.specs.declared.limits.TheConstants.{MAX_MODULES}

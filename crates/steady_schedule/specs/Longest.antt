@@ -25,7 +25,7 @@ used_from batch settings k Three m =
     sum_below MAX_MODULES (λ u. joined_from batch settings k u m)
 
 -- A matching could be held for j settings from the k-th on: each of its pairs is joined in so many
--- of these, and no link that it leaves free is used in more of them than are left behind that.
+-- of these, and no link that it leaves free is used in more of them than are left after that.
 pub record CouldHold (batch : List Transfer) (settings : List (List ℕ)) (k : ℕ)
     (zero three : List (Option ℕ)) (j : ℕ)
     : Type 0 where
@@ -36,7 +36,7 @@ pub record CouldHold (batch : List Transfer) (settings : List (List ℕ)) (k : �
   pub three_out : (x : ℕ) → x < MAX_MODULES → partner three x ≡ None
       → used_from batch settings k Three x + (k + j) ≤ length settings
 
--- setting k begins a step: it is the first, or the switch changes behind the one before
+-- setting k begins a step: it is the first, or the switch changes after the one before
 abbrev pub BeginsStep : List Transfer → List (List ℕ) → ℕ → Type 0
 BeginsStep batch settings k =
     0 < k → join_same batch (setting_at settings (k - 1)) (setting_at settings k) ≡ false

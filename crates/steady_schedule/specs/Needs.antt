@@ -1,4 +1,4 @@
--- Why a schedule changes the switch behind a setting: something is over with that.
+-- Why a schedule changes the switch after a setting: something is over with that.
 use Rattle.std.specs.Prelude.{◌≡◌, ℕ, ◌+◌, ◌<◌, List, [], length, true, false, Contains, slice_index_or}
 use Rattle.batch.specs.declared.transfer.Transfer.{Transfer}
 use Rattle.link_graph.specs.declared.link.Link.{Link}
@@ -26,7 +26,7 @@ pub data IsOver (batch : List Transfer) (settings : List (List ℕ)) (k : ℕ) :
       → IsUsed batch (setting_at settings later) link)
       → IsOver batch settings k
 
--- the switch changes behind a setting only where something is over with that
+-- the switch changes after a setting only where something is over with that
 abbrev pub ChangesAtNeed : List Transfer → List (List ℕ) → Type 0
 ChangesAtNeed batch settings =
     (k : ℕ) → k + 1 < length settings

@@ -51,7 +51,7 @@ pub record IsNoWorse (batch : List Transfer) (settings : List (List ℕ)) : Type
   pub few : changes batch settings ≤ changes batch other
 
 -- A schedule of the batch, whose certificate shows that it is shortest, by the busiest link. No
--- setting is empty, and numbers ascend in each. The changes are few, and behind the first setting
+-- setting is empty, and numbers ascend in each. The changes are few, and after the first setting
 -- only where something is over. There are no more than in some schedule whose steps are longest.
 pub record IsSteady (plan : SteadyPlan) : Type 0 where
   pub schedule : IsScheduleOf plan.batch plan.settings

@@ -37,7 +37,7 @@ SCALE = 65536
 abbrev pub price_at : List ℕ → ℕ → ℕ → ℕ
 price_at prices l k = slice_index prices (k * LINKS + l)
 
--- the price of a length for a pair; where the one or the other place is behind all modules, for the
+-- the price of a length for a pair; where the one or the other place is after all modules, for the
 -- link that is idle
 abbrev pub price_for : List ℕ → ℕ → ℕ → ℕ → ℕ
 price_for prices u v k =

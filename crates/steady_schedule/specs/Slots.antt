@@ -1,4 +1,4 @@
--- Slots for the numbers of settings. Those of a pair stand one behind the other, one for each of
+-- Slots for the numbers of settings. Those of a pair stand one after the other, one for each of
 -- its transfers, and are written from the last to the first.
 use Rattle.std.specs.Prelude.{◌≡◌, ◌≢◌, ◌↔◌, ℕ, ◌+◌, ◌-◌, ◌*◌, ◌<◌, ◌≤◌, ◌⊎◌, List, length, Bool, true, Option, Some, slice_get, slice_index, set, drop}
 use Rattle.batch.specs.declared.limits.TheConstants.{MAX_MODULES, MAX_TRANSFERS}
@@ -93,7 +93,7 @@ pub data IsOverAt (totals remaining slots : List ℕ) (settings next d : ℕ) : 
       → ((e : ℕ) → d < e → e < next → LinkHas totals remaining slots e end m)
       → waiting remaining end m + next ≡ settings → IsOverAt totals remaining slots settings next d
 
--- behind each number but the last of all there is one that the same pairs have, or something is
+-- after each number but the last of all there is one that the same pairs have, or something is
 -- over
 abbrev pub AreAtNeed : List ℕ → List ℕ → List ℕ → ℕ → ℕ → Type 0
 AreAtNeed totals remaining slots settings next =
@@ -227,7 +227,7 @@ pub data IsOverAs (batch : List Transfer) (settings : ℕ) (numbers : List ℕ) 
       → ((e : ℕ) → d < e → e < settings → UsesAs batch numbers e link)
       → IsOverAs batch settings numbers d
 
--- each number has the pairs of the one behind it, or something is over with it
+-- each number has the pairs of the one after it, or something is over with it
 abbrev pub HaveNeeds : List Transfer → ℕ → List ℕ → Type 0
 HaveNeeds batch settings numbers =
     (d : ℕ) → d + 1 < settings

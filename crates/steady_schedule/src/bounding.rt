@@ -122,7 +122,7 @@ impl Needs<'_> {
         links
     }
 
-    /// How many transfers a link has with the one of a module; behind all modules, in how many
+    /// How many transfers a link has with the one of a module; after all modules, in how many
     /// settings it is idle.
     fn number_of(&self, index: usize, place: usize) -> usize
         requires index { index < LINKS }

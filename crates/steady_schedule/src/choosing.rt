@@ -34,6 +34,7 @@ struct Choice {
 }
 
 /// Parts a link 0, where its pair can't be held so long.
+#[tactic(auto, using(crate::proofs::Matchings::partner_low))]
 fn part_short(reach: &Reach, matching: &mut Matching, zero: usize)
     requires { zero < MAX_MODULES }
     ensures near { (y : ℕ) → partner matching.new.zero zero ≡ Some y

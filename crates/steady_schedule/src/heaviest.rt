@@ -165,6 +165,7 @@ impl Ways {
 }
 
 /// Joins a link 0 to a link 3 that is free, and gives the one that it was joined to before.
+#[tactic(auto, using(crate::proofs::Matchings::partner_low))]
 fn join_instead(matching: &mut Matching, zero: usize, three: usize) -> Option<usize>
     requires zero { zero < MAX_MODULES }
     requires three { three < MAX_MODULES }
@@ -197,6 +198,7 @@ fn join_way(matching: &mut Matching, ways: &Ways, last: usize)
 }
 
 /// Parts a link 0 whose pair has no worth.
+#[tactic(auto, using(crate::proofs::Matchings::partner_low))]
 fn part_pair(worths: &Worths, matching: &mut Matching, zero: usize)
     requires { zero < MAX_MODULES }
 {

@@ -65,6 +65,7 @@ pub(crate) fn join(of: &mut Partners, back: &mut Partners, x: usize, y: usize)
 }
 
 /// Parts two links that are joined.
+#[tactic(auto, using(crate::proofs::Matchings::has_low, crate::proofs::Matchings::partner_low))]
 pub(crate) fn part(of: &mut Partners, back: &mut Partners, x: usize, y: usize)
     requires matched { AreMatched of.old back.old }
     requires joined { partner of.old x ≡ Some y }

@@ -89,6 +89,7 @@ fn write_pair(slots: &mut [usize], at: usize, first: usize, settings: usize)
 
 /// Holds the pair of a link 0, where it is joined, for some settings: takes as many of its
 /// transfers, and writes the numbers of the settings for them. Parts it where none is left.
+#[tactic(auto, using(crate::proofs::Matchings::partner_low))]
 fn hold_one(
     remaining: &mut Remaining,
     matching: &mut Matching,

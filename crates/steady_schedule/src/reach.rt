@@ -149,6 +149,7 @@ impl Reach {
 
     /// Takes the pair of a link 0 out, where it is joined, and can't be held so long once it was
     /// held for some settings.
+    #[tactic(auto, using(crate::proofs::Matchings::partner_low))]
     fn leave_one(&mut self, remaining: &Remaining, matching: &Matching, zero: usize, held: usize)
         requires zero { zero < MAX_MODULES }
         requires there { (y : ℕ) → partner matching.now.zero zero ≡ Some y

@@ -7,14 +7,14 @@ use Rattle.c004_commands.specs.declared.command.Command.{Command}
 use Rattle.crossbar.proofs.Carrying.{nothing_come, enquiries-append, fewer_enquiries, spells_conversation, spells_whole}
 use Rattle.crossbar.specs.Port.{IsConversation}
 use Rattle.crossbar.specs.Switch.{enquiries}
-use Rattle.crossbar.specs.Traffic.{sent_byte, sent_to, heard_from, conversed, HaveConversed, BreaksOff}
+use Rattle.crossbar.specs.Traffic.{sent_byte, sent_to, heard_from, conversed, HaveConversed, BreaksOff, IsConversationFront}
 use Rattle.crossbar.specs.declared.chip.Chip.{Chip}
 use Rattle.crossbar.specs.declared.traffic.Passing.{Passing}
 use Rattle.switch_driver.proofs.Streams.{carried_none, carried_then}
 use Rattle.switch_driver.specs.Streams.{StreamCarries, HasAsked, HasAskedInVain}
 use Rattle.switch_driver.specs.declared.stream.SwitchStream.{SwitchStream}
 
--- ---- conversations one behind another
+-- ---- conversations one after another
 
 pub conversed-append : (chip : Chip) (commands others : List Command) (replies more : List ℕ) → length replies ≡ enquiries commands → conversed chip (commands ++ others) (replies ++ more) ≡ conversed chip commands replies ++ conversed chip others more
 conversed-append chip [] others [] more e = refl
@@ -32,6 +32,46 @@ conversed-append chip (command ∷ commands) others replies more e =
 conversed_one : (chip : Chip) (command : Command) (reply : List ℕ) → length reply ≡ enquiries (command ∷ []) → conversed chip (command ∷ []) reply ≡ sent_to chip (row command) ++ heard_from chip reply
 conversed_one chip command reply e =
     ap (λ (ps : List Passing). sent_to chip (row command) ++ ps) (append-nil (heard_from chip (take (enquiries (command ∷ [])) reply)) ∙ ap (heard_from chip) (take_all (enquiries (command ∷ [])) reply (omega (arith, e))))
+
+-- ---- fronts of a conversation
+
+-- nothing is one
+no_front : (chip : Chip) (commands : List Command) → IsConversationFront chip commands []
+no_front chip commands = record { replies = replicate (enquiries commands) 0; rest = _; all = length-replicate {A = ℕ} (enquiries commands) 0; front = refl }
+
+-- it is one of a longer conversation too
+pub front_longer : (chip : Chip) (commands others : List Command) (more : List Passing) → IsConversationFront chip commands more → IsConversationFront chip (commands ++ others) more
+unfolding no_front
+front_longer chip commands others more f =
+    let none = no_front chip others in
+    record {
+      replies = f.replies ++ none.replies;
+      rest = f.rest ++ none.rest;
+      all = omega (arith, length-append f.replies none.replies, f.all, none.all, enquiries-append commands others);
+      front = conversed-append chip commands others f.replies none.replies f.all ∙ ap (λ (ps : List Passing). ps ++ none.rest) f.front ∙ append_assoc more f.rest none.rest;
+    }
+
+-- and after a conversation it is one of both
+pub front_after : (chip : Chip) (commands others : List Command) (replies : List ℕ) (more : List Passing) → length replies ≡ enquiries commands → IsConversationFront chip others more → IsConversationFront chip (commands ++ others) (conversed chip commands replies ++ more)
+front_after chip commands others replies more count f = record {
+  replies = replies ++ f.replies;
+  rest = f.rest;
+  all = omega (arith, length-append replies f.replies, count, f.all, enquiries-append commands others);
+  front = conversed-append chip commands others replies f.replies count ∙ ap (λ (ps : List Passing). conversed chip commands replies ++ ps) f.front ∙ sym (append_assoc (conversed chip commands replies) more f.rest);
+}
+
+-- a front of a command's bytes
+front_of_row : (chip : Chip) (command : Command) (front left : List ℕ) → row command ≡ front ++ left → IsConversationFront chip (command ∷ []) (sent_to chip front)
+unfolding no_front
+front_of_row chip command front left are =
+    let none = no_front chip (command ∷ []) in
+    let heard = heard_from chip (take (enquiries (command ∷ [])) none.replies) ++ [] in
+    record {
+      replies = none.replies;
+      rest = sent_to chip left ++ heard;
+      all = none.all;
+      front = ap (λ (ps : List Passing). ps ++ heard) (ap (sent_to chip) are ∙ map-append (sent_byte chip) front left) ∙ append_assoc (sent_to chip front) (sent_to chip left) heard;
+    }
 
 -- ---- what has passed so far
 
@@ -99,64 +139,24 @@ all_conversed contents remaining chip come bytes reader replies heard number old
     h.carried.noted ∙ ap₂ (λ (cs : List Command) (rs : List ℕ). before ++ conversed chip cs rs) same (take_all heard replies filled)
 
 -- it broke off within a command
-broke_off : (chip : Chip) (bytes come later front left reader : List ℕ) (commands : List Command) (command : Command) (replies : List ℕ) (before after : List Passing) → bytes ≡ come ++ later → Spells come (commands ++ command ∷ []) reader → row command ≡ front ++ left
-    → length replies ≡ enquiries commands → after ≡ before ++ (conversed chip commands replies ++ sent_to chip front) → BreaksOff chip bytes (Some before) (Some after)
-broke_off chip bytes come later front left reader commands command replies before after are spells row_is count noted all ports whole =
-    let on = longer_text come later (commands ++ command ∷ []) all reader [] spells (subst (λ (b : List ℕ). Spells b all []) are (spells_whole bytes all ports whole)) in
-    let behind = command ∷ on.later in
-    let all_are : all ≡ commands ++ behind = on.others_are ∙ append_assoc commands (command ∷ []) on.later in
-    let zeros : List ℕ = replicate (enquiries behind) 0 in
-    let zeros_many : length zeros ≡ enquiries behind = length-replicate {A = ℕ} (enquiries behind) 0 in
-    let n = enquiries (command ∷ []) in
-    let rest = heard_from chip (take n zeros) ++ conversed chip on.later (drop n zeros) in
-    let sent : sent_to chip (row command) ≡ sent_to chip front ++ sent_to chip left = ap (sent_to chip) row_is ∙ map-append (sent_byte chip) front left in (
-      conversed chip commands replies ++ sent_to chip front,
-      noted,
-      record {
-        replies = replies ++ zeros;
-        rest = sent_to chip left ++ rest;
-        all = omega (arith, length-append replies zeros, zeros_many, count, enquiries-append commands behind, ap enquiries all_are);
-        front = ap (λ (cs : List Command). conversed chip cs (replies ++ zeros)) all_are
-            ∙ conversed-append chip commands behind replies zeros count
-            ∙ ap (λ (ps : List Passing). conversed chip commands replies ++ (ps ++ rest)) sent
-            ∙ ap (λ (ps : List Passing). conversed chip commands replies ++ ps) (append_assoc (sent_to chip front) (sent_to chip left) rest)
-            ∙ sym (append_assoc (conversed chip commands replies) (sent_to chip front) (sent_to chip left ++ rest));
-      },
-    )
-
--- the same, seen from what had passed before the command
 pub broke_within : {I O : Type 0} (contents : O → Option (List ℕ)) (remaining : I → Option (List ℕ)) (chip : Chip) (command : Command) (bytes come more later reader left replies : List ℕ) (heard : ℕ) (old mid new : SwitchStream I O) (before now after : List Passing) → bytes ≡ more ++ later
     → (h : SoFar contents remaining chip come reader replies heard old mid before now) → Spells more (h.commands ++ command ∷ []) left → HasAskedInVain contents remaining chip command mid new now after → BreaksOff chip bytes (Some before) (Some after)
-broke_within contents remaining chip command bytes come more later reader left replies heard old mid new before now after are h spells vain =
-    broke_off chip bytes more later vain.front vain.left left h.commands command (take heard replies) before after are spells vain.bytes_are (length-take-le heard replies h.room ∙ h.count)
-    (carried_then contents remaining old mid new before now after _ _ h.carried vain.carried).noted
+broke_within contents remaining chip command bytes come more later reader left replies heard old mid new before now after are h spells vain all ports whole =
+    let on = longer_text more later (h.commands ++ command ∷ []) all left [] spells (subst (λ (b : List ℕ). Spells b all []) are (spells_whole bytes all ports whole)) in (
+      _,
+      (carried_then contents remaining old mid new before now after _ _ h.carried vain.carried).noted,
+      rw on.others_are
+          (front_longer chip (h.commands ++ command ∷ []) on.later _
+          (front_after chip h.commands (command ∷ []) (take heard replies) _ (length-take-le heard replies h.room ∙ h.count) (front_of_row chip command vain.front vain.left vain.bytes_are))),
+    )
 
 -- all was sent and heard, but not flushed
-pub broke_behind : {I O : Type 0} (contents : O → Option (List ℕ)) (remaining : I → Option (List ℕ)) (chip : Chip) (come bytes reader replies : List ℕ) (heard : ℕ) (old new : SwitchStream I O) (before after : List Passing)
+pub broke_after : {I O : Type 0} (contents : O → Option (List ℕ)) (remaining : I → Option (List ℕ)) (chip : Chip) (come bytes reader replies : List ℕ) (heard : ℕ) (old new : SwitchStream I O) (before after : List Passing)
     → SoFar contents remaining chip come reader replies heard old new before after → come ≡ bytes → BreaksOff chip bytes (Some before) (Some after)
-broke_behind contents remaining chip come bytes reader replies heard old new before after h all commands ports whole =
+broke_after contents remaining chip come bytes reader replies heard old new before after h all commands ports whole =
     let same = (one_reading bytes h.commands commands reader [] (subst (λ (b : List ℕ). Spells b h.commands reader) all h.spells) (spells_whole bytes commands ports whole)).0 in
-    let heard_are = take heard replies in (
-      conversed chip h.commands heard_are,
-      h.carried.noted,
-      record {
-        replies = heard_are;
-        rest = [];
-        all = length-take-le heard replies h.room ∙ h.count ∙ ap enquiries same;
-        front = ap (λ (cs : List Command). conversed chip cs heard_are) (sym same) ∙ sym (append-nil (conversed chip h.commands heard_are));
-      },
-    )
+    (_, h.carried.noted, rw (← same) (record { replies = take heard replies; rest = []; all = length-take-le heard replies h.room ∙ h.count; front = sym (append-nil _) }))
 
 -- nothing passed
 pub none_passed : (chip : Chip) (bytes : List ℕ) (before : List Passing) → BreaksOff chip bytes (Some before) (Some before)
-none_passed chip bytes before commands ports whole =
-    let zeros : List ℕ = replicate (enquiries commands) 0 in (
-      [],
-      sym (append-nil before),
-      record {
-        replies = zeros;
-        rest = conversed chip commands zeros;
-        all = length-replicate {A = ℕ} (enquiries commands) 0;
-        front = refl;
-      },
-    )
+none_passed chip bytes before commands ports whole = ([], sym (append-nil before), no_front chip commands)

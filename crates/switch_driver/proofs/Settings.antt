@@ -17,18 +17,18 @@ use Rattle.switch_settings.specs.Settings.{numbers_in}
 use Rattle.switch_settings.specs.declared.fault.SettingFault.{SettingFault}
 use Rattle.switch_settings.specs.declared.rack_wiring.RackWiring.{RackWiring}
 use Rattle.switch_settings.specs.declared.rack_wiring.RackWiring.TheVariants.{Usual}
-use Rattle.switch_driver.specs.Driving.{Stood, HaveStood, standing_behind}
+use Rattle.switch_driver.specs.Driving.{Stood, HaveStood, standing_after}
 use Rattle.switch_driver.specs.Steps.{HasStopped, Stands, changed, settled_steps, wirings_of}
 use Rattle.switch_driver.specs.Hearings.{Hearing}
 
 -- a setting that stands, of the pairs that were asked for
-pub stands_so : (rack : RackWiring) (batch : List Transfer) (settings : List (List ℕ)) (first n k : ℕ) (known : Option (List Pair)) (pairs : List Pair) (old new : Option (List Passing)) → first + n ≡ k → known ≡ standing_behind batch settings first n → pairs ≡ pairs_at batch settings k
+pub stands_so : (rack : RackWiring) (batch : List Transfer) (settings : List (List ℕ)) (first n k : ℕ) (known : Option (List Pair)) (pairs : List Pair) (old new : Option (List Passing)) → first + n ≡ k → known ≡ standing_after batch settings first n → pairs ≡ pairs_at batch settings k
     → Stands rack known pairs old new → Stood rack batch settings first n old new
 stands_so rack batch settings first n k known pairs old new at e f h = rw at (rw (e, f) at h)
 
--- the pairs that stand behind it
-pub known_behind : (batch : List Transfer) (settings : List (List ℕ)) (first n k : ℕ) (pairs : List Pair) → first + n ≡ k → pairs ≡ pairs_at batch settings k → Some pairs ≡ standing_behind batch settings first (n + 1)
-known_behind batch settings first n k pairs at e = ap (λ (ps : List Pair). Some ps) (e ∙ ap (pairs_at batch settings) (sym at)) ∙ ap (standing_behind batch settings first) (sym (add-one n))
+-- the pairs that stand after it
+pub known_after : (batch : List Transfer) (settings : List (List ℕ)) (first n k : ℕ) (pairs : List Pair) → first + n ≡ k → pairs ≡ pairs_at batch settings k → Some pairs ≡ standing_after batch settings first (n + 1)
+known_after batch settings first n k pairs at e = ap (λ (ps : List Pair). Some ps) (e ∙ ap (pairs_at batch settings) (sym at)) ∙ ap (standing_after batch settings first) (sym (add-one n))
 
 -- one setting more
 pub one_more : {S : Type 0} (hears : Hearing S) (rack : RackWiring) (batch : List Transfer) (settings : List (List ℕ)) (first n k : ℕ) (numbers : List ℕ) (old : Option (List Passing)) (told : S) (mid : Option (List Passing)) (telling : S) (new : Option (List Passing))

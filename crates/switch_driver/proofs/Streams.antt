@@ -1,15 +1,15 @@
 -- What passes over a stream to a switch goes on, byte by byte and command by command.
-use Rattle.std.proofs.Common.{◌≡◌, ◌++◌, ◌∷◌, [], ℕ, List, take, drop, Option, Result, Ok, Err, refl, sym, ap, ◌∙◌, append_assoc, append-nil}
-use Rattle.std.proofs.lemmas.List.{take-append-drop}
+use Rattle.std.proofs.Common.{◌≡◌, ◌<◌, ◌+◌, ◌++◌, ◌∷◌, [], ℕ, List, length, take, get_or, Option, Result, Ok, Err, sym, ap, ◌∙◌, append_assoc, append-nil}
+use Rattle.std.proofs.lemmas.List.{map-append}
 use Rattle.std.proofs.lemmas.List.Concat.{flat_map-append}
 use Rattle.std.specs.Prelude.{OnErr}
 use Rattle.byte_streams.proofs.Carrying.{appends_then, appends_none, consumes_then, consumes_none}
-use Rattle.c004_commands.specs.Commands.{row}
-use Rattle.c004_commands.specs.declared.command.Command.{Command}
-use Rattle.crossbar.specs.Traffic.{sent_to, heard_from}
+use Rattle.std.specs.Io.KnownBytes.{Appends}
+use Rattle.crossbar.proofs.Carrying.{take_more}
+use Rattle.crossbar.specs.Traffic.{sent_byte, sent_to}
 use Rattle.crossbar.specs.declared.chip.Chip.{Chip}
 use Rattle.crossbar.specs.declared.traffic.Passing.{Passing}
-use Rattle.switch_driver.specs.Streams.{where_sent, where_heard, bytes_sent, bytes_heard, StreamCarries, HasWritten, HasWrittenFront, HasAskedInVain}
+use Rattle.switch_driver.specs.Streams.{where_sent, where_heard, bytes_sent, bytes_heard, StreamCarries}
 use Rattle.switch_driver.specs.declared.stream.SwitchStream.{SwitchStream}
 
 -- what holds at the error of a call that was left by `?`
@@ -17,41 +17,13 @@ pub at_err : {T E P : Type 0} (result : Result T E) → P → OnErr result P
 at_err (Ok x) p = tt
 at_err (Err e) p = p
 
--- ---- the bytes that were sent, and those that were heard
-
-sent_of_sent : (chip : Chip) (bytes : List ℕ) → bytes_sent (sent_to chip bytes) ≡ bytes
-sent_of_sent chip [] = refl
-sent_of_sent chip (byte ∷ bytes) = ap (λ (bs : List ℕ). byte ∷ bs) (sent_of_sent chip bytes)
-
-heard_of_sent : (chip : Chip) (bytes : List ℕ) → bytes_heard (sent_to chip bytes) ≡ []
-heard_of_sent chip [] = refl
-heard_of_sent chip (byte ∷ bytes) = heard_of_sent chip bytes
-
-pub sent_of_heard : (chip : Chip) (bytes : List ℕ) → bytes_sent (heard_from chip bytes) ≡ []
-sent_of_heard chip [] = refl
-sent_of_heard chip (byte ∷ bytes) = sent_of_heard chip bytes
-
-pub heard_of_heard : (chip : Chip) (bytes : List ℕ) → bytes_heard (heard_from chip bytes) ≡ bytes
-heard_of_heard chip [] = refl
-heard_of_heard chip (byte ∷ bytes) = ap (λ (bs : List ℕ). byte ∷ bs) (heard_of_heard chip bytes)
+-- ---- one after another
 
 bytes_sent-append : (xs ys : List Passing) → bytes_sent (xs ++ ys) ≡ bytes_sent xs ++ bytes_sent ys
 bytes_sent-append xs ys = flat_map-append (λ (p : Passing). where_sent p.direction p.byte) xs ys
 
 bytes_heard-append : (xs ys : List Passing) → bytes_heard (xs ++ ys) ≡ bytes_heard xs ++ bytes_heard ys
 bytes_heard-append xs ys = flat_map-append (λ (p : Passing). where_heard p.direction p.byte) xs ys
-
--- ---- byte by byte
-
-pub written_front : (chip : Chip) (bytes : List ℕ) (i : ℕ) (held holds : Option (List ℕ)) (before after : List Passing) → HasWritten chip (take i bytes) held holds before after → HasWrittenFront chip bytes held holds before after
-written_front chip bytes i held holds before after h = record {
-  front = take i bytes;
-  left = drop i bytes;
-  bytes_are = sym (take-append-drop i bytes);
-  went = h;
-}
-
--- ---- one after another
 
 pub carried_none : {I O : Type 0} (contents : O → Option (List ℕ)) (remaining : I → Option (List ℕ)) (stream : SwitchStream I O) (before : List Passing) → StreamCarries contents remaining stream stream before before []
 carried_none contents remaining stream before = record {
@@ -68,23 +40,10 @@ carried_then contents remaining old mid new before now after xs ys p q = record 
   noted = q.noted ∙ ap (λ (ps : List Passing). ps ++ ys) p.noted ∙ append_assoc before xs ys;
 }
 
--- ---- a command and its reply
-
--- what was written is carried
-carried_sent : {I O : Type 0} (contents : O → Option (List ℕ)) (remaining : I → Option (List ℕ)) (chip : Chip) (bytes : List ℕ) (reader : I) (writer wrote : O) (before after : List Passing) → HasWritten chip bytes (contents writer) (contents wrote) before after
-    → StreamCarries {I = I} {O = O} contents remaining (record { reader = reader; writer = writer }) (record { reader = reader; writer = wrote }) before after (sent_to chip bytes)
-carried_sent contents remaining chip bytes reader writer wrote before after h = record {
-  written = rw (sent_of_sent chip bytes) h.written;
-  read = rw (heard_of_sent chip bytes) (consumes_none (remaining reader));
-  noted = h.noted;
-}
-
--- where a command's bytes broke off
-pub front_in_vain : {I O : Type 0} (contents : O → Option (List ℕ)) (remaining : I → Option (List ℕ)) (chip : Chip) (command : Command) (reader : I) (writer wrote : O) (before after : List Passing) → HasWrittenFront chip (row command) (contents writer) (contents wrote) before after
-    → HasAskedInVain {I = I} {O = O} contents remaining chip command (record { reader = reader; writer = writer }) (record { reader = reader; writer = wrote }) before after
-front_in_vain contents remaining chip command reader writer wrote before after h = record {
-  front = h.front;
-  left = h.left;
-  bytes_are = h.bytes_are;
-  carried = carried_sent contents remaining chip h.front reader writer wrote before after h.went;
-}
+-- a byte more was sent
+pub sent_more : {I O : Type 0} (contents : O → Option (List ℕ)) (remaining : I → Option (List ℕ)) (chip : Chip) (bytes : List ℕ) (i : ℕ) (old : SwitchStream I O) (reader : I) (writer wrote : O) (before now after : List Passing) → i < length bytes
+    → StreamCarries contents remaining old (record { reader = reader; writer = writer }) before now (sent_to chip (take i bytes)) → Appends (contents writer) (contents wrote) (get_or bytes i 0 ∷ []) → after ≡ now ++ sent_byte chip (get_or bytes i 0) ∷ []
+    → StreamCarries contents remaining old (record { reader = reader; writer = wrote }) before after (sent_to chip (take (i + 1) bytes))
+sent_more contents remaining chip bytes i old reader writer wrote before now after lt so_far wrote_it noted =
+    rw (take_more bytes i lt, map-append (sent_byte chip) (take i bytes) (get_or bytes i 0 ∷ []))
+    (carried_then contents remaining old _ _ before now after _ _ so_far (record { written = wrote_it; read = consumes_none (remaining reader); noted = noted }))

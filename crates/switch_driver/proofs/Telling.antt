@@ -17,7 +17,7 @@ one_report None (Some j) reply p q = absurd (omega (arith, p, q))
 one_report (Some i) None reply p q = absurd (omega (arith, p, q))
 one_report (Some i) (Some j) reply p q = let same : i ≡ j = omega (arith, p, q) in ap (λ (x : ℕ). Some x) same
 
--- behind the enquiries the end of the sequence makes a switch ready, and no more
+-- after the enquiries the end of the sequence makes a switch ready, and no more
 pub settled : (s : Switch) → after_all (all_enquiries ++ Settle ∷ []) s ≡ after Settle s
 settled s = after_all-append all_enquiries (Settle ∷ []) s ∙ ap (after Settle) (enquiries_leave s)
 

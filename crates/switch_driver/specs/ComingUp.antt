@@ -27,16 +27,16 @@ own_joins = map own_join (range_with_len 0 PORTS)
 abbrev pub own_answer : ℕ → ℕ
 own_answer output = answer_byte (Some output)
 
--- what the outputs behind one answer
-abbrev pub answers_behind : ℕ → List ℕ
-answers_behind output = map own_answer (range_with_len (output + 1) (PORTS - (output + 1)))
+-- what the outputs after one answer
+abbrev pub answers_after : ℕ → List ℕ
+answers_after output = map own_answer (range_with_len (output + 1) (PORTS - (output + 1)))
 
 -- what the outputs up to one answer
 abbrev pub answers_up_to : ℕ → List ℕ
 answers_up_to output = map own_answer (range_with_len 0 (output + 1))
 
--- A switch came up: it was sent this, and a byte was read behind each enquiry. The last of these
--- bytes are what the outputs up to some one answer. Then the answers of those behind it were read.
+-- A switch came up: it was sent this, and a byte was read after each enquiry. The last of these
+-- bytes are what the outputs up to some one answer. Then the answers of those after it were read.
 pub record CameUp (chip : Chip) (before after : List Passing) : Type 0 where
   pub first : List ℕ
   pub all : length first ≡ PORTS
@@ -47,4 +47,4 @@ pub record CameUp (chip : Chip) (before after : List Passing) : Type 0 where
       after
       ≡ before
       ++ (conversed chip (ending ++ own_joins) []
-      ++ (conversed chip all_enquiries first ++ heard_from chip (answers_behind output)))
+      ++ (conversed chip all_enquiries first ++ heard_from chip (answers_after output)))

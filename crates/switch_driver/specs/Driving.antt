@@ -16,19 +16,19 @@ use Rattle.switch_driver.specs.Steps.{HasStopped, Stands}
 use Rattle.switch_driver.specs.declared.driving.Driven.{Driven}
 use Rattle.switch_driver.specs.declared.driving.Driven.TheVariants.{Completed, Stopped, Halted}
 use Rattle.switch_settings.specs.declared.fault.SettingFault.{SettingFault}
-use Rattle.switch_driver.specs.declared.stage.Halt.{Halt}
+use Rattle.switch_driver.specs.declared.drive_observer.Halt.{Halt}
 
--- the pairs that stand behind so many settings from the first one on: behind none no pairs are
+-- the pairs that stand after so many settings from the first one on: after none no pairs are
 -- known to
-abbrev pub standing_behind : List Transfer → List (List ℕ) → ℕ → ℕ → Option (List Pair)
-standing_behind batch settings first zero = None
-standing_behind batch settings first (suc n) = Some (pairs_at batch settings (first + n))
+abbrev pub standing_after : List Transfer → List (List ℕ) → ℕ → ℕ → Option (List Pair)
+standing_after batch settings first zero = None
+standing_after batch settings first (suc n) = Some (pairs_at batch settings (first + n))
 
--- behind so many settings the next one stood, or stands, on the switches of the rack
+-- after so many settings the next one stood, or stands, on the switches of the rack
 abbrev pub Stood : RackWiring → List Transfer → List (List ℕ) → ℕ → ℕ → Option (List Passing)
     → Option (List Passing) → Type 0
 Stood rack batch settings first n old new =
-    Stands rack (standing_behind batch settings first n) (pairs_at batch settings (first + n)) old
+    Stands rack (standing_after batch settings first n) (pairs_at batch settings (first + n)) old
     new
 
 -- So many settings stood from the first one on, one after another. Each was told once it stood, and
@@ -72,7 +72,7 @@ pub record StopsDriving {S : Type 0} (hears : Hearing S)
   pub mid : Option (List Passing)
   pub before : HaveStood hears rack batch settings first count old told mid tells
   pub vain :
-      HasStopped rack fault (standing_behind batch settings first count)
+      HasStopped rack fault (standing_after batch settings first count)
       (pairs_at batch settings k) mid new
 
 -- what passed and what was told, from the first setting that is driven to this end

@@ -6,19 +6,19 @@ use Rattle.std.specs.List.{flat_map}
 use Rattle.std.specs.Io.KnownBytes.{Appends, Consumes, IsAtEnd}
 use Rattle.byte_streams.specs.Writing.{IsCutShort}
 use Rattle.switch_driver.specs.declared.lines.Lines.{Lines}
-use Rattle.switch_driver.specs.declared.stage.Halt.{Halt}
-use Rattle.switch_driver.specs.declared.stage.Halt.TheVariants.{Left, Unheard, Untold}
+use Rattle.switch_driver.specs.declared.drive_observer.Halt.{Halt}
+use Rattle.switch_driver.specs.declared.drive_observer.Halt.TheVariants.{Left, Unheard, Untold}
 
--- a transfer's number behind a space
+-- a transfer's number after a space
 abbrev pub number_word : ℕ → List ℕ
 number_word t = codes " " ++ decimal t
 
--- `setting K`, and behind it the numbers of its transfers
+-- `setting K`, and after it the numbers of its transfers
 abbrev pub stage_line : ℕ → List ℕ → List ℕ
 stage_line setting numbers =
     codes "setting " ++ decimal setting ++ flat_map number_word numbers ++ codes "\n"
 
--- Bytes were read: where it went well, one line with its line feed, and nothing behind it; else all
+-- Bytes were read: where it went well, one line with its line feed, and nothing after it; else all
 -- that was left, in which no line ends.
 pub record HasWaited (input_before input_after : Option (List ℕ)) (well : Bool) : Type 0 where
   pub came : List ℕ
@@ -67,7 +67,7 @@ pub record Dialogue : Type 0 where
   pub told : List ℕ
   pub left : Option (List ℕ)
 
--- What becomes of that where the line of a setting is told: it stands behind the others, and where
+-- What becomes of that where the line of a setting is told: it stands after the others, and where
 -- one is waited for, a line was read, or the input ended, or couldn't be read; or, where it couldn't
 -- be told, a front of it stands there, and nothing was read.
 abbrev pub TellsLine : Bool → Dialogue → ℕ → List ℕ → Result (Unit {0}) Halt → Dialogue → Type 0

@@ -1,5 +1,5 @@
 -- What passes over the configuration links where a setting is put on the switches of a rack by
--- `drive`. That the end of the sequence is sent once more behind the replies is this project's
+-- `drive`. That the end of the sequence is sent once more after the replies is this project's
 -- choice.
 use Rattle.std.specs.Prelude.{◌≡◌, ◌++◌, ◌∷◌, [], List, nat_lt, Option, Some}
 use Rattle.crossbar.specs.declared.chip.Chip.{Chip}

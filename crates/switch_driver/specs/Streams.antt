@@ -30,7 +30,7 @@ bytes_sent passed = flat_map (λ p. where_sent p.direction p.byte) passed
 abbrev pub bytes_heard : List Passing → List ℕ
 bytes_heard passed = flat_map (λ p. where_heard p.direction p.byte) passed
 
--- This passed over a stream, and was noted in the traffic: what was sent was written behind what
+-- This passed over a stream, and was noted in the traffic: what was sent was written after what
 -- its writer held, and what was heard was read of what its reader had.
 pub record StreamCarries {I O : Type 0} (contents : O → Option (List ℕ))
     (remaining : I → Option (List ℕ)) (old new : SwitchStream I O) (before after : List Passing)
@@ -46,26 +46,6 @@ HasPassed contents remaining old new before after =
     (more : List Passing) × StreamCarries contents remaining old new before after more
 
 -- ---- a command
-
--- these bytes were written to the writer of a chip, and noted
-pub record HasWritten (chip : Chip) (bytes : List ℕ) (out_before out_after : Option (List ℕ))
-    (before after : List Passing) : Type 0 where
-  pub written : Appends out_before out_after bytes
-  pub noted : after ≡ before ++ sent_to chip bytes
-
--- these were read from its reader, and noted
-pub record HasHeard (chip : Chip) (bytes : List ℕ) (input_before input_after : Option (List ℕ))
-    (before after : List Passing) : Type 0 where
-  pub read : Consumes input_before input_after bytes
-  pub noted : after ≡ before ++ heard_from chip bytes
-
--- a front of the bytes was written
-pub record HasWrittenFront (chip : Chip) (bytes : List ℕ) (out_before out_after : Option (List ℕ))
-    (before after : List Passing) : Type 0 where
-  pub front : List ℕ
-  pub left : List ℕ
-  pub bytes_are : bytes ≡ front ++ left
-  pub went : HasWritten chip front out_before out_after before after
 
 -- a command was sent over a stream, and the reply was heard if it is an enquiry
 pub record HasAsked {I O : Type 0} (contents : O → Option (List ℕ))

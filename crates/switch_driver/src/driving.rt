@@ -7,8 +7,8 @@ ghost use Rattle.switch_settings.specs.RackWirings.{wired_in};
 ghost use Rattle.switch_settings.specs.Racks.{HasModulesOf};
 ghost use Rattle.switch_driver.specs.Driving.{IsDriven, HasDriveCause};
 
+use crate::drive_observer::{DriveObserver, Halt};
 use crate::setting::set_rack;
-use crate::stage::{Halt, Stage};
 use batch::Batch;
 use crossbar::ConfigPort;
 use link_graph::Schedule;
@@ -32,7 +32,7 @@ pub enum Driven {
 ///
 /// The modules that the batch names have to be wired, at most 32, and the port has to tell what
 /// passes. The switches are left as they stand.
-pub fn drive<P: ConfigPort, S: Stage>(
+pub fn drive<P: ConfigPort, S: DriveObserver>(
     port: &mut P,
     rack: RackWiring,
     batch: &Batch,

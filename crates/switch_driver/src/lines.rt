@@ -4,7 +4,7 @@ ghost use Rattle.std.specs.Prelude.{◌≡◌, ◌≤◌, length, IfOk, OnErr};
 ghost use Rattle.batch.specs.declared.limits.TheConstants.{MAX_MODULES};
 ghost use Rattle.switch_driver.specs.Lines.{stage_line, HasWaited, HasWaitedInVain};
 
-use crate::stage::{Halt, Stage};
+use crate::drive_observer::{DriveObserver, Halt};
 use byte_streams::{read_byte, write_bytes};
 use line_words::Line;
 use std::io;
@@ -21,7 +21,7 @@ pub struct Lines<'a, I, O> {
 }
 
 impl<'a, I, O> Lines<'a, I, O> {
-    /// Settings are told on `out`, and a line of `input` is waited for behind each, if it `waits`.
+    /// Settings are told on `out`, and a line of `input` is waited for after each, if it `waits`.
     pub fn new(input: &'a mut I, out: &'a mut O, waits: bool) -> Lines<'a, I, O>
         ensures input { (result.input.ghost_name ≡ input.entry.ghost_name)
             × (result.input.now ≡ input.old) }
@@ -70,7 +70,7 @@ fn line_of(setting: usize, numbers: &[usize]) -> Line
     line
 }
 
-/// Reads a line, and nothing behind it. Says whether one came: none where the input ends before a
+/// Reads a line, and nothing after it. Says whether one came: none where the input ends before a
 /// line feed.
 fn wait_line<I: Read>(reader: &mut I) -> io::Result<bool>
     ensures waited { IfOk result
@@ -89,7 +89,7 @@ fn wait_line<I: Read>(reader: &mut I) -> io::Result<bool>
     Err(io::Error::from(ErrorKind::TimedOut))
 }
 
-impl<I: Read, O: Write> Stage for Lines<'_, I, O> {
+impl<I: Read, O: Write> DriveObserver for Lines<'_, I, O> {
     ghost use Rattle.switch_driver.specs.Lines.{HasToldLine};
 
     ghost hears = { λ old setting numbers said new.

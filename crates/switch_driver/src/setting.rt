@@ -4,7 +4,7 @@ ghost use Rattle.std.specs.Prelude.{◌≡◌, ◌≢◌, ◌≤◌, ◌<◌, �
 ghost use Rattle.std.specs.Option.{option_to_list};
 ghost use Rattle.std.specs.FinMap as map;
 ghost use Rattle.c004_commands.specs.Answers.{answer_byte};
-ghost use Rattle.c004_commands.specs.declared.command.Command.TheVariants.{Enquire, Settle};
+ghost use Rattle.c004_commands.specs.declared.command.Command.TheVariants.{Enquire};
 ghost use Rattle.crossbar.specs.Chips.{put_switch, switch_at};
 ghost use Rattle.crossbar.specs.Pairs.{ArePairs, room_of, switch_of};
 ghost use Rattle.crossbar.specs.Switch.{after, answer, enquiries};
@@ -93,7 +93,7 @@ fn set_one<P: ConfigPort>(
 {
     turn(port, Chip::A, wiring, standing, pairs)?;
     ask_all(port, Chip::A, wiring, pairs)?;
-    settle(port, Chip::A)?;
+    send(port, Chip::A, Command::Settle, &mut [])?;
     Ok(())
 }
 
@@ -122,8 +122,8 @@ fn set_both<P: ConfigPort>(
     turn(port, Chip::B, Wiring::Back, standing, pairs)?;
     ask_all(port, Chip::A, Wiring::Forth, pairs)?;
     ask_all(port, Chip::B, Wiring::Back, pairs)?;
-    settle(port, Chip::A)?;
-    settle(port, Chip::B)?;
+    send(port, Chip::A, Command::Settle, &mut [])?;
+    send(port, Chip::B, Command::Settle, &mut [])?;
     Ok(())
 }
 
@@ -178,22 +178,6 @@ fn enquire<P: ConfigPort>(port: &mut P, chip: Chip, output: PortNo) -> Result<u8
     let mut replies = [0];
     send(port, chip, Command::Enquire { output }, &mut replies)?;
     Ok(replies[0])
-}
-
-/// Sends a switch the end of the sequence.
-fn settle<P: ConfigPort>(port: &mut P, chip: Chip) -> Result<(), PortFault>
-    ensures set { OnOk result (IsTrue (P.honest port.old) → P.switches port.new
-        ≡ put_switch chip (after Settle (switch_at chip (P.switches port.old)))
-        (P.switches port.old)) }
-    ensures fault { OnErr result (P.failures port.old < P.failures port.new) }
-    ensures unfailed { OnOk result (P.failures port.new ≡ P.failures port.old) }
-    ensures honesty { P.honest port.new ≡ P.honest port.old }
-    ensures passed { OnOk result (Passes (P.passed port.old) (P.passed port.new)
-        (conversed chip (Settle ∷ []) [])) }
-    ensures broken { OnErr result
-        (PassesFront chip (Settle ∷ []) (P.passed port.old) (P.passed port.new)) }
-{
-    send(port, chip, Command::Settle, &mut [])
 }
 
 /// Sends a switch a command, and fills in the reply to an enquiry.

@@ -5,8 +5,8 @@ ghost use Rattle.std.specs.Io.KnownBytes.{Keeps};
 ghost use Rattle.std.specs.Option.{option_to_list};
 ghost use Rattle.c004_commands.specs.Commands.{row};
 ghost use Rattle.crossbar.specs.Port.{IsConversation};
-ghost use Rattle.crossbar.specs.Traffic.{HaveConversed, BreaksOff};
-ghost use Rattle.switch_driver.specs.Streams.{HasPassed, HasWritten, HasWrittenFront, HasHeard, HasAsked, HasAskedInVain};
+ghost use Rattle.crossbar.specs.Traffic.{HaveConversed, BreaksOff, heard_from, sent_to};
+ghost use Rattle.switch_driver.specs.Streams.{HasPassed, HasAsked, HasAskedInVain, StreamCarries};
 
 use byte_streams::{read_byte, write_byte};
 use c004_commands::{Command, CommandReader, LONGEST_COMMAND, write};
@@ -55,20 +55,23 @@ impl StreamFault {
     }
 }
 
-/// Writes the bytes one by one, and notes each. Where that fails, a front of them has gone.
-fn send_bytes<O: Write>(
+/// Writes the bytes of a command one by one, and notes each. Where that fails, a front of them has
+/// gone.
+fn send<I: Read, O: Write>(
     chip: Chip,
-    bytes: &[u8],
-    writer: &mut O,
+    command: Command,
+    stream: &mut SwitchStream<I, O>,
     traffic: &mut Traffic,
 ) -> Result<(), StreamFault>
-    ensures went { OnOk result (HasWritten chip bytes.now (O.contents writer.old)
-        (O.contents writer.new) traffic.old traffic.new) }
-    ensures cut { OnErr result (HasWrittenFront chip bytes.now (O.contents writer.old)
-        (O.contents writer.new) traffic.old traffic.new) }
+    ensures went { OnOk result (StreamCarries O.contents I.remaining stream.old stream.new
+        traffic.old traffic.new (sent_to chip (row command))) }
+    ensures cut { OnErr result (HasAskedInVain O.contents I.remaining chip command
+        stream.old stream.new traffic.old traffic.new) }
 {
-    for byte in bytes {
-        if let Err(why) = write_byte(writer, *byte) {
+    let mut bytes = [0; LONGEST_COMMAND];
+    let number = write(command, &mut bytes);
+    for byte in &bytes[..number] {
+        if let Err(why) = write_byte(&mut stream.writer, *byte) {
             return Err(StreamFault::to(chip, why));
         }
         traffic.add(Passing {
@@ -78,23 +81,6 @@ fn send_bytes<O: Write>(
         });
     }
     Ok(())
-}
-
-/// Writes the bytes of a command, and notes each. Where that fails, a front of them has gone.
-fn send<O: Write>(
-    chip: Chip,
-    command: Command,
-    writer: &mut O,
-    traffic: &mut Traffic,
-) -> Result<(), StreamFault>
-    ensures went { OnOk result (HasWritten chip (row command) (O.contents writer.old)
-        (O.contents writer.new) traffic.old traffic.new) }
-    ensures cut { OnErr result (HasWrittenFront chip (row command) (O.contents writer.old)
-        (O.contents writer.new) traffic.old traffic.new) }
-{
-    let mut bytes = [0; LONGEST_COMMAND];
-    let number = write(command, &mut bytes);
-    send_bytes(chip, &bytes[..number], writer, traffic)
 }
 
 /// Hands on what was written.
@@ -108,17 +94,17 @@ fn flush<O: Write>(chip: Chip, writer: &mut O) -> Result<(), StreamFault>
 }
 
 /// Reads a reply, and notes it. Where none comes, that is the error.
-pub(crate) fn hear<I: Read>(
+pub(crate) fn hear<I: Read, O: Write>(
     chip: Chip,
-    reader: &mut I,
+    stream: &mut SwitchStream<I, O>,
     traffic: &mut Traffic,
 ) -> Result<u8, StreamFault>
-    ensures heard { IfOk result (λ reply. HasHeard chip (reply ∷ []) (I.remaining reader.old)
-        (I.remaining reader.new) traffic.old traffic.new) }
-    ensures silent { OnErr result (HasHeard chip [] (I.remaining reader.old)
-        (I.remaining reader.new) traffic.old traffic.new) }
+    ensures heard { IfOk result (λ reply. StreamCarries O.contents I.remaining
+        stream.old stream.new traffic.old traffic.new (heard_from chip (reply ∷ []))) }
+    ensures silent { OnErr result (StreamCarries O.contents I.remaining
+        stream.old stream.new traffic.old traffic.new []) }
 {
-    match read_byte(reader) {
+    match read_byte(&mut stream.reader) {
         Ok(Some(byte)) => {
             traffic.add(Passing {
                 chip,
@@ -147,11 +133,11 @@ fn ask<I: Read, O: Write>(
     ensures vain { OnErr result (HasAskedInVain O.contents I.remaining chip command
         stream.old stream.new traffic.old traffic.new) }
 {
-    send(chip, command, &mut stream.writer, traffic)?;
+    send(chip, command, stream, traffic)?;
     match command {
         Command::Enquire { .. } => {
             flush(chip, &mut stream.writer)?;
-            Ok(Some(hear(chip, &mut stream.reader, traffic)?))
+            Ok(Some(hear(chip, stream, traffic)?))
         }
         _ => Ok(None),
     }

@@ -45,7 +45,7 @@ some_first : (b : Bool) (x : ℕ) (f g h : Option ℕ) → f ≡ option_or g h �
 some_first true x f g h e = refl
 some_first false x f g h e = e
 
--- what is found among entries and others behind them
+-- what is found among entries and others after them
 found_append : (o : ℕ) (es fs : List (ℕ × ℕ)) → find nat_cmp o (es ++ fs) ≡ option_or (find nat_cmp o es) (find nat_cmp o fs)
 found_append o [] fs = refl
 found_append o (e ∷ es) fs = some_first _ e.1 _ _ _ (found_append o es fs)

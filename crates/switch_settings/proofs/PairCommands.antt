@@ -139,11 +139,11 @@ cut_rows_board : (w : BoardWiring) (ps : List Pair) → length (text (map (cut (
 cut_rows_board w [] = refl
 cut_rows_board w (p ∷ ps) = omega (arith, cut_rows_board w ps)
 
--- the joins of a setting, and a byte before and behind them
+-- the joins of a setting, and a byte before and after them
 pub joins_fit : (w : Wiring) (ps : List Pair) → ArePairs (room_of w) ps → length (text (map (join w) (without [] ps))) + 2 ≤ longest_setting w
 joins_fit w ps a = omega (arith, join_rows w (without [] ps), few_kept [] ps, pairs_few (room_of w) ps a)
 
--- the cuts and the joins of a change, and a byte behind them
+-- the cuts and the joins of a change, and a byte after them
 pub change_fits : (w : Wiring) (old new : List Pair) → ArePairs (room_of w) old → ArePairs (room_of w) new
     → length (text (map (cut w) (without new old))) + length (text (map (join w) (without old new))) + 1 ≤ longest_change w
 change_fits Both old new a b = omega (arith, cut_rows_both (without new old), few_kept new old, pairs_few JOINED_MODULES old a, join_rows Both (without old new), few_kept old new, pairs_few JOINED_MODULES new b)

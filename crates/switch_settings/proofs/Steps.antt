@@ -53,6 +53,6 @@ steps_sent standing pairs [] old new same = none_passed old new same
 steps_sent standing pairs (step ∷ steps) old new (mid, done, rest) =
     bytes_then (λ chip. step_bytes chip standing pairs step) (λ chip. steps_bytes chip standing pairs steps) old mid new (step_sent standing pairs step old mid done) (λ now e. steps_sent standing pairs steps now new (rw e at rest))
 
--- the texts of commands one behind another
+-- the texts of commands one after another
 pub two_texts : (c d : List Command) → text c ++ (text d ++ []) ≡ text (c ++ d)
 two_texts c d = ap (λ (xs : List ℕ). text c ++ xs) (append-nil (text d)) ∙ sym (flat_map-append row c d)

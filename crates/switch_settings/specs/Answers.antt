@@ -63,7 +63,7 @@ pub record IsFirstDisagreement (switch : Switch) (replies : List ℕ) (output : 
   pub differs : Agrees switch output (slice_index replies output) → ⊥
   pub agree : (before : ℕ) → before < output → Agrees switch before (slice_index replies before)
 
--- the number that a fault gives to the first output of a switch: those of the second stand behind
+-- the number that a fault gives to the first output of a switch: those of the second stand after
 -- those of the first
 abbrev pub first_output : Chip → ℕ
 first_output A = 0

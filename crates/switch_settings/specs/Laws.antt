@@ -14,7 +14,7 @@ use Rattle.switch_settings.specs.Racks.{HasModulesOf}
 use Rattle.switch_settings.specs.Sending.{sent_for_first}
 use Rattle.switch_settings.specs.Settings.{numbers_in, setting_pairs}
 
--- Behind what is sent up to a setting of a schedule, a switch to which all of a rack's modules can
+-- After what is sent up to a setting of a schedule, a switch to which all of a rack's modules can
 -- be wired joins just what the setting's transfers want joined, whatever it was before.
 abbrev pub SettingsTurn : Type 0
 SettingsTurn =
@@ -24,7 +24,7 @@ SettingsTurn =
     → after_all (sent_for_first wiring batch settings (k + 1)) switch
     ≡ switch_of wiring (setting_pairs batch (numbers_in settings k))
 
--- Of what a board's switch is sent for a schedule, no command behind the first resets it, or names
+-- Of what a board's switch is sent for a schedule, no command after the first resets it, or names
 -- a link that no module is on.
 abbrev pub OthersAreLeft : Type 0
 OthersAreLeft =

@@ -23,7 +23,7 @@ HaveAllReplied modules batch settings (suc k) old new =
     (mid : Option (List Passing)) × HaveAllReplied modules batch settings k old mid
     × HaveReplied modules (standing_before batch settings k) (pairs_at batch settings k) mid new
 
--- what a switch is sent for a setting, and behind it the enquiries of all outputs
+-- what a switch is sent for a setting, and after it the enquiries of all outputs
 abbrev pub sent_and_asked : Wiring → List Transfer → List (List ℕ) → ℕ → List Command
 sent_and_asked wiring batch settings k = sent_for wiring batch settings k ++ all_enquiries
 

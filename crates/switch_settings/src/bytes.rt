@@ -29,7 +29,7 @@ enum Way {
 /// they are: a reset, the joins of the pairs in their order, and the end of the sequence (INMOS IMS
 /// C004 data sheet, configuration messages). Where one switch joins both ways that is `04`, a row
 /// `01 I 16+R` a pair, `03`; on the way forth a row is `00 I R`, on the way back `00 R I`. What
-/// stands in `out` behind them isn't said.
+/// stands in `out` after them isn't said.
 ///
 /// The initiators have to ascend, the responders to be distinct, and all to be below the number of
 /// modules that can be wired so. Takes time by the number of pairs.
@@ -50,7 +50,7 @@ pub fn put_setting(wiring: Wiring, pairs: &[Pair], out: &mut [u8]) -> usize
 /// Puts the bytes that set a switch of this wiring from the old pairs to the new ones, and says how
 /// many they are: the cuts of the pairs that go, the joins of those that come, each in their order,
 /// and the end of the sequence. A row `06 I 16+R` is a cut both ways, `05 R` one on the way forth,
-/// `05 I` one on the way back. What stands in `out` behind them isn't said. The time grows with the
+/// `05 I` one on the way back. What stands in `out` after them isn't said. The time grows with the
 /// product of the numbers of pairs.
 pub fn put_change(wiring: Wiring, old: &[Pair], new: &[Pair], out: &mut [u8]) -> usize
     requires old { ArePairs (room_of wiring) old.now }
@@ -81,7 +81,7 @@ pub fn enquiry_bytes() -> [u8; ENQUIRY_BYTES]
     bytes
 }
 
-/// Puts the commands of those pairs that aren't among others behind the bytes that stand, and says
+/// Puts the commands of those pairs that aren't among others after the bytes that stand, and says
 /// how many stand then.
 fn put_pairs(
     out: &mut [u8],
@@ -177,7 +177,7 @@ pub fn port_of(number: u8) -> PortNo
     port
 }
 
-/// Puts the bytes of a command behind those that stand, and says how many stand then.
+/// Puts the bytes of a command after those that stand, and says how many stand then.
 fn put(out: &mut [u8], stand: usize, command: Command) -> usize
     requires { stand + length (row command) ≤ length out.old }
     ensures bytes { take result out.new ≡ take stand out.old ++ row command }

@@ -30,7 +30,7 @@ pub struct Disagreement {
 }
 
 impl Disagreement {
-    /// The output's number in a rack, 0 to 63: those of the second switch stand behind those of the
+    /// The output's number in a rack, 0 to 63: those of the second switch stand after those of the
     /// first.
     pub fn number(&self) -> u8
         ensures { result ≡ number_of self.now }

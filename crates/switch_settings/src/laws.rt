@@ -9,7 +9,7 @@ pub fn settings_turn()
     ensures { SettingsTurn }
 {}
 
-/// Of what a board's switch is sent for a schedule, no command behind the first resets it, or names
+/// Of what a board's switch is sent for a schedule, no command after the first resets it, or names
 /// a link that no module is on. So what stands on such an output then stays, as `others` of
 /// [`crossbar::laws`] says. Which commands these are is this project's choice.
 pub fn others_are_left()

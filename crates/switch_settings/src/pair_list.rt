@@ -87,7 +87,7 @@ impl PairList {
         self.pairs.as_slice()
     }
 
-    /// Puts the pair of an initiator behind the others, if it has a responder.
+    /// Puts the pair of an initiator after the others, if it has a responder.
     fn put(&mut self, initiator: usize, responder: Option<u8>)
         requires room { length self.old < MAX_MODULES }
         requires initiator { initiator < MAX_MODULES }

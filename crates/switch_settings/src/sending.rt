@@ -17,7 +17,7 @@ use crossbar::{Chip, ConfigPort, Pair, PortFault, Wiring};
 
 /// Writes the bytes that [`turn`] sends to a switch of this wiring to set it to the pairs, and
 /// gives their number: the change from the pairs that stand if they are known ([`put_change`]),
-/// else the setting of any switch ([`put_setting`]). What stands in `out` behind them isn't said.
+/// else the setting of any switch ([`put_setting`]). What stands in `out` after them isn't said.
 ///
 /// Of both, the initiators have to ascend, the responders to be distinct, and all to be below the
 /// number of modules that can be wired so; `out` has to have room for the longest setting and the

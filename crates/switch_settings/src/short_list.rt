@@ -79,7 +79,7 @@ impl<T: Blank> ShortList<T> {
         &self.entries[..self.count]
     }
 
-    /// Puts an entry behind the others.
+    /// Puts an entry after the others.
     pub fn push(&mut self, entry: T)
         requires { length self.old < MAX_MODULES }
         ensures { self.new ≡ self.old ++ entry ∷ [] }

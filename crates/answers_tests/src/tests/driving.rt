@@ -4,7 +4,7 @@
 
 ghost use Rattle.std.specs.Prelude.{⊤};
 
-use drive_answers::{DriveEnd, DriveFault, PortFailure, PortNames, PortWays, Ports, answer_drive};
+use drive_answers::{DriveEnd, DriveFault, PortFailure, PortNames, PortTrace, Ports, answer_drive};
 use exchange_limits::WorkerCount;
 use plan_answers::{DONE, REFUSED, Source};
 use refusals::{PortName, Refusal};
@@ -13,7 +13,7 @@ use std::io;
 use std::io::{Read, Write};
 use std::sync::atomic::{AtomicBool, AtomicUsize, Ordering};
 use std::thread::Threads;
-use switch_driver::{Halt, Stage, StreamPort, SwitchStream};
+use switch_driver::{DriveObserver, Halt, StreamPort, SwitchStream};
 
 /// Module 0 sends a block to each of three others.
 const BATCH: &[u8] = b"batch 3\npush 0 0 1 0\npush 0 0 2 0\npush 0 0 3 0\n";
@@ -32,7 +32,7 @@ const OUTPUTS: u8 = 32;
 const WAKING: usize = 195;
 
 /// How many steps the first setting has: five bytes, three for each enquiry with its reply, the
-/// byte behind them, and that it is told.
+/// byte after them, and that it is told.
 const FIRST: usize = 103;
 
 /// What a rack is told by, and what its switch is sent and replies.
@@ -109,8 +109,8 @@ fn reply_of(rack: &Rack<'_>, output: u8, joined: (u8, u8)) -> u8 {
     }
 }
 
-/// Puts behind the other steps what happens as the switch comes up, where these answers stand in
-/// its line. Behind each enquiry a byte is read, and in the end those that are still to come.
+/// Puts after the other steps what happens as the switch comes up, where these answers stand in
+/// its line. After each enquiry a byte is read, and in the end those that are still to come.
 fn push_waking(steps: &mut Vec<Step>, old: &[u8]) -> Result<(), AllocError> {
     for byte in [3, 3, 4] {
         steps.push(Step::Sent(byte))?;
@@ -134,7 +134,7 @@ fn push_waking(steps: &mut Vec<Step>, old: &[u8]) -> Result<(), AllocError> {
     Ok(())
 }
 
-/// Puts what happens in a setting behind the other steps.
+/// Puts what happens in a setting after the other steps.
 fn push_setting(
     steps: &mut Vec<Step>,
     rack: &Rack<'_>,
@@ -159,7 +159,7 @@ fn push_setting(
     Ok(())
 }
 
-/// Puts bytes that are sent behind the other steps.
+/// Puts bytes that are sent after the other steps.
 fn push_bytes(steps: &mut Vec<Step>, bytes: &[u8]) -> Result<(), AllocError> {
     for byte in bytes {
         steps.push(Step::Sent(*byte))?;
@@ -236,7 +236,7 @@ impl Read for FromSwitch<'_> {
     fn read(&mut self, buf: &mut [u8]) -> io::Result<usize> {
         let (Some(Step::Heard(reply)), Some(first)) = (self.desk.next(), buf.first_mut()) else {
             self.desk.make(Step::Heard(0));
-            // The stream ends behind an even number of steps, and fails behind an odd one.
+            // The stream ends after an even number of steps, and fails after an odd one.
             return match self.desk.script.len() % 2 {
                 0 => Ok(0),
                 _ => Err(io::ErrorKind::BrokenPipe.into()),
@@ -282,7 +282,7 @@ impl Write for ToSwitch<'_> {
 struct DeskPorts<'a> {
     desk: &'a Desk<'a>,
     is_refused: bool,
-    ways: PortWays,
+    ways: PortTrace,
 }
 
 impl<'a> Ports for DeskPorts<'a> {
@@ -316,14 +316,14 @@ impl<'a> Ports for DeskPorts<'a> {
     }
 }
 
-/// The stage at the desk: behind a setting it says this.
+/// The stage at the desk: after a setting it says this.
 #[derive(Clone, Copy, Drop)]
 struct DeskStage<'a> {
     desk: &'a Desk<'a>,
     says: [Result<(), Halt>; 3],
 }
 
-impl Stage for DeskStage<'_> {
+impl DriveObserver for DeskStage<'_> {
     ghost use Rattle.std.specs.Prelude.{⊤};
 
     ghost hears = { λ _ _ _ _ _. ⊤ };
@@ -348,7 +348,7 @@ fn answer_from<R: AllocGlobal + Threads + Sync>(
     let mut ports = DeskPorts {
         desk,
         is_refused,
-        ways: PortWays::none(),
+        ways: PortTrace::none(),
     };
     let names = PortNames {
         port: "desk",
@@ -395,7 +395,7 @@ fn told_in(steps: &[Step]) -> usize {
         .count()
 }
 
-/// Whether a drive stops where the script ends, behind so many steps: at the port, or at the stage
+/// Whether a drive stops where the script ends, after so many steps: at the port, or at the stage
 /// where a setting would be told next.
 fn stops_behind<R: AllocGlobal + Threads + Sync>(
     rt: &R,
@@ -421,7 +421,7 @@ fn is_caught<R: AllocGlobal + Threads + Sync>(
 ) -> Result<bool, AllocError> {
     let alloc = rt.alloc();
     let steps = steps_of(alloc, rack, Some((output, 0x93)))?;
-    // Behind the second setting's seven bytes, and the enquiries up to this one, with their replies.
+    // After the second setting's seven bytes, and the enquiries up to this one, with their replies.
     let count = WAKING + FIRST + 7 + 3 * (output as usize + 1);
     let front = steps.as_slice().get(..count).unwrap_or(&[]);
     let line = format!(in alloc; "stopped setting 1 switch {output}\n")?;
@@ -445,7 +445,7 @@ fn in_turn(rt: HostRuntime) {
     }
 }
 
-/// The stream ends or fails behind each step in turn, and is tried there once.
+/// The stream ends or fails after each step in turn, and is tried there once.
 #[test]
 fn cut_off(rt: HostRuntime) {
     let steps = steps_of(rt.alloc(), &USUAL, None).expect(&rt, "memory");
@@ -512,18 +512,18 @@ fn refused(rt: HostRuntime) {
 const OLD: [u8; 32] = [0x85; 32];
 
 /// What happens where so many of the old answers stand in the line, and nothing is to be set.
-fn woken_behind(alloc: Global, count: usize) -> Result<Vec<Step>, AllocError> {
+fn woken_after(alloc: Global, count: usize) -> Result<Vec<Step>, AllocError> {
     let mut steps = Vec::new(alloc);
     push_waking(&mut steps, OLD.get(..count).unwrap_or(&[]))?;
     Ok(steps)
 }
 
-/// Whether a drive goes on with its first setting's bytes behind so many old answers.
-fn comes_up_behind<R: AllocGlobal + Threads + Sync>(
+/// Whether a drive goes on with its first setting's bytes after so many old answers.
+fn comes_up_after<R: AllocGlobal + Threads + Sync>(
     rt: &R,
     count: usize,
 ) -> Result<bool, AllocError> {
-    let mut steps = woken_behind(rt.alloc(), count)?;
+    let mut steps = woken_after(rt.alloc(), count)?;
     push_bytes(&mut steps, &[0x04, 0x01])?;
     let line = b"stopped setting 0 port\n";
     Ok(goes_so(rt, steps.as_slice(), 0, ON, None, line, REFUSED))
@@ -533,13 +533,13 @@ fn comes_up_behind<R: AllocGlobal + Threads + Sync>(
 #[test]
 fn comes_up(rt: HostRuntime) {
     for count in 0..32 {
-        assert!(rt; comes_up_behind(&rt, count) == Ok(true), "{count}");
+        assert!(rt; comes_up_after(&rt, count) == Ok(true), "{count}");
     }
 }
 
-/// What happens where the last byte that is read behind an enquiry is 05: an echo would say so.
+/// What happens where the last byte that is read after an enquiry is 05: an echo would say so.
 fn strange_steps(alloc: Global) -> Result<Vec<Step>, AllocError> {
-    let mut steps = woken_behind(alloc, 32)?;
+    let mut steps = woken_after(alloc, 32)?;
     steps.truncate(WAKING - 1);
     steps.push(Step::Heard(0x05))?;
     Ok(steps)

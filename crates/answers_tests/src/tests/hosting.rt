@@ -7,13 +7,13 @@ ghost use Rattle.session_answers.specs.HostAnswers.{seen_end, AreHosted};
 ghost use Rattle.answers_tests.specs.Known.{known_clients};
 
 use crate::tests::books::{FailsOnce, is_left, small_book};
-use batch_book::{Book, History};
+use batch_book::{Book, EntryLog, History};
 use book_record::stream_on;
 use client_session::ServeFault;
 use exchange_limits::WorkerCount;
 use plan_answers::Answer;
 use refusals::Refusal;
-use session_answers::{AllThere, ClientStreams, Closing, Ending, Hosted, host_on};
+use session_answers::{ClientStreams, Closing, Ending, Hosted, ThreadsStarted, host_on};
 use std::alloc::Global;
 use std::io;
 use std::io::ErrorKind;
@@ -51,7 +51,7 @@ impl<'a> ClientStreams for KnownStreams<'a> {
         "client"
     }
 
-    fn open(&self, _there: AllThere, client: usize) -> io::Result<(&'a [u8], Vec<u8>)> {
+    fn open(&self, _there: ThreadsStarted, client: usize) -> io::Result<(&'a [u8], Vec<u8>)> {
         match self.said.get(client) {
             Some(said) => Ok((*said, Vec::new(self.alloc))),
             None => Err(io::Error::from(ErrorKind::NotFound)),
@@ -167,7 +167,7 @@ const SAID: [&[u8]; 3] = [b"peek 0 80000800\npeek 0 80000800\nbye\n"; 3];
 
 const HEARD: &str = "word 00000000\nword 00000000\nbye\n";
 
-/// How the sessions of clients who say this end over a record one writing of which fails behind so
+/// How the sessions of clients who say this end over a record one writing of which fails after so
 /// many, the answer, and whether the record is whole then.
 fn host_recorded<R: Clock + Threads + Wait + Sync>(
     rt: &R,
@@ -238,7 +238,7 @@ fn what_a_writing_had_is_told_whole(rt: HostRuntime) {
 /// What many clients say, a line each.
 const LINES: [&[u8]; 16] = [b"peek 0 80000800\n"; 16];
 
-/// Whether each of many clients is told its word, where none writes behind the last.
+/// Whether each of many clients is told its word, where none writes after the last.
 fn wakes_all<R: Clock + Threads + Wait + Sync>(rt: &R, alloc: Global) -> bool {
     match host_recorded(rt, alloc, &LINES, usize::MAX) {
         Some((endings, _, is_whole)) => {

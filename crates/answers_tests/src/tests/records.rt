@@ -1,22 +1,22 @@
-//! Records that are written call by call, and such as were cut: a reply comes behind its entry,
-//! nothing is written behind an entry that failed, and a small record is gone on from wherever it
+//! Records that are written call by call, and such as were cut: a reply comes after its entry,
+//! nothing is written after an entry that failed, and a small record is made again from wherever it
 //! was cut.
 
-ghost use Rattle.std.specs.Prelude.{◌≡◌, None, length};
-ghost use Rattle.book_record.specs.Sums.{numbered};
-
-use batch_book::{Book, Call, Silent};
-use book_record::{StreamName, session_limit, stream_off, stream_on};
+use crate::tests::books::small_book;
+use book_record::{session_limit, stream_off, stream_on};
+use client_session::NoListener;
 use exchange_limits::WorkerCount;
-use peek_poke::PlainWires;
 use record_replay::{RecordFault, replay};
-use runs_tests::common::{Told, with_wires, zeros};
+use runs_tests::common::zeros;
+use session_answers::{Closing, talk_on};
 use std::alloc::Global;
 use std::io;
-use std::io::Write;
+use std::io::{Read, Write};
 use std::marker::Brand;
+use std::sync::Wait;
 use std::sync::atomic::{AtomicUsize, Ordering};
 use std::thread::Threads;
+use std::time::Clock;
 
 /// A writer that keeps what it is given, counts it, and fails where it has no more room: once, or
 /// for good.
@@ -49,8 +49,8 @@ impl Write for Sheet<'_> {
 
 /// A small record after its head.
 const RECORD: &[u8] = b"0 peek 0 80000800\nword 00000000\n=37648a6d\n\
-                        1 poke 1 80000800 00000005\npoked\n=e0378756\n\
-                        0 peek 1 80000800\nword 00000005\n=b0ccf629\n\
+                        0 poke 0 80000800 00000005\npoked\n=3553e0b0\n\
+                        0 peek 0 80000800\nword 00000005\n=d1f1a088\n\
                         end 3\n=d2c8c78f\n";
 
 /// Where so many of its entries end.
@@ -63,9 +63,6 @@ fn end_of(entries: usize) -> usize {
     }
 }
 
-/// The address of the first word of block 0.
-const FIRST: u32 = 0x8000_0800;
-
 /// How many of its entries stand whole in so many of its bytes.
 fn whole_in(bytes: usize) -> usize {
     match bytes {
@@ -76,30 +73,38 @@ fn whole_in(bytes: usize) -> usize {
     }
 }
 
-/// The call of an entry, and the session that makes it.
-fn call_of(entry: usize) -> (usize, Call) {
-    match entry {
-        0 => (0, Call::Peek(0, FIRST)),
-        1 => (1, Call::Poke(1, FIRST, 5)),
-        _ => (0, Call::Peek(1, FIRST)),
+/// Counts the replies of a session that come after their entries.
+#[derive(Drop)]
+struct Hearer<'a> {
+    written: &'a AtomicUsize,
+    told: usize,
+}
+
+impl Write for Hearer<'_> {
+    fn write(&mut self, buf: &[u8]) -> io::Result<usize> {
+        let next = self.told.saturating_add(1);
+        if self.written.load(Ordering::SeqCst) == end_of(next) {
+            self.told = next;
+        }
+        Ok(buf.len())
+    }
+
+    fn flush(&mut self) -> io::Result<()> {
+        Ok(())
     }
 }
 
-/// The calls behind so many entries, made on a book that has these, and that writes to a sheet with
-/// this room when it is flushed, behind each call: how many can be told then, each behind its entry,
-/// and what is written.
-fn ask<R: Threads + Sync, N: StreamName + Send>(
+/// Whether a session whose record goes to a sheet with this room is told of the calls whose entries
+/// fit, each after its entry, and as much of the record is written as fits.
+fn stops_at<R: Clock + Threads + Wait + Sync>(
     rt: &R,
     alloc: Global,
-    book: Book<Silent>,
-    entries: usize,
     room: usize,
     once: bool,
-) -> (usize, Vec<u8>)
-    requires held { None ≡ N.held }
-    requires earlier { book.history ≡ N.earlier }
-    requires counted { entries ≡ numbered (length book.history) }
-{
+) -> bool {
+    let Some(book) = small_book(alloc) else {
+        return false;
+    };
     let count = AtomicUsize::new(0);
     let sheet = Sheet {
         taken: Vec::new(alloc),
@@ -107,51 +112,33 @@ fn ask<R: Threads + Sync, N: StreamName + Send>(
         room,
         once,
     };
-    let mut book = stream_on::<Sheet<'_>, N>(alloc, book, entries as u64, sheet, false);
-    let mut plant = with_wires(PlainWires);
-    let times = AtomicUsize::new(0);
-    let mut told: usize = 0;
-    for entry in entries..3 {
-        let (session, call) = call_of(entry);
-        let made = book.try_apply(rt, session, call, &mut plant, &mut Told::new(&times));
-        let flushed = book.flush();
-        let end = end_of(entries).saturating_add(count.load(Ordering::SeqCst));
-        let (is_made, is_flushed) = (made.is_ok(), flushed.is_ok());
-        let is_there = end == end_of(entry + 1);
-        if is_made && is_flushed && is_there {
-            told = told.saturating_add(1);
-        }
-    }
+    let book = stream_on::<Sheet<'_>, Brand>(alloc, book, 0, sheet, false);
+    let mut said = b"peek 0 80000800\n"
+        .as_slice()
+        .chain(b"poke 0 80000800 00000005\n".as_slice())
+        .chain(b"peek 0 80000800\n".as_slice());
+    let mut hearer = Hearer {
+        written: &count,
+        told: 0,
+    };
+    let ended = talk_on(rt, alloc, book, &mut said, &mut hearer, &mut NoListener);
+    let Ok(Closing { answer: _, book }) = ended else {
+        return false;
+    };
     let (_, sheet, _) = stream_off(book);
-    (told, sheet.taken)
-}
-
-/// Whether a new book over a sheet with this room tells the calls whose entries fit, and writes as
-/// much of its record as fits.
-fn stops_at<R: AllocGlobal + Threads + Sync>(rt: &R, room: usize, once: bool) -> bool {
-    let alloc = rt.alloc();
-    let Some(rack) = zeros(alloc, "2x1x1") else {
-        return false;
-    };
-    let Ok(book) = Book::with(alloc, rack, Silent::new()) else {
-        return false;
-    };
-    let (told, taken) = ask::<R, Brand>(rt, alloc, book, 0, room, once);
-    let is_taken = Some(taken.as_slice()) == RECORD.get(..room);
-    is_taken && told == whole_in(room)
+    Some(sheet.taken.as_slice()) == RECORD.get(..room) && hearer.told == whole_in(room)
 }
 
 #[test]
 fn a_writer_fails_at_each_byte(rt: HostRuntime) {
     for room in 0..128 {
-        assert!(rt; stops_at(&rt, room, false), "{room}");
-        assert!(rt; stops_at(&rt, room, true), "once {room}");
+        assert!(rt; stops_at(&rt, rt.alloc(), room, false), "{room}");
+        assert!(rt; stops_at(&rt, rt.alloc(), room, true), "once {room}");
     }
 }
 
-/// Whether the entries that stand whole in so many bytes of the record are made again, and the calls
-/// behind them write the rest of it.
-fn is_gone_on_from<R: AllocGlobal + Threads + Sync>(rt: &R, bytes: usize) -> bool {
+/// Whether the entries that stand whole in so many bytes of the record are made again.
+fn is_made_again<R: AllocGlobal + Threads + Sync>(rt: &R, bytes: usize) -> bool {
     let alloc = rt.alloc();
     let (Some(rack), Some(text)) = (zeros(alloc, "2x1x1"), RECORD.get(..bytes)) else {
         return false;
@@ -168,17 +155,13 @@ fn is_gone_on_from<R: AllocGlobal + Threads + Sync>(rt: &R, bytes: usize) -> boo
         return false;
     };
     let entries = remade.entries;
-    let end = end_of(entries);
-    let is_read = entries == whole_in(bytes) && Some(remade.rest) == text.get(end..);
-    let (told, taken) = ask::<R, Brand>(rt, alloc, remade.book, entries, usize::MAX, false);
-    let is_taken = Some(taken.as_slice()) == RECORD.get(end..127);
-    is_read && is_taken && told.saturating_add(entries) == 3
+    entries == whole_in(bytes) && Some(remade.rest) == text.get(end_of(entries)..)
 }
 
 #[test]
-fn a_record_is_gone_on_from_each_byte(rt: HostRuntime) {
+fn a_record_is_made_again_from_each_byte(rt: HostRuntime) {
     for bytes in 0..144 {
-        assert!(rt; is_gone_on_from(&rt, bytes), "{bytes}");
+        assert!(rt; is_made_again(&rt, bytes), "{bytes}");
     }
 }
 

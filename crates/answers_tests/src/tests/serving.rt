@@ -4,14 +4,14 @@ use client_session::ServeFault;
 use session_answers::push_end;
 use std::alloc::Global;
 
-/// Whether this is put behind what a session was told, where the fault ended it.
+/// Whether this is put after what a session was told, where the fault ended it.
 fn is_end(alloc: Global, told: &str, fault: Option<ServeFault>, end: &str) -> bool {
     let mut text = Vec::new(alloc);
     let is_put = push_end(&mut text, told.as_bytes(), fault).is_ok();
     is_put && text.as_slice() == end.as_bytes()
 }
 
-/// What a session was told, the fault that ended it, and what is put behind: the line of each fault
+/// What a session was told, the fault that ended it, and what is put after: the line of each fault
 /// begins a line.
 const ENDS: [(&str, Option<ServeFault>, &str); 9] = [
     ("bye\n", None, ""),

@@ -1,7 +1,7 @@
 //! A session over a record that breaks.
 
 use crate::tests::books::{FailsOnce, small_book};
-use batch_book::History;
+use batch_book::EntryLog;
 use book_record::stream_on;
 use client_session::NoListener;
 use session_answers::{Closing, talk_on};
@@ -12,7 +12,7 @@ use std::sync::Wait;
 use std::thread::Threads;
 use std::time::Clock;
 
-/// Whether a session that says all this, over a record one writing of which fails behind so many,
+/// Whether a session that says all this, over a record one writing of which fails after so many,
 /// is told just that, and ends since its record broke.
 fn breaks_off<R: Clock + Threads + Wait + Sync, I: Read>(
     rt: &R,

@@ -56,7 +56,7 @@ fn graph_of_four(alloc: Global) -> Option<LinkGraph>
     }
 }
 
-/// The table of `0 2`, and behind it that of `1 3`.
+/// The table of `0 2`, and after it that of `1 3`.
 fn joined(alloc: Global, graph: &LinkGraph) -> Result<Table, AllocError>
     requires known { 3 < length graph.now }
     requires left { AreApart graph.now 0 2 }

@@ -34,7 +34,7 @@ fn the_definitions_give_cells()
 {}
 
 /// As many changes as partners are the fewest, and as many as are shown the fewest with so few
-/// settings. How often the switch changes is said first below the heading, and behind the heading
+/// settings. How often the switch changes is said first below the heading, and after the heading
 /// in the title.
 fn the_definitions_say_changes()
     ensures fewest { changes_words 2 2 2 ≡ codes "changes 2, the fewest" }

@@ -140,7 +140,7 @@ fn unequal_cycle(rt: HostRuntime) {
     assert!(rt; has(rt.alloc(), &sent, 5, 4, 2));
 }
 
-/// Each of 32 modules sends three blocks to the next and two to the one behind that.
+/// Each of 32 modules sends three blocks to the next and two to the one after that.
 fn ring() -> [Sent; 64] {
     let mut sent = [(0, 0, 0); 64];
     for module in 0..32 {

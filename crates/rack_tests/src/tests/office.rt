@@ -214,7 +214,7 @@ impl<L: ExchangeName, W: WireMaker + Sync, G: Gate + Sync> Pair<L, W, G> {
         answer(rt, &self.shared, &mut self.second, ask)
     }
 
-    /// The first of these rows in which the first seat is answered otherwise. Those behind it
+    /// The first of these rows in which the first seat is answered otherwise. Those after it
     /// aren't asked.
     pub fn first_wrong<R: AllocGlobal + Clock + Threads + Wait + Sync>(
         &mut self,

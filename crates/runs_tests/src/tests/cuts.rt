@@ -81,7 +81,7 @@ fn disagrees(is_wide: bool, answer: (Chip, u8, u8), number: u8) -> bool {
 }
 
 /// A loose output's answer counts by its top bit alone, and an input is one of 32. The outputs of
-/// the second switch are numbered behind those of the first.
+/// the second switch are numbered after those of the first.
 #[test]
 fn named_answers(rt: HostRuntime) {
     assert!(rt; disagrees(false, (Chip::A, 18, 0xa1), 18));

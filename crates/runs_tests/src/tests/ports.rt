@@ -448,7 +448,7 @@ fn ports_answer_wrongly(rt: HostRuntime) {
 }
 
 /// What a port does in row wide_rack, and the output that is told. Where both switches disagree, A
-/// is told. The outputs of B are numbered behind those of A.
+/// is told. The outputs of B are numbered after those of A.
 const WIDE: [(Manner, u8); 5] = [
     (Manner::Silent(2), 0),
     (Manner::Silent(3), 32),

@@ -8,7 +8,7 @@ use setting_runner::StopCause;
 use std::sync::atomic::{AtomicUsize, Ordering};
 use std::thread::Threads;
 
-/// A line of which one call fails, where there is one, and the calls before it and behind it don't.
+/// A line of which one call fails, where there is one, and the calls before it and after it don't.
 #[derive(Drop)]
 struct HoledLine {
     plain: PlainWire,

@@ -26,7 +26,7 @@ fn half_command(rt: HostRuntime) {
     assert!(rt; gives(&mut reader, 0x11, Command::Join { link1, link2 }));
 }
 
-/// Whether a command is written by so many bytes, with zeros behind them.
+/// Whether a command is written by so many bytes, with zeros after them.
 fn is_written(command: Command, bytes: [u8; LONGEST_COMMAND], count: usize) -> bool {
     let mut out = [9; LONGEST_COMMAND];
     write(command, &mut out) == count && out == bytes

@@ -122,7 +122,7 @@ fn an_input_feeds_an_output(rt: HostRuntime) {
     assert!(rt; hold(&rows));
 }
 
-/// Row connect-and-cut, behind the connection. To cut output 3 isn't to cut what input 3 feeds, nor
+/// Row connect-and-cut, after the connection. To cut output 3 isn't to cut what input 3 feeds, nor
 /// is what the same input feeds.
 #[test]
 fn an_output_is_cut(rt: HostRuntime) {

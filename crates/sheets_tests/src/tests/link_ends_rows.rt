@@ -8,7 +8,7 @@ use std::alloc::Global;
 use std::io::{Error, ErrorKind};
 use std::sync::atomic::{AtomicUsize, Ordering};
 
-/// Enquiries of output 17 before and behind a join, a byte that begins no command, and an enquiry
+/// Enquiries of output 17 before and after a join, a byte that begins no command, and an enquiry
 /// of output 0: each byte with the number of replies that are due before it.
 const SENT: [(u8, usize); 11] = [
     (0x02, 0),
@@ -29,7 +29,7 @@ const TOLD: &str = "exchange: standard input: byte 8 is 2a; commands begin with 
 
 /// Attends a new end, where the reader fails at a byte and the writer takes so many: whether no
 /// byte was read before all replies that were due had been flushed, what is told beside the
-/// replies, these, with zeros behind them, and how it ended.
+/// replies, these, with zeros after them, and how it ended.
 fn attends(
     alloc: Global,
     flushed: &AtomicUsize,

@@ -80,7 +80,7 @@ fn poke_then_peek(rt: HostRuntime) {
     assert!(rt; rack_has_poked_word(rt.alloc()));
 }
 
-/// That just these bytes go over a wire, and for a pull those of the word behind them, is in the
+/// That just these bytes go over a wire, and for a pull those of the word after them, is in the
 /// contracts of `push_word` and `pull_word`.
 #[test]
 fn words_go_as_messages(rt: HostRuntime) {
@@ -96,7 +96,7 @@ fn refuses_to_boot(store: &mut Window) -> bool {
         && !answerer.at_rest()
 }
 
-/// Whether the second word of a module `1x1x2` is poked, and what lies behind it or between the two
+/// Whether the second word of a module `1x1x2` is poked, and what lies after it or between the two
 /// is refused.
 fn faults_are_answered(store: &mut Window) -> bool {
     takes(&mut Answerer::new(), store, &[0, 4, 8, 0, 0x80, 1, 0, 0, 0])

@@ -4,7 +4,7 @@ use progress_word::ProgressWord;
 use std::alloc::Global;
 
 /// Whether a new word that is raised from one watcher to 5 and then to 3 is read as 0 before, and
-/// from another watcher as 5 behind each; and raised from that one to 8, it is read as 8 from both
+/// from another watcher as 5 after each; and raised from that one to 8, it is read as 8 from both
 /// joined.
 fn only_rises(alloc: Global) -> bool {
     match ProgressWord::new(alloc) {

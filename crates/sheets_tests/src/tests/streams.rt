@@ -84,7 +84,7 @@ impl<'a> Taker<'a> {
         }
     }
 
-    /// The bytes that it took, with zeros behind them, and how many they are.
+    /// The bytes that it took, with zeros after them, and how many they are.
     pub(super) fn taken(&self) -> ([u8; 4], usize) {
         (self.bytes, self.count)
     }

@@ -1,8 +1,8 @@
-use Rattle.std.proofs.Common.{◌≡◌, ◌∙◌, ◌++◌, ap, append_assoc, arith}
-use Rattle.batch_book.specs.Recording.{made_in, marked_in}
+use Rattle.std.proofs.Common.{◌≡◌, ◌∙◌, All, ap, sym, subst, arith}
+use Rattle.batch_book.specs.Recording.{made_in}
+use Rattle.batch_book.specs.Seats.{IsRecorded}
 use Rattle.batch_book.specs.Values.{greatest}
-use Rattle.batch_book.proofs.Fronts.{front}
-use Rattle.batch_book.proofs.Noting.{all_recorded, greatest_append}
+use Rattle.batch_book.proofs.Noting.{all_recorded, greatest_append, told_front}
 use Rattle.batch_book.proofs.close.close_one.Goals as goal
 
 pub returns : goal.returns
@@ -18,17 +18,19 @@ returns g c =
     let later = c.load.ensures.later in
     let behind = greatest_append earlier (made_in notes) in
     let kept = ap greatest locked.kept in
-    let rest = front (earlier ++ marked_in notes) locked.book.stands locked.told in
+    let stand = c.log.ensures.all locked.sure in
+    let f = told_front notes in
     record {
       made = made_in notes;
-      standing = marked_in notes ++ rest.0;
+      standing = made_in notes;
       all_parts = e.total;
       opened = locked.opened;
       are = locked.kept;
-      stand = rest.1 ∙ append_assoc earlier (marked_in notes) rest.0;
+      stand = stand ∙ locked.kept;
       asked = e.asked;
-      recorded = all_recorded notes rest.0 c.args.seats.items e.told;
+      recorded = subst (λ es. All (IsRecorded es) c.args.seats.items) (sym f.1) (all_recorded notes f.0 c.args.seats.items e.told);
       counted = omega (arith, locked.counted, amount, e.amount);
       none_ahead = λ k d less. let seen = e.seen k d less in omega (arith, seen, later, read, e.raised, behind, kept);
       unstopped = locked.unstopped;
+      all = λ _. stand;
     }

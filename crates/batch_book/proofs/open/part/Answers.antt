@@ -1,8 +1,7 @@
 use Rattle.std.proofs.Common.{◌∙◌, ◌++◌, ap, append-nil, length, sym, subst, arith}
 use Rattle.batch_book.specs.History.{AreUnstopped}
-use Rattle.batch_book.specs.Recording.{made_in, marked_in}
+use Rattle.batch_book.specs.Recording.{made_in}
 use Rattle.batch_book.specs.Sides.{side_lists}
-use Rattle.batch_book.proofs.Fronts.{starts_same}
 use Rattle.batch_book.proofs.Sides.{none_known}
 use Rattle.batch_book.proofs.open.part.Goals as goal
 
@@ -12,9 +11,9 @@ invariant_of-new g c =
     let earlier = g.L.ExchangeName.earlier in
     let none = c.requires.history in
     record {
+      sure = c.in-Err.ensures.sure;
       counted = ap (λ ns. length (made_in ns)) none ∙ sym c.requires.none;
       kept = ap (λ a. a.history) back ∙ c.requires.earlier ∙ sym (ap (λ ns. earlier ++ made_in ns) none ∙ append-nil earlier);
-      told = starts_same _ _ (ap (λ ns. earlier ++ marked_in ns) none ∙ append-nil earlier ∙ sym (ap (λ a. a.stands) back ∙ c.requires.stand));
       opened = ap (λ a. a.opening) back ∙ c.requires.opening;
       unstopped = λ never. subst (λ a. AreUnstopped a.history) (sym back) (c.requires.unstopped never);
     }
@@ -31,9 +30,7 @@ invariant_of-new-2 g c =
       its = dealt.sides.0;
       lists = ap (side_lists earlier) dealt.lists.0 ∙ (λ i. (sym history i, sym stands i));
       many = omega (arith, many);
-      loses = lent.loses;
-      limited = lent.limited;
-      lends = lent.lends;
+      waits = lent.loses.1;
       opened = ap (λ a. a.opening) lent.book ∙ c.requires.opening;
       unstopped = λ never. subst (λ a. AreUnstopped a.history) (sym lent.book) (c.requires.unstopped never);
     }
@@ -43,7 +40,7 @@ invariant_of-new-3 g c =
     let lent = c.in-Ok.ensures in
     let none = c.deal_sides-own.ensures.history in
     let earlier = g.L.ExchangeName.earlier in
-    let texts = g.H.Waiting.WaitingEntries.texts in
+    let texts = g.H.Pending.PendingEntries.texts in
     let handed = c.past-handed.ensures ∙ ap (λ a. a.history) lent.book ∙ c.requires.earlier in
     let text = c.new-3.ensures.items ∙ sym (lent.texts earlier earlier ∙ c.is_whole.ensures.none earlier) ∙ ap (texts earlier) (sym handed) in
     let k = none_known texts earlier _ _ _ none handed text in
@@ -57,5 +54,4 @@ invariant_of-new-3 g c =
       waits = k.waits;
       stood = k.stood;
       told = k.told;
-      loses = lent.loses;
     }

@@ -1,5 +1,4 @@
-use Rattle.book_record.proofs.Fronts.{each_front}
-use Rattle.book_record.proofs.OneReading.{end_is_no_entry}
+use Rattle.book_record.proofs.Fronts.{each_front, end_is_no_entry}
 use Rattle.book_record.proofs.laws.fronts.Goals as goal
 
 pub returns-clause-each : goal.returns-clause-each

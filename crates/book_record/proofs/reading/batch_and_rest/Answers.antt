@@ -6,7 +6,7 @@ use Rattle.book_record.proofs.reading.batch_and_rest.Goals as goal
 pub returns-in_default-clause-none : goal.returns-in_default-clause-none
 returns-in_default-clause-none c =
     let none = rw c.in_default.is at c.end_of_lines.ensures.none in
-    λ batch rest is long. too_few c.args.text.now rest batch c.args.count is long none
+    λ batch rest is long. too_few c.args.text.now rest batch c.args.count long none
 
 pub returns-in-Ok-clause-some : goal.returns-in-Ok-clause-some
 returns-in-Ok-clause-some c =

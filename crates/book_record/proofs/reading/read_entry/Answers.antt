@@ -1,4 +1,4 @@
-use Rattle.book_record.proofs.Behind.{no_entry, no_such_session}
+use Rattle.book_record.proofs.CallTexts.{no_entry, no_such_session}
 use Rattle.book_record.proofs.reading.read_entry.Goals as goal
 
 pub returns-in-None-clause-none : goal.returns-in-None-clause-none

@@ -4,7 +4,7 @@ use Rattle.std.proofs.lemmas.Result.{err_from_is_err_and}
 use Rattle.client_session.specs.declared.fault.ServeFault.TheVariants.{NoMemory}
 use Rattle.client_session.proofs.Asking.{gives_none, gives_more, stops_after, stops_here, stops_cut}
 use Rattle.client_session.proofs.Taking.{none_of}
-use Rattle.client_session.proofs.Taken.{LinesTaken-none, LinesTaken-read, LinesTaken-line, LinesTaken-same, pending_at}
+use Rattle.client_session.proofs.Taken.{LinesTaken-none, LinesTaken-read, LinesTaken-line, pending_at}
 use Rattle.client_session.proofs.Turning.{fuel_skip}
 use Rattle.client_session.proofs.turns.take_lines.Goals as goal
 
@@ -21,7 +21,7 @@ pub returns-in_err-extend_from_slice-clause-err : goal.returns-in_err-extend_fro
 returns-in_err-extend_from_slice-clause-err g c =
     let p = err_from_is_err_and c.from_residual-in_err-extend_from_slice.result c.from_residual-in_err-extend_from_slice.ensures.1 in
     let got = LinesTaken-read _ _ _ _ _ _ _ _ _ c.loop.invariant.0 c.in_ok-n.ensures.takes in
-    rw (p.1, p.2) record { n = c.loop.counter; fewer = c.loop-test.true; taken = LinesTaken-same _ _ _ _ _ _ _ _ got c.in_err-extend_from_slice.ensures.items; at = c.in_ok-n.ensures.room.0 }
+    rw (p.1, p.2) record { n = c.loop.counter; fewer = c.loop-test.true; taken = rw c.in_err-extend_from_slice.ensures.items got; at = c.in_ok-n.ensures.room.0 }
 
 pub loop-preserved : goal.loop-preserved
 loop-preserved g c =

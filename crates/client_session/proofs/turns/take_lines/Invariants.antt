@@ -6,5 +6,5 @@ use Rattle.client_session.proofs.turns.take_lines.Given as goal
 
 abbrev pub invariant-loop : goal.invariant-loop
 invariant-loop g l =
-    LinesTaken (g.I.AskedReader.remaining l.initial.reader) (g.I.AskedReader.remaining l.reader) l.initial.input l.input l.initial.text.items l.text.items l.counter × (fuel l.input ≤ fuel l.initial.input)
-    × GivesEachTime (g.I.AskedReader.asked l.initial.reader) (g.I.AskedReader.asked l.reader) l.initial.input.reads l.input.reads
+    LinesTaken (g.I.CountedRead.remaining l.initial.reader) (g.I.CountedRead.remaining l.reader) l.initial.input l.input l.initial.text.items l.text.items l.counter × (fuel l.input ≤ fuel l.initial.input)
+    × GivesEachTime (g.I.CountedRead.asked l.initial.reader) (g.I.CountedRead.asked l.reader) l.initial.input.reads l.input.reads

@@ -17,7 +17,7 @@ returns-in-Ok-ending-clause-answer g c =
     let how = c.drive-how.result in
     let was = g.Q.Ports.ways c.args.ports.now in
     let opens = g.Q.Ports.ways c.close.new.self in
-    let over = driven_over g.S.Stage.hears g.Q.Port.ConfigPort rack batch settings c.args.first how names was _ opens _ _ c.args.stage.now c.drive-how.new.stage c.in-Ok.ensures.opened c.close.ensures c.in-Ok.ensures.fresh c.in-Ok.ensures.unfailed c.drive-how.ensures.driven c.drive-how.ensures.cause in
+    let over = driven_over g.S.DriveObserver.hears g.Q.Port.ConfigPort rack batch settings c.args.first how names was _ opens _ _ c.args.stage.now c.drive-how.new.stage c.in-Ok.ensures.opened c.close.ensures c.in-Ok.ensures.fresh c.in-Ok.ensures.unfailed c.drive-how.ensures.driven c.drive-how.ensures.cause in
     let many : how_many names ≡ switches_in rack = sym c.count.ensures ∙ c.if-count-switches.false ∙ c.switches_of-switches.ensures.value in
     driven how many over c.in-Ok-ending.ensures.told
 

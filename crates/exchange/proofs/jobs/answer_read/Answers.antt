@@ -70,7 +70,7 @@ returns-in-Talk-2-clause-unkept g c = rw (c.in-Sessions.is, c.in-Talk-2.is) (on_
 
 pub returns-in-Talk-2-clause-beside : goal.returns-in-Talk-2-clause-beside
 returns-in-Talk-2-clause-beside g c =
-    talk_beside _ c.args.request.now _ _ (g.E.Write.contents c.args.err.now) _ _ (rw (c.in-Sessions.is, c.in-Talk-2.is) tt) c.if-is_quiet.false c.talk-kept.ensures.beside (ap g.E.Write.contents c.new-beside.ensures.1) (search rules) c.tell_lack-in-Talk-2.ensures
+    talk_beside _ c.args.request.now _ _ (g.E.Write.contents c.args.err.now) _ _ (rw (c.in-Sessions.is, c.in-Talk-2.is) tt) c.if-is_quiet.false c.talk-kept.ensures.beside (ap g.E.Write.contents c.new-beside.ensures.1) (search rules) c.report_failure-in-Talk-2.ensures
 
 pub returns-in-Ok-clause-response : goal.returns-in-Ok-clause-response
 returns-in-Ok-clause-response g c =
@@ -84,7 +84,7 @@ pub returns-in-Ok-clause-unkept : goal.returns-in-Ok-clause-unkept
 returns-in-Ok-clause-unkept g c = rw (c.in-Sessions.is, c.in-Host.is) (on_err c.host-kept.result.end _ _ (λ m is. is.2) (rw c.as_slice-clients.ensures at c.host-kept.ensures.missed))
 
 pub returns-in-Ok-clause-beside : goal.returns-in-Ok-clause-beside
-returns-in-Ok-clause-beside g c = host_beside _ c.args.request.now _ _ (rw (c.in-Sessions.is, c.in-Host.is) tt) (told_lines_more c.args.request.now.is_quiet _ _ _ c.tell_lacks.ensures c.tell_lack.ensures)
+returns-in-Ok-clause-beside g c = host_beside _ c.args.request.now _ _ (rw (c.in-Sessions.is, c.in-Host.is) tt) (told_lines_more c.args.request.now.is_quiet _ _ _ c.report_failures.ensures c.report_failure.ensures)
 
 pub returns-in-Err-clause-response : goal.returns-in-Err-clause-response
 returns-in-Err-clause-response g c =

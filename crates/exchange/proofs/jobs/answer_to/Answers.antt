@@ -10,7 +10,7 @@ use Rattle.exchange.proofs.jobs.answer_to.Goals as goal
 
 pub answer_read-end-requires-clause-named : goal.answer_read-end-requires-clause-named
 answer_read-end-requires-clause-named g c = λ lifetimes bounds.
-    so_where_ok c.open_apart-outputs.result.1 _ c.in-Ok.ensures.opened c.open_apart-outputs.ensures.named
+    so_where_ok c.open_distinct-outputs.result.1 _ c.in-Ok.ensures.opened c.open_distinct-outputs.ensures.named
 
 pub returns-in-Err : goal.returns-in-Err
 returns-in-Err g c =
@@ -36,6 +36,6 @@ returns g c =
           c.finished.ensures.answer c.in-Ok.ensures.contents held.ensures.response;
       note = c.finished.ensures.note;
       beside = beside_of _ _ c.args.request.now _ _ (λ overlap. (files, rest, c.in-Ok.ensures.contents, overlap)) held.ensures.beside;
-      apart = always c.finished.result _ (so_where_ok c.open_apart-outputs.result.1 _ c.in-Ok.ensures.opened c.open_apart-outputs.ensures.apart);
+      apart = always c.finished.result _ (so_where_ok c.open_distinct-outputs.result.1 _ c.in-Ok.ensures.opened c.open_distinct-outputs.ensures.apart);
       unkept = err_finished held.result.end held.result.lost c.finished.result _ c.finished.ensures.answer held.ensures.unkept;
     }

@@ -1,13 +1,15 @@
 use Rattle.std.proofs.Common.{refl}
+use Rattle.std.specs.Io.KnownBytes.{Appends}
 use Rattle.std.specs.Process.{exit_status}
 use Rattle.command_words.specs.Jobs.{texts_of}
 use Rattle.named_files.specs.Clients.{clients_by, ends_of}
+use Rattle.named_files.specs.Notes.{IsToldInPart}
 use Rattle.exchange.specs.Ends.{IsCutFor, IsLeft, IsNoneLeft, leaving, streams_of}
-use Rattle.exchange.specs.Promises.{KeepsPromises, clients_of, front_of, kept_by, run_of}
+use Rattle.exchange.specs.Promises.{KeepsPromises, clients_of, kept_by, run_of, world_of}
 use Rattle.exchange.specs.Responses.{given_by, named_by}
 use Rattle.exchange.proofs.AskedJobs.{kept}
 use Rattle.exchange.proofs.KeptPromises.{keeps_in_part, keeps_promises}
-use Rattle.exchange.proofs.PromisedOthers.{cut_nothing, cut_others, keeps_unread}
+use Rattle.exchange.proofs.PromisedOthers.{keeps_unread}
 use Rattle.exchange.proofs.promises.answer.Goals as goal
 
 pub returns-clause-arguments : goal.returns-clause-arguments
@@ -26,13 +28,11 @@ returns-clause-arguments g c =
     let after = g.O.Write.contents c.respond.new.out in
     let code = exit_status c.respond.result.code in
     let given = given_by input was (clients_by comes had) in
-    let left = leaving holds received receipts was ways (ends_of endings) in
-    kept (λ w. IsCutFor named left (texts_of w.items) given before after)
-    (λ w. KeepsPromises named.leads (run_of holds input before after (texts_of w.items) code) (front_of holds input before after (texts_of w.items)) was ways (kept_by received receipts) (clients_of comes had endings)) c.args.arguments (λ w. texts_of w.items) named
+    kept (λ w. IsCutFor named (leaving holds received receipts was ways (ends_of endings)) (texts_of w.items) given before after)
+    (λ w. KeepsPromises named.leads (world_of (run_of holds input (Appends before after) (texts_of w.items) code) was ways (kept_by received receipts) (clients_of comes had endings)) (IsToldInPart before after)) c.args.arguments (λ w. texts_of w.items) named
     (IsLeft holds received receipts ways (ends_of endings)) (IsNoneLeft receipts was ways (ends_of endings)) given (streams_of before after (g.E.Write.contents c.args.err.now) (g.E.Write.contents c.respond.new.err)) code
     (λ w ends. keeps_promises _ ways received receipts comes had endings refl (λ job response is. is.1) (λ job response is. (is.0, is.2)) (λ none. none) ends)
-    (λ w unwritten cut. keeps_in_part (texts_of w.items) named left given before after code received receipts comes had endings refl (λ job response is. (is.0.0, (is.0.1, is.2))) (λ none. (none.0, none.2)) (λ job response is. is.1) (λ none. none.1) unwritten cut
-    (cut_others received receipts comes had endings ways (texts_of w.items) named given before after code unwritten cut) (cut_nothing received receipts comes had endings ways (texts_of w.items) named given before after code unwritten cut)) c.respond.ensures.arguments
+    (λ w unwritten cut. keeps_in_part (texts_of w.items) named ways given before after code received receipts comes had endings refl unwritten cut) c.respond.ensures.arguments
 
 pub returns-clause-none : goal.returns-clause-none
 returns-clause-none g c =

@@ -19,8 +19,8 @@ host_over-end-requires-send-K g c κs within =
     let s = streamed_send _ _ g.S.Stream.Write g.N.StreamName c.type_bounds.send-S-Stream c.type_bounds.send-N in
     search sendable depth 20
 
-pub host_over-end-requires-send-K-Waiting : goal.host_over-end-requires-send-K-Waiting
-host_over-end-requires-send-K-Waiting g c κs within =
+pub host_over-end-requires-send-K-Pending : goal.host_over-end-requires-send-K-Pending
+host_over-end-requires-send-K-Pending g c κs within =
     let s = waiting_send in
     search sendable depth 20
 

@@ -1,6 +1,5 @@
 use Rattle.std.proofs.Common.{◌++◌, ◌∷◌, [], refl, arith, length-append}
 use Rattle.link_ends.specs.Answering.{begins, goes_on}
-use Rattle.link_ends.proofs.Running.{one_read}
 use Rattle.byte_streams.proofs.Carrying.{appends_then, appends_none, consumes_then, consumes_none}
 use Rattle.link_ends.proofs.answering.answer_commands.Goals as goal
 
@@ -26,7 +25,7 @@ returns-in-Err-hand g c = record {
   tells = _;
   byte = c.in-Ok-Some.byte;
   answered = c.loop-before.invariant.0;
-  read = one_read _ _ _ _ c.in-Ok-Some.field-0-is c.in-Ok-Some.ensures.read;
+  read = rw c.in-Ok-Some.field-0-is at c.in-Ok-Some.ensures.read;
   cut = rw c.loop-before.invariant.1 c.in-Err-hand.ensures.cut;
 }
 
@@ -38,7 +37,7 @@ loop-before-preserved g c =
         came = i.came ++ c.in-Ok-Some.byte ∷ [];
         replies = i.replies ++ h.reply;
         told = i.told ++ h.told;
-        read = consumes_then _ _ _ _ _ i.read (one_read _ _ _ _ c.in-Ok-Some.field-0-is c.in-Ok-Some.ensures.read);
+        read = consumes_then _ _ _ _ _ i.read (rw c.in-Ok-Some.field-0-is at c.in-Ok-Some.ensures.read);
         ran = goes_on i.came i.replies i.told c.in-Ok-Some.byte h.reply h.told _ _ i.ran (rw count h.handles);
         written = appends_then _ _ _ _ _ i.written h.written;
         beside = appends_then _ _ _ _ _ i.beside h.beside;

@@ -1,8 +1,7 @@
 use Rattle.std.proofs.Common.{[], refl, sym, ◌∙◌}
 use Rattle.std.proofs.lemmas.Result.{on_ok_weaker, on_err_weaker}
 use Rattle.byte_streams.proofs.Carrying.{appends_none, front_written}
-use Rattle.link_ends.specs.Answering.{refuses}
-use Rattle.link_ends.proofs.Running.{took}
+use Rattle.link_ends.specs.Answering.{refuses, takes}
 use Rattle.link_ends.proofs.answering.hand.Goals as goal
 
 pub returns-in-Ok-Some-clause-handled : goal.returns-in-Ok-Some-clause-handled
@@ -10,7 +9,7 @@ returns-in-Ok-Some-clause-handled g c =
     on_ok_weaker c.write_bytes.result (λ went. record {
       reply = _;
       told = [];
-      handles = took _ _ _ _ _ _ c.in-Ok-Some.field-0-is c.in-Ok-Some.ensures.taken;
+      handles = takes _ _ (rw c.in-Ok-Some.field-0-is at c.in-Ok-Some.ensures.taken);
       written = went;
       beside = appends_none _;
     }) c.write_bytes.ensures.went
@@ -19,7 +18,7 @@ pub returns-in-Ok-Some-clause-cut : goal.returns-in-Ok-Some-clause-cut
 returns-in-Ok-Some-clause-cut g c =
     on_err_weaker c.write_bytes.result (λ cut. record {
       reply = _;
-      handles = took _ _ _ _ _ _ c.in-Ok-Some.field-0-is c.in-Ok-Some.ensures.taken;
+      handles = takes _ _ (rw c.in-Ok-Some.field-0-is at c.in-Ok-Some.ensures.taken);
       cut = cut;
       beside = refl;
     }) c.write_bytes.ensures.cut
@@ -28,7 +27,7 @@ pub returns-in-Ok-None-clause-handled : goal.returns-in-Ok-None-clause-handled
 returns-in-Ok-None-clause-handled g c = record {
   reply = [];
   told = [];
-  handles = took _ _ _ _ _ _ c.in-Ok-None.field-0-is c.in-Ok-None.ensures.taken;
+  handles = takes _ _ (rw c.in-Ok-None.field-0-is at c.in-Ok-None.ensures.taken);
   written = appends_none _;
   beside = appends_none _;
 }

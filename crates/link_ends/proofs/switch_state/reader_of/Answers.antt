@@ -1,10 +1,10 @@
-use Rattle.std.proofs.Common.{◌∷◌, [], ◌++◌, ◌∙◌, List, ℕ, ap, sym, subst, drop, get_or, suc, rules, Option}
+use Rattle.std.proofs.Common.{◌∷◌, [], ◌++◌, ◌∙◌, List, ℕ, ap, sym, subst, drop, get_or, ◌+◌, rules, Option}
 use Rattle.std.proofs.lemmas.List.{take_more}
 use Rattle.c004_commands.specs.Commands.{IsCommandFront}
 use Rattle.c004_commands.specs.Reader.{GoesOn}
 use Rattle.c004_commands.specs.declared.command.Command.{Command}
-use Rattle.crossbar.proofs.Carrying.{nothing_come}
-use Rattle.link_ends.proofs.Begun.{more_begun, none_ends, goes_on_to, nothing_whole}
+use Rattle.crossbar.proofs.Carrying.{goes_on, nothing_come}
+use Rattle.link_ends.proofs.Begun.{more_begun, none_ends, nothing_whole}
 use Rattle.link_ends.proofs.switch_state.reader_of.Goals as goal
 
 pub loop-byte-init : goal.loop-byte-init
@@ -32,6 +32,6 @@ pub returns-in-Err : goal.returns-in-Err
 returns-in-Err c = λ whole.
     let bytes = c.args.begun.now in
     let k = c.loop-byte.byte-index in
-    let is_ok = c.in-Err.ensures.taken c.loop-byte.reader (drop (suc k) bytes) bytes [] [] (nothing_whole c.loop-byte.reader c.loop-byte.invariant.front)
-    (goes_on_to bytes c.loop-byte.reader k c.loop-byte-test.true c.loop-byte.invariant.come whole) in
+    let is_ok = c.in-Err.ensures.taken c.loop-byte.reader (drop (k + 1) bytes) bytes [] [] (nothing_whole c.loop-byte.reader c.loop-byte.invariant.front)
+    (rw c.loop-byte.invariant.come (goes_on bytes k [] bytes c.loop-byte-test.true (nothing_whole bytes whole))) in
     search (rules, is_ok)

@@ -3,7 +3,7 @@ use Rattle.std.proofs.lemmas.Grind.{common_steps}
 use Rattle.std.proofs.lemmas.Result.{err_from_is_err_and}
 use Rattle.link_graph.specs.Certificates.{Naming}
 use Rattle.link_graph.specs.ScheduleText.{naming_lines, text_of}
-use Rattle.link_graph.proofs.CertificateLines.{none_line, no_certificate_line, bad_certificate_line, behind_no_link, named_fault, one_text}
+use Rattle.link_graph.proofs.CertificateLines.{none_line, no_certificate_line, bad_certificate_line, after_no_link, named_fault, one_text}
 use Rattle.link_graph.proofs.reading.certificate.Goals as goal
 
 pub returns-in_default-clause-err : goal.returns-in_default-clause-err
@@ -15,7 +15,7 @@ pub returns-then-not-is_empty-clause-err : goal.returns-then-not-is_empty-clause
 returns-then-not-is_empty-clause-err c =
     let none : c.in-Some.line.now ≡ none_line = search rules in
     let more : 0 < length c.in-Some.rest.now = grind (arith, common_steps) in
-    behind_no_link c.args.above c.args.text.now c.in-Some.line.now c.in-Some.rest.now c.in-Some.ensures.some none more
+    after_no_link c.args.above c.args.text.now c.in-Some.line.now c.in-Some.rest.now c.in-Some.ensures.some none more
 
 pub returns-then-eq-clause-text : goal.returns-then-eq-clause-text
 returns-then-eq-clause-text c =

@@ -1,7 +1,7 @@
 use Rattle.std.proofs.Common.{◌≡◌, ◌<◌, ℕ, List, [], ◌∷◌, length, refl, arith}
 use Rattle.std.proofs.lemmas.Grind.{common_steps}
 use Rattle.std.proofs.lemmas.Result.{err_from_is_err_and}
-use Rattle.link_graph.proofs.CertificateLines.{no_named_line, bad_named_line, none_named, behind_named}
+use Rattle.link_graph.proofs.CertificateLines.{no_named_line, bad_named_line, none_named, after_named}
 use Rattle.link_graph.proofs.reading.link_certificate.Goals as goal
 
 some_named : (ts : List ℕ) → (ts ≡ [] → ⊥) → 0 < length ts
@@ -24,4 +24,4 @@ pub returns-then-not-is_empty-clause-err : goal.returns-then-not-is_empty-clause
 returns-then-not-is_empty-clause-err c =
     let named : 0 < length c.in_ok-transfers.transfers.items = some_named c.in_ok-transfers.transfers.items (λ empty. let bad = c.in-Some-of.ensures.none.1 empty in absurd cc) in
     let more : 0 < length c.in-Some.rest.now = grind (arith, common_steps) in
-    behind_named c.args.above c.args.text.now c.in-Some.line.now c.in-Some.rest.now c.in_ok-transfers.transfers.items c.in-Some.ensures.some c.in_ok-transfers.ensures.ok.0 c.in_ok-transfers.ensures.ok.1 named more
+    after_named c.args.above c.args.text.now c.in-Some.line.now c.in-Some.rest.now c.in_ok-transfers.transfers.items c.in-Some.ensures.some c.in_ok-transfers.ensures.ok.0 c.in_ok-transfers.ensures.ok.1 named more

@@ -134,7 +134,7 @@ fn fills_book<L: ExchangeName, R: AllocGlobal + Clock + Threads + Wait + Sync>(
     accepted == 255 && said == Said::Refused(BookRefusal::BookFull)
 }
 
-/// Whether that is so behind the first rows, which leaves 259 entries, so that 65,277 more peeks
+/// Whether that is so after the first rows, which leaves 259 entries, so that 65,277 more peeks
 /// fill the history.
 fn meets_limits<L: ExchangeName, R: AllocGlobal + Clock + Threads + Wait + Sync>(
     rt: &R,
@@ -216,7 +216,7 @@ fn refused<L: ExchangeName>(
 }
 
 /// An exchange with two seats, of what came back where 0 sessions were refused, and then 17.
-fn open_behind_refusals<L: ExchangeName>(
+fn open_after_refusals<L: ExchangeName>(
     alloc: Global,
     blank: ExchangeBlank,
     rack: Rack,
@@ -237,7 +237,7 @@ fn holds<L: ExchangeName, R: AllocGlobal + Clock + Threads + Wait + Sync>(
 ) -> bool
     requires named { IsNamed L.name L.parts L.table L.opening L.earlier blank (new_account rack) }
 {
-    let Some(mut pair) = open_behind_refusals::<L>(rt.alloc(), blank, rack) else {
+    let Some(mut pair) = open_after_refusals::<L>(rt.alloc(), blank, rack) else {
         return false;
     };
     match case {

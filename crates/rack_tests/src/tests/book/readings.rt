@@ -18,7 +18,7 @@ use std::thread::{Threads, join, yield_now};
 use std::time::Clock;
 
 /// A run of a batch, of which this transfer waits until the other thread has read this, and what is
-/// read behind the run.
+/// read after the run.
 #[derive(Clone, Copy)]
 struct Watched {
     text: &'static str,

@@ -26,18 +26,18 @@ use std::time::Clock;
 #[derive(Drop)]
 struct Counted<'a> {
     writes: &'a AtomicUsize,
-    fails_behind: Option<usize>,
-    waits_behind: Option<usize>,
+    fails_after: Option<usize>,
+    waits_after: Option<usize>,
     hold: &'a Hold,
 }
 
 impl Write for Counted<'_> {
     fn write(&mut self, buf: &[u8]) -> io::Result<usize> {
         let before = self.writes.fetch_add(1, Ordering::SeqCst);
-        if self.waits_behind == Some(before) {
+        if self.waits_after == Some(before) {
             self.hold.wait();
         }
-        if self.fails_behind == Some(before) {
+        if self.fails_after == Some(before) {
             return Err(io::ErrorKind::Other.into());
         }
         Ok(buf.len())
@@ -60,11 +60,11 @@ enum Step {
 use Step::{Peek, Settle};
 
 /// What two seats do, whether each step goes well, and how often the writer was given something by
-/// then; and how often once the exchange is closed. Behind so many times the writer fails, once.
+/// then; and how often once the exchange is closed. After so many times the writer fails, once.
 #[derive(Clone, Copy)]
 struct Row {
     name: &'static str,
-    fails_behind: Option<usize>,
+    fails_after: Option<usize>,
     steps: &'static [(Step, bool, usize)],
     closed: usize,
 }
@@ -72,7 +72,7 @@ struct Row {
 const ROWS: [Row; 5] = [
     Row {
         name: "one seat writes for all",
-        fails_behind: None,
+        fails_after: None,
         steps: &[
             (Peek(0), true, 0),
             (Peek(1), true, 0),
@@ -84,7 +84,7 @@ const ROWS: [Row; 5] = [
     },
     Row {
         name: "a seat whose entries stand there writes none of others",
-        fails_behind: None,
+        fails_after: None,
         steps: &[
             (Peek(0), true, 0),
             (Peek(1), true, 0),
@@ -97,7 +97,7 @@ const ROWS: [Row; 5] = [
     },
     Row {
         name: "closing writes what waits, at once",
-        fails_behind: None,
+        fails_after: None,
         steps: &[
             (Settle(0), true, 0),
             (Peek(0), true, 0),
@@ -108,7 +108,7 @@ const ROWS: [Row; 5] = [
     },
     Row {
         name: "a writing fails",
-        fails_behind: Some(1),
+        fails_after: Some(1),
         steps: &[
             (Peek(0), true, 0),
             (Peek(1), true, 0),
@@ -124,7 +124,7 @@ const ROWS: [Row; 5] = [
     },
     Row {
         name: "the first writing fails",
-        fails_behind: Some(0),
+        fails_after: Some(0),
         steps: &[
             (Peek(0), true, 0),
             (Peek(1), true, 0),
@@ -209,7 +209,7 @@ fn is_closed<L: ExchangeName, W: WireMaker + Drop, H: History + Drop>(
 ) -> bool
 where
     H::Recorder: Drop,
-    H::Waiting: Drop,
+    H::Pending: Drop,
     requires { L.parts ≡ ALL_PARTS }
 {
     let Two {
@@ -270,7 +270,7 @@ fn is_so<
 >(rt: &R, two: Two<L, W, H>, row: &Row, writes: &AtomicUsize) -> bool
 where
     H::Recorder: Drop,
-    H::Waiting: Drop,
+    H::Pending: Drop,
     requires { L.parts ≡ ALL_PARTS }
 {
     let mut two = two;
@@ -409,7 +409,7 @@ fn is_settled_beside<
 >(rt: &R, two: Two<L, W, H>, held: Held, hold: &Hold, writes: &AtomicUsize) -> bool
 where
     H::Recorder: Drop,
-    H::Waiting: Drop,
+    H::Pending: Drop,
 {
     let Two {
         shared,
@@ -462,11 +462,11 @@ fn holds<L: ExchangeName + Send + Sync, R: AllocGlobal + Clock + Threads + Wait 
 }
 
 /// Whether a case is so on a marked rack of two modules of one word, whose first word is 0, where
-/// the writer fails behind so many times.
+/// the writer fails after so many times.
 fn holds_of<R: AllocGlobal + Clock + Threads + Wait + Sync>(
     rt: &R,
     case: Case,
-    fails_behind: Option<usize>,
+    fails_after: Option<usize>,
 ) -> bool {
     let alloc = rt.alloc();
     let Some(rack) = marked(alloc, "2x1x1") else {
@@ -482,8 +482,8 @@ fn holds_of<R: AllocGlobal + Clock + Threads + Wait + Sync>(
     let writes = AtomicUsize::new(0);
     let writer = Counted {
         writes: &writes,
-        fails_behind,
-        waits_behind: match case {
+        fails_after,
+        waits_after: match case {
             Case::Beside(Held::Writing) => Some(1),
             _ => None,
         },
@@ -497,7 +497,7 @@ fn holds_of<R: AllocGlobal + Clock + Threads + Wait + Sync>(
 fn what_waits_is_written_at_once(rt: HostRuntime) {
     for row in &ROWS {
         assert!(rt;
-            holds_of(&rt, Case::Row(*row), row.fails_behind),
+            holds_of(&rt, Case::Row(*row), row.fails_after),
             "{}",
             row.name
         );

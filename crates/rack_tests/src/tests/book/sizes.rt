@@ -1,4 +1,4 @@
-//! The number behind each named size, and what faults are told as.
+//! The number after each named size, and what faults are told as.
 
 use batch_book::{ALL_PARTS, BookRefusal, MAX_BATCHES, MAX_ENTRIES, RUN_STEP, SharedFault};
 use module_memory::MemoryFault;

@@ -11,7 +11,7 @@ use std::sync::atomic::{AtomicUsize, Ordering};
 #[derive(Drop)]
 pub struct Beside<'a> {
     says: &'static [u8],
-    /// What the client says behind the commands that were heard.
+    /// What the client says after the commands that were heard.
     rest: &'static [u8],
     hears: &'static [u8],
     flushed: &'a AtomicUsize,
@@ -38,7 +38,7 @@ impl<'a> Beside<'a> {
     }
 
     /// Whether it heard each command, in their order and once the replies before were flushed; and
-    /// was told, behind each reply line that is a refusal, once that was flushed, of this refusal,
+    /// was told, after each reply line that is a refusal, once that was flushed, of this refusal,
     /// and of no other. The session ended so.
     pub fn is_right(&self, fault: Option<ServeFault>) -> bool {
         let flushed = self.flushed.load(Ordering::SeqCst);
@@ -110,7 +110,7 @@ const COMMANDS: [(&str, Refusal); 3] = [
 
 /// Whether a listener is right beside whom these come to pass: `h`, the next command is heard; `s`,
 /// it isn't; `f`, a reply is flushed; and `r`, the refusal of the command that came last is told.
-fn is_right_behind(events: &str) -> bool {
+fn is_right_after(events: &str) -> bool {
     let says = "hello\nprogress\nshow 1\n";
     let hears = "refused line\nprogress run 0 done 0\nrefused unknown\n";
     let flushed = AtomicUsize::new(0);
@@ -138,10 +138,10 @@ fn is_right_behind(events: &str) -> bool {
 }
 
 /// Three commands are to be heard, and not two, each before its refusal, which is to be told once,
-/// behind its reply.
+/// after its reply.
 #[test]
 fn a_listener_sees_what_it_is_not_told(rt: HostRuntime) {
-    assert!(rt; is_right_behind("hfrhfhfr"));
+    assert!(rt; is_right_after("hfrhfhfr"));
     for events in [
         "hfrhf",
         "hfrsfhfr",
@@ -152,6 +152,6 @@ fn a_listener_sees_what_it_is_not_told(rt: HostRuntime) {
         "hfrrhfhfr",
         "hfrhfrhfr",
     ] {
-        assert!(rt; !is_right_behind(events), "at {events}");
+        assert!(rt; !is_right_after(events), "at {events}");
     }
 }

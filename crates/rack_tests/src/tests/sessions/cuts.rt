@@ -51,7 +51,7 @@ fn cause_text(alloc: Global, cause: StopCause) -> Result<String, AllocError> {
     }
 }
 
-/// What a session is told of a run, and of the batch and the progress behind it.
+/// What a session is told of a run, and of the batch and the progress after it.
 fn run_text(
     alloc: Global,
     cause: Option<StopCause>,

@@ -16,7 +16,7 @@ const TWO_LINES: &str = "peek 0 80000800\nhello\n";
 
 const TWO_REPLIES: &str = "word 00000000\nrefused line\n";
 
-/// A text, behind how many of its bytes the reader fails, what is heard, and how many entries there
+/// A text, after how many of its bytes the reader fails, what is heard, and how many entries there
 /// are.
 const MUTE: [(&str, usize, &str, usize); 6] = [
     ("", 0, "", 0),
@@ -27,7 +27,7 @@ const MUTE: [(&str, usize, &str, usize); 6] = [
     ("batch 1\npush 0 0 0 0\n", 10, "", 0),
 ];
 
-/// The reader hands out a byte a call. The end of the text is its 23rd call. Behind `bye` it isn't
+/// The reader hands out a byte a call. The end of the text is its 23rd call. After `bye` it isn't
 /// asked.
 #[test]
 fn session_ends_by_its_reader(rt: HostRuntime) {
@@ -51,7 +51,7 @@ fn with_room(room: usize, full: Full) -> Writing {
     writing
 }
 
-/// Behind how many bytes the writer has no room, what it does then, and what was heard.
+/// After how many bytes the writer has no room, what it does then, and what was heard.
 const DEAF: [(usize, Full, &str); 5] = [
     (0, Full::Fails, ""),
     (5, Full::Fails, "word "),

@@ -197,7 +197,7 @@ fn hears<'a, L: ExchangeName, H: History + Drop, R: AllocGlobal + Clock + Thread
 ) -> bool
 where
     H::Recorder: Drop,
-    H::Waiting: Drop,
+    H::Pending: Drop,
     requires named { IsNamed L.name L.parts L.table L.opening L.earlier blank book }
     requires empty { book.history ≡ [] }
 {
@@ -383,7 +383,7 @@ fn entries_are_flushed_before_they_are_told(rt: HostRuntime) {
     }
 }
 
-/// A line, and behind it another so many times.
+/// A line, and after it another so many times.
 fn text_of(alloc: Global, first: &str, next: &str, times: usize) -> Result<String, AllocError> {
     let mut text = String::from_str(alloc, first)?;
     for _ in 0..times {

@@ -1,4 +1,4 @@
-//! When a reader is asked and when a reply is flushed, and what a seat is worth behind a session.
+//! When a reader is asked and when a reply is flushed, and what a seat is worth after a session.
 
 use super::served::{Day, NO_FUSE, is_served, is_so};
 use super::streams::{ALL, AT_ONCE, Script};
@@ -8,7 +8,7 @@ use std::thread::Threads;
 use std::time::Clock;
 
 /// Whether a client who says this and hears that has each reply flushed before a line is read
-/// behind it, by a writer that takes so many bytes a call. The list says how many replies were
+/// after it, by a writer that takes so many bytes a call. The list says how many replies were
 /// flushed at each `read`, of which each gives a line.
 fn is_flushed_first<R: AllocGlobal + Clock + Threads + Wait + Sync>(
     rt: &R,
@@ -43,7 +43,7 @@ pub fn one_script() -> Script {
     )
 }
 
-/// The reply to `batch 1` comes behind the batch's line. Behind `bye` nothing is read.
+/// The reply to `batch 1` comes after the batch's line. After `bye` nothing is read.
 const ONE_SCRIPT_FLUSHED: [usize; 8] = [0, 1, 1, 2, 3, 4, 5, 6];
 
 #[test]
@@ -83,7 +83,7 @@ fn the_reply_to_bye_is_flushed(rt: HostRuntime) {
     assert!(rt; is_served(&rt, &script));
 }
 
-/// Whether a client is served so on the smallest rack, and another behind it from the seat that
+/// Whether a client is served so on the smallest rack, and another after it from the seat that
 /// came back.
 fn are_served_from_one_seat<R: AllocGlobal + Clock + Threads + Wait + Sync>(
     rt: &R,
@@ -119,7 +119,7 @@ fn a_reader_without_end_is_asked_a_million_times(rt: HostRuntime) {
 
 /// Whether a session that hands in an empty batch and ends so is followed by another from the seat
 /// that came back, which has that batch.
-fn goes_on_behind<R: AllocGlobal + Clock + Threads + Wait + Sync>(rt: &R, script: Script) -> bool {
+fn goes_on_after<R: AllocGlobal + Clock + Threads + Wait + Sync>(rt: &R, script: Script) -> bool {
     let show = Script::of("show 1\n", "batch 1 transfers 0 waiting\n", 1);
     are_served_from_one_seat(rt, script, show)
 }
@@ -130,22 +130,22 @@ const TOO_LONG: &str =
     "batch 0\nbatch 2\npush 0 0 0 0\naaaaaaaaaaaaaaaaaaaaaaaaaaaaaaaaaaaaaaaaaaaaaaaaaaaaaaaaaaaaaaaaaaaaaaaaaaaaaaaaa";
 
 #[test]
-fn a_seat_is_served_again_behind_lines_that_end_sessions(rt: HostRuntime) {
+fn a_seat_is_served_again_after_lines_that_end_sessions(rt: HostRuntime) {
     let cut = Script::of("batch 0\nbatch 2\npush 0 0 0 0\n", "accepted 1\n", 1);
-    assert!(rt; goes_on_behind(&rt, cut.ending(ServeFault::Cut)));
+    assert!(rt; goes_on_after(&rt, cut.ending(ServeFault::Cut)));
     let long = Script::of(TOO_LONG, "accepted 1\n", 1);
-    assert!(rt; goes_on_behind(&rt, long.ending(ServeFault::LineTooLong)));
+    assert!(rt; goes_on_after(&rt, long.ending(ServeFault::LineTooLong)));
 }
 
 #[test]
-fn a_seat_is_served_again_behind_a_reader_or_a_writer_that_failed(rt: HostRuntime) {
+fn a_seat_is_served_again_after_a_reader_or_a_writer_that_failed(rt: HostRuntime) {
     let mut reading = AT_ONCE;
     reading.step = 8;
     reading.fails_at = 1;
     let read = Script::of("batch 0\nshow 1\n", "accepted 1\n", 1).ending(ServeFault::Read);
-    assert!(rt; goes_on_behind(&rt, read.reading(reading)));
+    assert!(rt; goes_on_after(&rt, read.reading(reading)));
     let mut writing = ALL;
     writing.room = 5;
     let write = Script::of("batch 0\nshow 1\n", "accep", 1).ending(ServeFault::Write);
-    assert!(rt; goes_on_behind(&rt, write.writing(writing)));
+    assert!(rt; goes_on_after(&rt, write.writing(writing)));
 }

@@ -7,7 +7,7 @@ ghost use Rattle.std.specs.Prelude.{◌≡◌, ◌≤◌, length, take};
 
 use super::served::{NO_FUSE, Saying, serve_at_once};
 use crate::tests::office::{close, open_pair};
-use batch_book::{Entry, ExchangeBlank, ExchangeName, ToldCall};
+use batch_book::{Entry, ExchangeBlank, ExchangeName, RecordedCall};
 use module_memory::Rack;
 use peek_poke::FuseWires;
 use runs_tests::common::{TURNS, with_wires, zeros};
@@ -22,7 +22,7 @@ use std::test::Fail;
 use std::thread::{Threads, yield_now};
 use std::time::Clock;
 
-/// How often the batch is planned. The first time settles it, and each later one is refused behind
+/// How often the batch is planned. The first time settles it, and each later one is refused after
 /// its planning.
 const PLANS: usize = 40;
 
@@ -155,7 +155,7 @@ fn has_entry_between(history: &[Entry]) -> bool {
                 return true;
             }
         } else {
-            is_fetched = matches!(entry.call.told(), ToldCall::Fetch(_));
+            is_fetched = matches!(entry.call.told(), RecordedCall::Fetch(_));
         }
     }
     false

@@ -48,7 +48,7 @@ pub struct Writing {
     pub step: usize,
     /// How many it has room for.
     pub room: usize,
-    /// What it does then. Behind that it has room again.
+    /// What it does then. After that it has room again.
     pub full: Full,
     /// Whether it fails when it is first flushed.
     pub flush_fails: bool,

@@ -1,4 +1,4 @@
-//! Two sessions at once whose lines come in one order, so that each reading comes behind what the
+//! Two sessions at once whose lines come in one order, so that each reading comes after what the
 //! other did.
 
 ghost use Rattle.batch_book.specs.History.{new_account};
@@ -129,7 +129,7 @@ fn hear<R: AllocGlobal + Clock + Threads + Wait + Sync>(
     is_heard && !gave_up
 }
 
-/// The second client reads before any run and behind each of three runs of the first, which have 0,
+/// The second client reads before any run and after each of three runs of the first, which have 0,
 /// 1 and 2 settings.
 const READINGS: [(usize, &str); 13] = [
     (1, "progress\n"),

@@ -19,4 +19,4 @@ returns-in_ok-refused-in-Err g c =
     let answer = c.in_ok-refused-in-Err.field-0 in
     let error = c.in-Err.error in
     let refuses : Refuses (of_record error.fault) answer = subst (λ (r : Refusal). Refuses r answer) c.refusal_of.ensures c.in_ok-refused-in-Err.ensures in
-    record_wrong error c.behind_head.result (c.in-Err.ensures.wrong (λ e. refuses.0 (ap of_record e))) c.behind_head.ensures refuses refl refl
+    record_wrong error c.after_head.result (c.in-Err.ensures.wrong (λ e. refuses.0 (ap of_record e))) c.after_head.ensures refuses refl refl

@@ -18,7 +18,7 @@ returns-then-begins-clause-hosted g c =
     let known = g.D.ClientStreams.known c.args.context.now.streams.now in
     let back = c.join_all-back.result in
     let is : begins known.clients c.init-decided.result.value ≡ true = rw c.clients.ensures at (sym c.begins.ensures ∙ c.if-begins.true) in
-    begun_all g.K.History.loses x (greatest g.L.ExchangeName.earlier) known g.D.ClientStreams.received c.init-decided.result.value c.args.seats.items back.seats.items back.endings.items is (c.join_all-back.ensures c.args.seats.items c.start_all-threads.ensures) c.requires.seats
+    begun_all g.K.EntryLog.loses x (greatest g.L.ExchangeName.earlier) known g.D.ClientStreams.received c.init-decided.result.value c.args.seats.items back.seats.items back.endings.items is (c.join_all-back.ensures c.args.seats.items c.start_all-threads.ensures) c.requires.seats
 
 pub returns : goal.returns
 returns g c =
@@ -29,5 +29,5 @@ returns g c =
     record {
       hosted = tt;
       refusal = inl refl;
-      back = begun_none g.K.History.loses x (greatest g.L.ExchangeName.earlier) known g.D.ClientStreams.received c.init-decided.result.value c.args.seats.items back.seats.items back.endings.items is (c.join_all-back.ensures c.args.seats.items c.start_all-threads.ensures) c.requires.seats;
+      back = begun_none g.K.EntryLog.loses x (greatest g.L.ExchangeName.earlier) known g.D.ClientStreams.received c.init-decided.result.value c.args.seats.items back.seats.items back.endings.items is (c.join_all-back.ensures c.args.seats.items c.start_all-threads.ensures) c.requires.seats;
     }

@@ -70,4 +70,4 @@ returns g c seats each =
     let h = c.loop-started.invariant.6 seats each in
     let known = g.D.ClientStreams.known c.args.context.now.streams.now in
     let none : length h.1 ≡ 0 = omega (arith, c.in-None.ensures.steps.0, c.loop-started.started-iterator.rest.ok.0, each_length _ h.1 _ h.3) in
-    subst (λ (done : List SeatState). HaveReturned g.K.History.loses c.args.context.now.exchange.now known g.D.ClientStreams.received (begins known.clients c.args.decided.now.value) done c.loop-started.back.seats.items c.loop-started.back.endings.items) (all_done seats h.0 h.1 none h.2) h.4
+    subst (λ (done : List SeatState). HaveReturned g.K.EntryLog.loses c.args.context.now.exchange.now known g.D.ClientStreams.received (begins known.clients c.args.decided.now.value) done c.loop-started.back.seats.items c.loop-started.back.endings.items) (all_done seats h.0 h.1 none h.2) h.4

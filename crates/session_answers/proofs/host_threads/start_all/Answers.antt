@@ -8,5 +8,5 @@ pub returns : goal.returns
 returns g c =
     let x = c.args.context.now in
     let given : into_iter_items c.into_iter.result ≡ c.args.seats.items = c.into_iter.ensures.rest in
-    subst (λ (seats : List SeatState). AreEach (IsThreadOf g.K.History.loses g.D.ClientStreams.known g.D.ClientStreams.received x.exchange.now (g.D.ClientStreams.known x.streams.now) x.latch.now.id) seats c.start_rest.result.items) given
+    subst (λ (seats : List SeatState). AreEach (IsThreadOf g.K.EntryLog.loses g.D.ClientStreams.known g.D.ClientStreams.received x.exchange.now (g.D.ClientStreams.known x.streams.now) x.latch.now.id) seats c.start_rest.result.items) given
     (c.start_rest.ensures [] (rw c.requires.empty tt))

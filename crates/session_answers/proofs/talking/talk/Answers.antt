@@ -1,10 +1,22 @@
 use Rattle.std.proofs.Common.{◌≡◌, ◌∙◌, ◌++◌, ◌∷◌, [], ℕ, is_some, ap, ap₂, sym, subst, rules}
 use Rattle.batch.specs.Extent.{Extent}
 use Rattle.batch_book.specs.Values.{greatest}
+use Rattle.client_session.proofs.Listening.{tells_nothing}
 use Rattle.session_answers.specs.Hosting.{AreAllSeats, begun_at}
 use Rattle.session_answers.specs.Sessions.{Beginning, beginning}
 use Rattle.session_answers.proofs.Talks.{alone, all_there, has_talked}
 use Rattle.session_answers.proofs.talking.talk.Goals as goal
+
+pub returns-in_default-clause-beside : goal.returns-in_default-clause-beside
+returns-in_default-clause-beside g c = tells_nothing _
+
+pub returns-in-Err-clause-beside : goal.returns-in-Err-clause-beside
+returns-in-Err-clause-beside g c = tells_nothing _
+
+pub serve_client-seat-requires-clause-seat : goal.serve_client-seat-requires-clause-seat
+serve_client-seat-requires-clause-seat g c κs within =
+    let made = c.in-Ok-open_exchange.made in
+    (alone made.0 (greatest g.L.ExchangeName.earlier) made.1.items c.pop.new.self.items c.in-Some.seat c.in-Ok-open_exchange.ensures.seats c.in-Some.ensures.items).fresh
 
 pub finish-requires-clause-seats : goal.finish-requires-clause-seats
 finish-requires-clause-seats g c κs within =
@@ -18,7 +30,7 @@ finish-requires-clause-seats g c κs within =
 
 pub returns-clause-session : goal.returns-clause-session
 returns-clause-session g c =
-    let loses = g.K.History.loses in
+    let loses = g.K.EntryLog.loses in
     let made = c.in-Ok-open_exchange.made in
     let earlier = g.L.ExchangeName.earlier in
     let start = greatest earlier in

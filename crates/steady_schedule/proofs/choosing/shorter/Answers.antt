@@ -1,8 +1,9 @@
-use Rattle.std.proofs.Common.{◌≡◌, ◌-◌, ◌<◌, get_or, ◌≤◌, inl, inr, sym, ◌∙◌, arith}
+use Rattle.std.proofs.Common.{◌≡◌, ◌+◌, ◌-◌, ◌<◌, get_or, ◌≤◌, inl, inr, sym, ◌∙◌, arith}
 use Rattle.std.specs.Prelude.{max}
 use Rattle.std.proofs.lemmas.Bool.{false≢true}
-use Rattle.steady_schedule.specs.Reaches.{IsInWay}
-use Rattle.steady_schedule.proofs.Longest.{full_more, few_more}
+use Rattle.steady_schedule.specs.Waiting.{waiting}
+use Rattle.steady_schedule.specs.Reaches.{AreAtMost, IsInWay}
+use borrow.Author.Count.{below_more}
 use Rattle.steady_schedule.proofs.choosing.shorter.Goals as goal
 use Rattle.steady_schedule.proofs.choosing.shorter.Goals.{then-link-vain, then-link-vain-via-then-link-vain, then-link-vain-via-else-link-vain+then-is_seen, else-link-vain+else-is_seen}
 
@@ -26,8 +27,8 @@ loop-link-preserved c =
           let more : w.max.result ≡ max c.loop-link.settings (c.args.most - get_or w.side.result.now.uses n 0) = w.max.ensures in
           let larger : w.max-settings.result ≡ max w.max.result w.most_with.result = w.max-settings.ensures in
           rw w.settings-is (record {
-            full = full_more counts end vain.unseen vain.link c.args.most n c.loop-link.settings w.max-settings.result of (omega (arith, larger, more)) so_far.full (λ way. omega (arith, larger, more, waits, most));
-            few = few_more counts end vain.unseen vain.link c.args.most n c.loop-link.settings w.max-settings.result of (omega (arith, larger, more)) so_far.few (λ way y y_in free. omega (arith, larger, more, w.most_with.ensures.each y y_in free));
+            full = below_more (λ z. IsInWay vain.unseen vain.link of z → c.args.most ≤ waiting counts end z + w.max-settings.result) n (λ z lt way. omega (arith, larger, more, so_far.full z lt way)) (λ way. omega (arith, larger, more, waits, most));
+            few = below_more (λ z. IsInWay vain.unseen vain.link of z → AreAtMost counts end z vain.unseen w.max-settings.result) n (λ z lt way y y_in free. omega (arith, larger, more, so_far.few z lt way y y_in free)) (λ way y y_in free. omega (arith, larger, more, w.most_with.ensures.each y y_in free));
             least = λ s has. omega (arith, larger, more, waits, most, so_far.least s has, has.full n is, w.most_with.ensures.least s (has.few n is));
           })
       | else-link-vain+else-is_seen w ↦
@@ -36,8 +37,8 @@ loop-link-preserved c =
             | inr p ↦ false≢true (sym p.2 ∙ w.is_seen.ensures.unseen w.if-is_seen.false p.0 p.1)
           ] in
           rw w.settings-is (record {
-            full = full_more counts end vain.unseen vain.link c.args.most n c.loop-link.settings c.loop-link.settings of (omega arith) so_far.full (λ way. absurd (none way));
-            few = few_more counts end vain.unseen vain.link c.args.most n c.loop-link.settings c.loop-link.settings of (omega arith) so_far.few (λ way. absurd (none way));
+            full = below_more (λ z. IsInWay vain.unseen vain.link of z → c.args.most ≤ waiting counts end z + c.loop-link.settings) n so_far.full (λ way. absurd (none way));
+            few = below_more (λ z. IsInWay vain.unseen vain.link of z → AreAtMost counts end z vain.unseen c.loop-link.settings) n so_far.few (λ way. absurd (none way));
             least = so_far.least;
           })
     ]

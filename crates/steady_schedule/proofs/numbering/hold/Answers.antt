@@ -6,7 +6,7 @@ use Rattle.steady_schedule.specs.Steps.{AreTaken}
 use Rattle.steady_schedule.proofs.Matchings.{partner_low}
 use Rattle.steady_schedule.proofs.Waiting.{count_other}
 use Rattle.steady_schedule.proofs.Slots.{begun, not_joined, all_numbered, joined_numbered, joined_keeps, keep_all, keep_both}
-use Rattle.steady_schedule.proofs.Steps.{none_taken, untouched, free_taken, joined_taken, all_taken, behind_now, near_from_counts}
+use Rattle.steady_schedule.proofs.Steps.{none_taken, untouched, free_taken, joined_taken, all_taken, after_now, near_from_counts}
 use Rattle.steady_schedule.proofs.Sums.{partner_cases}
 use Rattle.steady_schedule.proofs.numbering.hold.Goals as goal
 use Rattle.steady_schedule.specs.Slots.{AreNumberedFrom}
@@ -47,7 +47,7 @@ loop-zero-preserved c =
     let n_in : n < MAX_MODULES = omega (arith, c.loop-zero-test.true, c.requires.within) in
     let here = so_far.ahead n (omega arith) in
     let ahead : (x : ℕ) → n + 1 ≤ x → partner now.zero x ≡ partner m.zero x = λ x le. c.hold_one.ensures.others x (λ e. omega (arith, e, le)) ∙ so_far.ahead x (omega (arith, le)) in
-    let behind = behind_now old.zero now.zero counts after n so_far.behind c.hold_one.ensures.others c.hold_one.ensures.rest in
+    let behind = after_now old.zero now.zero counts after n so_far.behind c.hold_one.ensures.others c.hold_one.ensures.rest in
     partner_cases (partner m.zero n) _
     (λ none.
     let h = c.hold_one.ensures.free (here ∙ none) in

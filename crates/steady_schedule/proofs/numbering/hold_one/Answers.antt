@@ -8,17 +8,8 @@ use Rattle.steady_schedule.proofs.Slots.{slot_inside}
 use Rattle.steady_schedule.proofs.Waiting.{count_here}
 use Rattle.steady_schedule.proofs.numbering.hold_one.Goals as goal
 
-pub take-requires-clause-three_in : goal.take-requires-clause-three_in
-take-requires-clause-three_in c = partner_low c.args.matching.now.zero c.args.matching.now.three c.args.zero c.in-Some.three c.args.matching.now.matched c.in-Some.is
-
 pub take-requires-clause-there : goal.take-requires-clause-there
 take-requires-clause-there c = c.requires.there c.in-Some.three c.in-Some.is
-
-pub count-rest-requires-clause-three_in : goal.count-rest-requires-clause-three_in
-count-rest-requires-clause-three_in c = partner_low c.args.matching.now.zero c.args.matching.now.three c.args.zero c.in-Some.three c.args.matching.now.matched c.in-Some.is
-
-pub slot-at-requires-clause-three_in : goal.slot-at-requires-clause-three_in
-slot-at-requires-clause-three_in c = partner_low c.args.matching.now.zero c.args.matching.now.three c.args.zero c.in-Some.three c.args.matching.now.matched c.in-Some.is
 
 module _ (totals remaining after : List ℕ) (u v k count : ℕ) (places : length remaining ≡ MAX_MODULES * MAX_MODULES) (u_in : u < MAX_MODULES) (v_in : v < MAX_MODULES) (taken : after ≡ set remaining (pair_index u v) (count_at remaining u v - k)) (counted : count ≡ count_at after u v) where
   is_less : count ≡ count_at remaining u v - k

@@ -1,6 +1,7 @@
-use Rattle.std.proofs.Common.{◌≤◌, ℕ, refl, sym, ap, ◌∙◌, subst, inl, inr, arith}
+use Rattle.std.proofs.Common.{◌≤◌, ℕ, refl, ap, ◌∙◌, inl, inr, arith}
 use Rattle.std.specs.Prelude.{min}
-use Rattle.std.proofs.lemmas.Bool.{cases_eq, cases_lt}
+use borrow.Author.Count.{below_more}
+use Rattle.std.proofs.lemmas.Bool.{cases_lt}
 use Rattle.steady_schedule.specs.Steps.{CanHoldAt}
 use Rattle.steady_schedule.specs.Steps.IsTight.{all}
 use Rattle.steady_schedule.proofs.Steps.{held_less, tighter, none_held}
@@ -22,14 +23,11 @@ loop-module-preserved c =
     record {
       some = omega (arith, c.min.ensures, c.min-settings.ensures, c.zero_room.ensures.some, c.three_room.ensures.some, c.loop-module.invariant.some);
       few = omega (arith, old, c.loop-module.invariant.few);
-      each = λ x lt. elim (cases_eq x c.loop-module.module) [
-        | inl e ↦ subst (λ (y : ℕ). CanHoldAt counts m.zero m.three c.args.most k y) (sym e) (record {
-          pair = λ y joined. omega (arith, zero, c.zero_room.ensures.pair y joined);
-          zero_out = λ none. omega (arith, zero, c.zero_room.ensures.out none);
-          three_out = λ none. omega (arith, three, c.three_room.ensures.out none);
-        })
-        | inr ne ↦ held_less counts m.zero m.three c.args.most c.loop-module.settings k x old (c.loop-module.invariant.each x (omega arith))
-      ];
+      each = below_more (CanHoldAt counts m.zero m.three c.args.most k) c.loop-module.module (λ x lt. held_less counts m.zero m.three c.args.most c.loop-module.settings k x old (c.loop-module.invariant.each x lt)) (record {
+        pair = λ y joined. omega (arith, zero, c.zero_room.ensures.pair y joined);
+        zero_out = λ none. omega (arith, zero, c.zero_room.ensures.out none);
+        three_out = λ none. omega (arith, three, c.three_room.ensures.out none);
+      });
       tight = tighter counts m.zero m.three c.args.most c.loop-module.settings c.zero_room.result t k c.loop-module.module (omega (arith, c.loop-module-test.true, c.requires.within)) is c.loop-module.invariant.tight c.zero_room.ensures.pair c.zero_room.ensures.out c.three_room.ensures.pair c.three_room.ensures.out;
     }
 

@@ -2,7 +2,7 @@ use Rattle.std.proofs.Common.{◌≡◌, ◌+◌, ◌∙◌, arith, refl}
 use Rattle.switch_settings.specs.RackWirings.{wired_in}
 use Rattle.switch_settings.specs.Sending.{pairs_at}
 use Rattle.switch_settings.proofs.Schedules.{pairs_are}
-use Rattle.switch_driver.proofs.Settings.{stands_so, known_behind, one_more, set_later}
+use Rattle.switch_driver.proofs.Settings.{stands_so, known_after, one_more, set_later}
 use Rattle.switch_driver.proofs.driving.drive.Goals as goal
 
 pub loop-setting-init : goal.loop-setting-init
@@ -30,9 +30,9 @@ loop-setting-preserved g c =
     record {
       count = invariant.count + 1;
       at = omega (arith, invariant.at);
-      stood = one_more g.S.Stage.hears c.args.rack batch settings c.args.first invariant.count k _ _ c.args.stage.now (g.P.ConfigPort.passed c.loop-setting.port) c.loop-setting.stage _ _ invariant.at numbers invariant.stood
+      stood = one_more g.S.DriveObserver.hears c.args.rack batch settings c.args.first invariant.count k _ _ c.args.stage.now (g.P.ConfigPort.passed c.loop-setting.port) c.loop-setting.stage _ _ invariant.at numbers invariant.stood
           (stands_so c.args.rack batch settings c.args.first invariant.count k c.loop-setting.standing c.as_slice.result.now _ _ invariant.at invariant.known sliced given.stands) c.in_default-stands.ensures;
-      known = known_behind batch settings c.args.first invariant.count k pairs invariant.at are;
+      known = known_after batch settings c.args.first invariant.count k pairs invariant.at are;
       standing = (
         c.of_setting-pairs.ensures.pairs (wired_in c.args.rack) c.requires.modules,
         set_later c.args.rack _ _ _ _ _ c.as_slice.ensures.pairs given.honesty given.set,

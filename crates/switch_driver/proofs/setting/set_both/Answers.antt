@@ -15,7 +15,7 @@ returns-clause-done g c = (
       (
         _,
         c.in_ok-ask_all-2.ensures.replied,
-        (_, c.in_ok-settle.ensures.passed, (_, c.in_ok-settle-2.ensures.passed, refl)),
+        (_, c.in_ok-send.ensures.passed, (_, c.in_ok-send-2.ensures.passed, refl)),
       ),
     ),
   ),
@@ -26,12 +26,12 @@ returns-in_err-ask_all-2-clause-vain g c =
     let p = err_from_is_err_and c.from_residual-in_err-ask_all-2.result c.from_residual-in_err-ask_all-2.ensures.1 in
     rw (p.1, p.2) (inr (_, c.in_ok-turn.ensures.passed, inr (_, c.in_ok-turn-2.ensures.passed, inr (_, c.in_ok-ask_all.ensures.replied, inl c.in_err-ask_all-2.ensures.vain))))
 
-pub returns-in_err-settle-clause-vain : goal.returns-in_err-settle-clause-vain
-returns-in_err-settle-clause-vain g c =
-    let p = err_from_is_err_and c.from_residual-in_err-settle.result c.from_residual-in_err-settle.ensures.1 in
-    rw (p.1, p.2) (inr (_, c.in_ok-turn.ensures.passed, inr (_, c.in_ok-turn-2.ensures.passed, inr (_, c.in_ok-ask_all.ensures.replied, inr (_, c.in_ok-ask_all-2.ensures.replied, inl c.in_err-settle.ensures.broken)))))
+pub returns-in_err-send-clause-vain : goal.returns-in_err-send-clause-vain
+returns-in_err-send-clause-vain g c =
+    let p = err_from_is_err_and c.from_residual-in_err-send.result c.from_residual-in_err-send.ensures.1 in
+    rw (p.1, p.2) (inr (_, c.in_ok-turn.ensures.passed, inr (_, c.in_ok-turn-2.ensures.passed, inr (_, c.in_ok-ask_all.ensures.replied, inr (_, c.in_ok-ask_all-2.ensures.replied, inl c.in_err-send.ensures.broken)))))
 
-pub returns-in_err-settle-2-clause-vain : goal.returns-in_err-settle-2-clause-vain
-returns-in_err-settle-2-clause-vain g c =
-    let p = err_from_is_err_and c.from_residual-in_err-settle-2.result c.from_residual-in_err-settle-2.ensures.1 in
-    rw (p.1, p.2) (inr (_, c.in_ok-turn.ensures.passed, inr (_, c.in_ok-turn-2.ensures.passed, inr (_, c.in_ok-ask_all.ensures.replied, inr (_, c.in_ok-ask_all-2.ensures.replied, inr (_, c.in_ok-settle.ensures.passed, inl c.in_err-settle-2.ensures.broken))))))
+pub returns-in_err-send-2-clause-vain : goal.returns-in_err-send-2-clause-vain
+returns-in_err-send-2-clause-vain g c =
+    let p = err_from_is_err_and c.from_residual-in_err-send-2.result c.from_residual-in_err-send-2.ensures.1 in
+    rw (p.1, p.2) (inr (_, c.in_ok-turn.ensures.passed, inr (_, c.in_ok-turn-2.ensures.passed, inr (_, c.in_ok-ask_all.ensures.replied, inr (_, c.in_ok-ask_all-2.ensures.replied, inr (_, c.in_ok-send.ensures.passed, inl c.in_err-send-2.ensures.broken))))))

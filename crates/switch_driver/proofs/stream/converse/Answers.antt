@@ -1,7 +1,7 @@
 use Rattle.std.proofs.Common.{◌≡◌, ◌<◌, ◌+◌, ◌++◌, ◌∷◌, [], List, ℕ, length, take, drop, get_or, sym, ap, ◌∙◌, arith, rules}
 use Rattle.std.proofs.lemmas.List.{take-append-drop, take_all, take_more_set}
 use Rattle.crossbar.proofs.Carrying.{take_more, goes_on, spells_conversation}
-use Rattle.switch_driver.proofs.Conversing.{none_so_far, quiet_more, asked_more, fits, all_conversed, broke_within, broke_behind}
+use Rattle.switch_driver.proofs.Conversing.{none_so_far, quiet_more, asked_more, fits, all_conversed, broke_within, broke_after}
 use Rattle.switch_driver.proofs.Streams.{at_err}
 use Rattle.switch_driver.proofs.stream.converse.Goals.{in-Some-2, in_default-2}
 use Rattle.switch_driver.proofs.stream.converse.Goals as goal
@@ -69,4 +69,4 @@ returns-clause-whole g c =
 pub returns-clause-broken : goal.returns-clause-broken
 returns-clause-broken g c =
     let all = take_all c.loop-byte.byte-index c.args.bytes.now c.loop-byte-test.false in
-    at_err c.flush.result (broke_behind _ _ _ _ _ _ _ _ _ _ _ _ c.loop-byte.invariant all)
+    at_err c.flush.result (broke_after _ _ _ _ _ _ _ _ _ _ _ _ c.loop-byte.invariant all)

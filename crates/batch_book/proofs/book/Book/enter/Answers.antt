@@ -15,7 +15,7 @@ pub push-requires-clause-answers : goal.push-requires-clause-answers
 push-requires-clause-answers g c =
     let inside = c.self.inside in
     let shape : IsShape inside.holdings.store.shape = subst (λ (s : Store). IsShape s.shape) c.rack.ensures c.shape-shape.ensures.whole.within in
-    let fits = (answered inside.holdings c.args.session c.args.call c.in_ok-told.reply _ (sound inside.opening (g.H.History.pushed inside.history) inside.holdings shape c.self.invariant.0.replay) c.in_ok-told.ensures.step).fits in
+    let fits = (answered inside.holdings c.args.session c.args.call c.in_ok-told.reply _ (sound inside.opening (g.H.EntryLog.pushed inside.history) inside.holdings shape c.self.invariant.0.replay) c.in_ok-told.ensures.step).fits in
     let same : c.new.result ≡ c.args.call = c.new.ensures ∙ c.of-asked.ensures in
     subst (λ (k : Call). IsReplyTo k c.of.result) (sym same) (subst (IsReplyTo c.args.call) (sym c.of.ensures) fits)
 
@@ -23,30 +23,30 @@ pub value-requires : goal.value-requires
 value-requires g c =
     let inside = c.self.inside in
     let shape : IsShape inside.holdings.store.shape = subst (λ (s : Store). IsShape s.shape) c.rack.ensures c.shape-shape.ensures.whole.within in
-    value_below inside.holdings c.args.call c.in_ok-told.reply (answered inside.holdings c.args.session c.args.call c.in_ok-told.reply _ (sound inside.opening (g.H.History.pushed inside.history) inside.holdings shape c.self.invariant.0.replay) c.in_ok-told.ensures.step) c.self.invariant.0.few_runs
+    value_below inside.holdings c.args.call c.in_ok-told.reply (answered inside.holdings c.args.session c.args.call c.in_ok-told.reply _ (sound inside.opening (g.H.EntryLog.pushed inside.history) inside.holdings shape c.self.invariant.0.replay) c.in_ok-told.ensures.step) c.self.invariant.0.few_runs
 
 pub invariant_of-self-2 : goal.invariant_of-self-2
 invariant_of-self-2 g c =
     let inside = c.self.inside in
-    let h = g.H.History in
+    let h = g.H.EntryLog in
     let same : c.new.result ≡ c.args.call = c.new.ensures ∙ c.of-asked.ensures in
     let longer : h.pushed c.push.new.self ≡ h.pushed inside.history ++ entry c.args.session c.args.call c.in_ok-told.reply ∷ [] =
     c.push.ensures.pushed ∙ (λ i. c.draft.ensures.pushed i ++ entry c.args.session (same i) (c.of.ensures i) ∷ []) in
-    let stands = either_stands c.draft.ensures.stands c.push.ensures.stands in
+    let stands = either_stands h.loses c.draft.ensures.stands c.push.ensures.waits c.push.ensures.all in
     let room : has_book_room h.limited (account inside.opening (h.pushed inside.history) (h.stands inside.history) inside.holdings (h.whole inside.history)) ≡ true = rw (← c.self.view_is) at c.requires.room in (
       grown h.limited h.loses (account inside.opening (h.pushed inside.history) (h.stands inside.history) inside.holdings (h.whole inside.history)) c.args.session c.args.call c.in_ok-told.reply _ _ _ (h.whole c.push.new.self)
-          c.self.invariant.0 (room_of _ _ room) longer stands c.in_ok-told.ensures.step (c.push.ensures.whole ∙ c.draft.ensures.whole),
+          c.self.invariant.0 (room_of _ _ room) longer stands c.push.ensures.all c.in_ok-told.ensures.step (c.push.ensures.whole ∙ c.draft.ensures.whole),
       further (h.pushed inside.history) (h.pushed c.push.new.self) (entry c.args.session c.args.call c.in_ok-told.reply) inside.furthest c.value.result c.max-self-inside.result c.self.invariant.1 c.value.ensures c.max-self-inside.ensures longer,
     )
 
 pub returns-clause-step : goal.returns-clause-step
 returns-clause-step g c =
     let inside = c.self.inside in
-    let h = g.H.History in
+    let h = g.H.EntryLog in
     let same : c.new.result ≡ c.args.call = c.new.ensures ∙ c.of-asked.ensures in
     let longer : h.pushed c.push.new.self ≡ h.pushed inside.history ++ entry c.args.session c.args.call c.in_ok-told.reply ∷ [] =
     c.push.ensures.pushed ∙ (λ i. c.draft.ensures.pushed i ++ entry c.args.session (same i) (c.of.ensures i) ∷ []) in
-    let stands = either_stands c.draft.ensures.stands c.push.ensures.stands in
+    let stands = either_stands h.loses c.draft.ensures.stands c.push.ensures.waits c.push.ensures.all in
     let old = account inside.opening (h.pushed inside.history) (h.stands inside.history) inside.holdings (h.whole inside.history) in
     let new = account inside.opening (h.pushed c.push.new.self) (h.stands c.push.new.self) c.answer.new.self (h.whole c.push.new.self) in
     let step = c.in_ok-told.ensures.step in

@@ -1,8 +1,7 @@
-use Rattle.std.proofs.Common.{◌∙◌, ◌++◌, ap, refl, sym, subst, length, length-append, true≢false, arith}
-use Rattle.batch_book.specs.History.{Starts}
+use Rattle.std.proofs.Common.{◌∙◌, ◌++◌, ap, refl, sym, length, length-append, true≢false, arith}
 use Rattle.batch_book.specs.Places.{are_up_to}
-use Rattle.batch_book.specs.Recording.{made_in, noted, marked_in}
-use Rattle.batch_book.proofs.Noting.{asked, kept_more, made_append, raised_more, told_more}
+use Rattle.batch_book.specs.Recording.{made_in, noted}
+use Rattle.batch_book.proofs.Noting.{asked, kept_more, made_append, raised_more}
 use Rattle.batch_book.proofs.Places.{low_noted}
 use Rattle.batch_book.proofs.locked.Locked.ask.Goals as goal
 
@@ -30,9 +29,9 @@ invariant_of-self g c =
     let history = e.history ∙ ap (λ k. notes ++ noted c.args.session 0 k r) c.of-asked.ensures in
     let counted = ap length (ap made_in e.history ∙ made_append notes _) ∙ length-append (made_in notes) _ in
     record {
+      sure = old.sure;
       counted = omega (arith, counted, e.total, old.counted);
       kept = kept_more g.L.ExchangeName.earlier notes old.book _ c.args.session 0 c.args.call r step old.kept ∙ ap (λ ns. g.L.ExchangeName.earlier ++ made_in ns) (sym history);
-      told = subst (λ ns. Starts (g.L.ExchangeName.earlier ++ marked_in ns) c.apply-made.new.book.stands) (sym history) (told_more g.L.ExchangeName.earlier notes old.book _ c.args.session 0 c.args.call r step old.told);
       opened = c.apply-made.ensures.opening ∙ old.opened;
       unstopped = c.apply-made.ensures.unstopped old.unstopped;
     }

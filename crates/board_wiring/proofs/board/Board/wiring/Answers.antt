@@ -8,7 +8,7 @@ use Rattle.board_wiring.proofs.Modules.{has_ports}
 use Rattle.board_wiring.proofs.Placing.{first_placed, moved_length, next_placed}
 use Rattle.board_wiring.proofs.board.Board.wiring.Goals as goal
 
--- what stands for a module behind the last
+-- what stands for a module after the last
 nothing : WiredModule
 nothing = record { number = 0; link0 = None; link3 = None }
 

@@ -4,9 +4,9 @@ use Rattle.client_session.specs.Seats.{seat_view}
 use Rattle.client_session.proofs.exchange_seat.ExchangeSeat.settle.Goals as goal
 
 pub returns-clause-ok : goal.returns-clause-ok
-returns-clause-ok g c = rw (← c.self.view_is) (ap (seat_view g.X.Entries.History.loses c.self.inside.shared.now.shape) (rw c.in_ok-settle.was at c.settle.ensures.settled))
+returns-clause-ok g c = rw (← c.self.view_is) (ap (seat_view g.X.Entries.EntryLog.loses c.self.inside.shared.now.shape) (rw c.in_ok-settle.was at c.settle.ensures.settled))
 
 pub returns-in_err-settle-clause-err : goal.returns-in_err-settle-clause-err
 returns-in_err-settle-clause-err g c =
     let p = err_from_is_err_and c.from_residual.result c.from_residual.ensures.1 in
-    rw (p.1, ← c.self.view_is) (ap (seat_view g.X.Entries.History.loses c.self.inside.shared.now.shape) (rw c.in_err-settle.was at c.settle.ensures.settled))
+    rw (p.1, ← c.self.view_is) (ap (seat_view g.X.Entries.EntryLog.loses c.self.inside.shared.now.shape) (rw c.in_err-settle.was at c.settle.ensures.settled))

@@ -15,6 +15,6 @@ returns c =
       answers = sym c.if-not-are_answers.ensures;
       room = omega arith;
       begun = front;
-      behind = c.has_zeros_behind.ensures.0 c.if-not-has_zeros_behind.false;
+      behind = c.has_zeros_after.ensures.0 c.if-not-has_zeros_after.false;
       connecting = c.if-self-gt1.false;
     }) (rw c.from.ensures at c.reader_of.ensures)

@@ -1,0 +1,301 @@
+//! Where entries wait that the record's side takes over.
+
+ghost use Rattle.std.specs.Prelude.{◌≡◌, ◌+◌, ◌++◌, ◌∷◌, ◌≤◌, ◌<◌, ◌||◌, [], true, if◌then◌else◌, List, length, IsSome};
+ghost use Rattle.batch_book.specs.declared.entry.Entry.{Entry};
+ghost use Rattle.batch_book.specs.declared.limits.TheConstants.{BOOK_SIDE, RECORD_SIDE};
+ghost use Rattle.batch_book.specs.History.{Starts};
+ghost use Rattle.batch_book.specs.Places.{are_placed, last_place, notes_of, AreMarkedUpTo};
+ghost use Rattle.batch_book.specs.Recording.{made_in, note, marked_in};
+ghost use Rattle.batch_book.specs.Replies.{is_logged};
+ghost use Rattle.batch_book.specs.Seats.{IsSettled};
+ghost use Rattle.batch_book.specs.Sides.{side_lists, stood_in, taken_in};
+
+use crate::book::Book;
+use crate::call::Call;
+use crate::ghost_history::{GhostHistory, HistorySnapshot};
+use crate::limits::{BOOK_SIDE, RECORD_SIDE};
+use crate::naming::ExchangeName;
+use crate::noted::NotedEntry;
+use crate::pending_entries::PendingEntries;
+use crate::reply::Reply;
+use crate::seat::{Place, Seat, mark};
+use crate::unrecorded::Unrecorded;
+use own_lists::{Keeper, OwnList};
+use std::marker::PhantomData;
+use std::mem;
+use std::snapshot::Snapshot;
+use std::sync::ledger;
+use std::sync::ledger::Share;
+
+/// From how many microseconds on a writing is slow, and the most that a nap takes.
+const SLOW: u64 = 1000;
+
+const LONGEST_NAP: u64 = 20_000;
+
+/// Where entries wait, under a lock of its own that is held for a moment only: the text of those
+/// that were handed on and weren't taken over yet, how many were handed on, the ledger's total, and
+/// the keeper of the lists.
+///
+/// Each entry has the next place. The book's side has noted all entries, and those that were handed
+/// on; the record's side those that were taken over. What could be told to a session are its first
+/// entries up to the place that the record's side noted last.
+#[derive(Drop)]
+pub struct CommitQueue<L: ExchangeName, E: PendingEntries> {
+    pub text: Vec<u8>,
+    pub count: u64,
+    // Up to which place all entries stand where they belong.
+    pub front: u64,
+    // Whether who writes waits for more entries first, up to which place some may soon come, and how
+    // many microseconds it naps meanwhile: none where a writing is quick.
+    pub gathers: bool,
+    pub due: u64,
+    pub nap: u64,
+    // Whether a seat writes.
+    pub writes: bool,
+    // How many writings were begun, and up to which place entries went with them.
+    pub round: u64,
+    pub taken_over: u64,
+    // Whether there was no memory to hand an entry on. Then it may go with a later writing.
+    pub late: bool,
+    pub handed: Snapshot<GhostHistory>,
+    pub entries: ledger::Book<L>,
+    pub keeper: Keeper<NotedEntry, L>,
+    pub of: PhantomData<E>,
+    pub ghost counted: { length (made_in keeper.history) ≡ entries.total },
+    pub ghost placed: { are_placed 0 keeper.history ≡ true },
+    pub ghost known: { side_lists L.earlier (notes_of BOOK_SIDE keeper.history)
+        ≡ (L.earlier ++ made_in keeper.history, handed.value) },
+    pub ghost first: { Starts handed.value (L.earlier ++ made_in keeper.history) },
+    pub ghost many: { length handed.value ≡ length L.earlier + count },
+    pub ghost taken: { Starts (taken_in L.earlier keeper.history) handed.value },
+    pub ghost waits: { text.items
+        ≡ E.texts (taken_in L.earlier keeper.history) handed.value },
+    pub ghost stood: { stood_in keeper.history ≡ front },
+    pub ghost told: { AreMarkedUpTo front keeper.history },
+}
+
+impl<L: ExchangeName, E: PendingEntries> CommitQueue<L, E> {
+    /// Whether a writing has failed: not all that was taken over stands, and no seat writes. Then no
+    /// call is made any more.
+    pub fn is_lost(&self) -> bool {
+        !self.writes && self.front < self.taken_over
+    }
+
+    /// Whether a seat writes, and not all entries up to this place stand.
+    pub fn must_wait(&self, place: u64) -> bool {
+        self.writes && self.front < place
+    }
+
+    /// Whether an entry of this place goes with a writing whose number is odd.
+    pub fn is_odd(&self, place: u64) -> bool {
+        if place <= self.taken_over {
+            self.round % 2 == 1
+        } else {
+            self.round % 2 == 0
+        }
+    }
+
+    /// Whether who sleeps may do so where its entry's writing doesn't wake it.
+    pub fn wakes_all(&self) -> bool {
+        self.is_lost() || self.late
+    }
+
+    /// Whether entries up to this place have to be written. Then the seat that asks writes them.
+    pub fn begin(&mut self, place: u64) -> bool {
+        if self.is_lost() || place <= self.front {
+            return false;
+        }
+        self.writes = true;
+        true
+    }
+
+    /// A seat has written, in so many microseconds, since all entries up to this place stood. Each
+    /// whose entry was written may soon ask again.
+    pub fn end(&mut self, before: u64, micros: u64) {
+        self.writes = false;
+        self.due = self.count.saturating_add(self.front.saturating_sub(before));
+        self.nap = if micros < SLOW {
+            0
+        } else {
+            (micros / 8).min(LONGEST_NAP)
+        };
+    }
+
+    /// Notes a call whose entry has this place, and takes in what the book's side hands on. Where
+    /// there is no memory for that it waits at the book.
+    pub fn enter(
+        &mut self,
+        book: &mut Book<E>,
+        place: u64,
+        share: &mut Share<L>,
+        lists: (OwnList<NotedEntry, L>, OwnList<NotedEntry, L>),
+        session: usize,
+        call: Snapshot<Call>,
+        reply: &Reply,
+    ) -> (OwnList<NotedEntry, L>, OwnList<NotedEntry, L>)
+        requires session { lists.0.session ≡ session }
+        requires side { lists.1.session ≡ BOOK_SIDE }
+        requires logged { is_logged reply.now ≡ true }
+        requires parts { 0 < share.old.parts }
+        requires grown { book.old.history ≡ (side_lists L.earlier lists.1.list).0
+            ++ made_in (note session place call.value reply.now ∷ []) }
+        requires stands { book.old.stands ≡ (side_lists L.earlier lists.1.list).1 }
+        requires place { length book.old.history ≡ length L.earlier + place }
+        ensures history { book.new.history ≡ book.old.history }
+        ensures opening { book.new.opening ≡ book.old.opening }
+        ensures session { result.0.session ≡ session }
+        ensures list { result.0.list ≡ lists.0.list
+            ++ note session place call.value reply.now ∷ [] }
+        ensures side { result.1.session ≡ BOOK_SIDE }
+        ensures lists { side_lists L.earlier result.1.list
+            ≡ (book.new.history, book.new.stands) }
+        ensures amount { share.new.amount ≡ share.old.amount + 1 }
+        ensures parts { share.new.parts ≡ share.old.parts }
+    {
+        let (own, its) = lists;
+        let its = self.keeper.compare(its);
+        self.entries.add(share, 1);
+        let own = self
+            .keeper
+            .add(own, &NotedEntry::of(session, place, call, reply));
+        drain_into::<L, E>(
+            book,
+            place,
+            &mut self.text,
+            &mut self.handed,
+            &mut self.count,
+        );
+        self.late |= self.count != place;
+        let all = Snapshot::of(&book.past());
+        let note = NotedEntry::side(BOOK_SIDE, 0, &all, &Snapshot::of(&self.handed));
+        let its = self.keeper.add(its, &note);
+        (own, its)
+    }
+
+    /// Hands all that waits over to the record's side: all entries that were handed on, and how
+    /// many. Their text changes places with the spare one.
+    pub fn take_queue(
+        &mut self,
+        own: OwnList<NotedEntry, L>,
+        spare: &mut Vec<u8>,
+    ) -> (HistorySnapshot, u64, OwnList<NotedEntry, L>)
+        requires side { own.session ≡ RECORD_SIDE }
+        requires spare { spare.old.items ≡ [] }
+        requires none { (all : List Entry) → E.texts all all ≡ [] }
+        ensures first { Starts (side_lists L.earlier own.list).0 result.0.value.value }
+        ensures text { spare.new.items
+            ≡ E.texts (side_lists L.earlier own.list).0 result.0.value.value }
+        ensures count { length result.0.value.value ≡ length L.earlier + result.1 }
+        ensures side { result.2.session ≡ RECORD_SIDE }
+        ensures taken { (side_lists L.earlier result.2.list).0 ≡ result.0.value.value }
+        ensures place { last_place 0 result.2.list ≡ last_place 0 own.list }
+    {
+        let own = self.keeper.compare(own);
+        let all = Snapshot::of(&self.handed);
+        let note = NotedEntry::side(RECORD_SIDE, self.front, &all, &all);
+        let own = self.keeper.add(own, &note);
+        mem::swap(&mut self.text, spare);
+        self.round = self.round.saturating_add(1);
+        self.taken_over = self.count;
+        (all, self.count, own)
+    }
+
+    /// Notes up to which place all entries stand where they belong, of those that the record's side
+    /// has taken over.
+    pub fn stand(
+        &mut self,
+        own: OwnList<NotedEntry, L>,
+        taken: &HistorySnapshot,
+        front: u64,
+    ) -> OwnList<NotedEntry, L>
+        requires side { own.session ≡ RECORD_SIDE }
+        requires taken { (side_lists L.earlier own.list).0 ≡ taken.now.value.value }
+        requires below { last_place 0 own.list ≤ front }
+        ensures side { result.session ≡ RECORD_SIDE }
+        ensures taken { (side_lists L.earlier result.list).0 ≡ taken.now.value.value }
+        ensures place { last_place 0 result.list ≡ front }
+    {
+        let own = self.keeper.compare(own);
+        let note = NotedEntry::side(RECORD_SIDE, front, taken, taken);
+        self.front = front;
+        self.keeper.add(own, &note)
+    }
+
+    /// Notes that all that the seat has asked can be told, if it stands where it belongs; else the
+    /// record of its calls is broken.
+    pub fn settle(&mut self, seat: &mut Seat<L>) -> Result<(), Unrecorded>
+        requires { IsSome seat.old.exchange }
+        ensures { IsSettled seat.old result seat.new }
+    {
+        let session = seat.session;
+        let Some(place) = seat.place.take() else {
+            unreachable!()
+        };
+        if self.front < place.last {
+            // It was lost, or there was no memory to hand it on.
+            seat.place = Some(place.break_off());
+            return Err(Unrecorded);
+        }
+        seat.place = Some(self.mark(session, place));
+        Ok(())
+    }
+
+    // Notes that all which a session has asked can be told.
+    fn mark(&mut self, session: usize, place: Place<L>) -> Place<L>
+        requires session { place.own.session ≡ session }
+        requires covered { place.last ≤ self.old.front }
+        ensures access { result.access ≡ place.access }
+        ensures made { made_in result.own.list ≡ made_in place.own.list }
+        ensures told { marked_in result.own.list ≡ made_in place.own.list }
+        ensures session { result.own.session ≡ session }
+        ensures broken { result.broken ≡ place.broken }
+    {
+        let Place {
+            access,
+            own,
+            last,
+            waits,
+            broken,
+        } = place;
+        let own = self.keeper.compare(own);
+        let place = Place {
+            access,
+            own,
+            last,
+            waits,
+            broken,
+        };
+        mark(&mut self.keeper, session, place)
+    }
+}
+
+// Takes in what the book's side hands on, where there is memory for it.
+fn drain_into<L: ExchangeName, E: PendingEntries>(
+    book: &mut Book<E>,
+    place: u64,
+    text: &mut Vec<u8>,
+    handed: &mut Snapshot<GhostHistory>,
+    count: &mut u64,
+)
+    requires handed { handed.old.value ≡ book.old.stands }
+    requires first { Starts book.old.stands book.old.history }
+    requires place { length book.old.history ≡ length L.earlier + place }
+    requires many { length book.old.stands ≡ length L.earlier + count.old }
+    ensures history { book.new.history ≡ book.old.history }
+    ensures opening { book.new.opening ≡ book.old.opening }
+    ensures handed { handed.new.value ≡ book.new.stands }
+    ensures more { Starts book.old.stands book.new.stands }
+    ensures first { Starts book.new.stands book.new.history }
+    ensures many { length book.new.stands ≡ length L.earlier + count.new }
+    ensures text { (taken : List Entry) → Starts taken book.old.stands
+        → text.old.items ≡ E.texts taken book.old.stands
+        → text.new.items ≡ E.texts taken book.new.stands }
+{
+    match book.queue_text(text) {
+        Ok(()) => {
+            *handed = book.past();
+            *count = place;
+        }
+        Err(_) => {}
+    }
+}

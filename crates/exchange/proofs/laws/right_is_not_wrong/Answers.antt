@@ -1,0 +1,5 @@
+use Rattle.exchange.proofs.PromisedRights.{not_right}
+use Rattle.exchange.proofs.laws.right_is_not_wrong.Goals as goal
+
+pub returns : goal.returns
+returns c = not_right

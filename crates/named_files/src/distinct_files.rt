@@ -1,0 +1,239 @@
+//! Which files the names of a job lead to: none that it writes is one that it reads, or writes too.
+
+ghost use Rattle.std.specs.Prelude.{◌≡◌, ◌↔◌, All, IfErr, IfOk, IfSome, IsTrue, OnOk, codes, false, string_bytes};
+ghost use Rattle.command_words.specs.Jobs.{file_uses as the_uses};
+ghost use Rattle.command_words.specs.declared.uses.Access.TheVariants.{Port};
+ghost use Rattle.named_files.specs.declared.place.FileKind.TheVariants.{Null, Plain};
+ghost use Rattle.named_files.specs.DistinctFiles.{HaveNoClash, AreSeenApart, Clash, IsBarred, IsBarredSeen, IsClashSeen, IsNoneOf, IsOther, IsSeen};
+ghost use Rattle.named_files.specs.Notes.{IsWholeLine, IsRefused};
+
+use crate::notes::NoAnswer;
+use crate::place::{FileKind, Place, Places, are_one_file};
+use crate::unanswered::Unanswered;
+use command_words::{Access, FileUse, Job, RoleClash, Text, file_uses};
+use refusal_notes::{Named, file_line};
+use std::alloc::{AllocError, Global};
+use std::marker::Model;
+use std::snapshot::Snapshot;
+
+/// Shows that the files of a job are apart, as far as that can be told: it is made of that look
+/// alone. Contracts see the job.
+#[derive(Drop)]
+pub struct DistinctFiles {
+    files: Vec<FileUse>,
+    // A value that contracts alone see.
+    job: Snapshot<Job>,
+}
+
+impl Model for DistinctFiles {
+    ghost use Rattle.std.specs.Prelude.{◌≡◌};
+    ghost use Rattle.command_words.specs.Jobs.{file_uses};
+    ghost use Rattle.command_words.specs.declared.jobs.Job.{Job};
+
+    ghost Value = { Job };
+
+    ghost view = { λ apart. apart.job.value };
+
+    ghost invariant = { λ apart. apart.files.items ≡ file_uses apart.job.value };
+}
+
+impl DistinctFiles {
+    /// All files that the job names.
+    pub(crate) fn files(&self) -> &[FileUse]
+        ensures { result.now ≡ the_uses self.now }
+    {
+        self.files.as_slice()
+    }
+}
+
+/// Whether it is a port.
+fn is_port(access: Access) -> bool
+    ensures { IsTrue result ↔ (access ≡ Port) }
+{
+    matches!(access, Access::Port)
+}
+
+/// Whether files of these uses have to be two, and are one. A character device may be one, but as a
+/// port.
+fn clash_at(one: Access, other: Access, place: &Place, there: &Place) -> bool
+    ensures { IsTrue result ↔ Clash one other place.now there.now }
+{
+    one.excludes(other)
+        && are_one_file(place, there)
+        && (!place.kind.is_device() || is_port(one) || is_port(other))
+}
+
+/// The same, where both can be told.
+fn clash_seen(one: Access, other: Access, place: &Option<Place>, there: &Option<Place>) -> bool
+    ensures { IsTrue result ↔ IsClashSeen one other place.now there.now }
+{
+    match (place, there) {
+        (Some(place), Some(there)) => clash_at(one, other, place, there),
+        _ => false,
+    }
+}
+
+/// Whether two files that have to be two are one, as far as that can be told.
+fn clash<S: Places>(system: &S, one: &FileUse, other: &FileUse) -> Result<bool, AllocError>
+    ensures { IfOk result (λ clash. IsSeen (S.leads system.now) one.now other.now clash) }
+{
+    let place = system.place(one.name.as_str())?;
+    let there = system.place(other.name.as_str())?;
+    Ok(clash_seen(one.access, other.access, &place, &there))
+}
+
+/// What is told of two names that lead to one file.
+fn one_file_line(alloc: Global, one: &FileUse, other: &FileUse) -> Option<String>
+    ensures { IfSome result (λ line. IsWholeLine (string_bytes line)) }
+{
+    let clash = RoleClash {
+        first: one.role(),
+        later: other.role(),
+    };
+    let first = Named::only(one.name.as_str());
+    let reason = format!(in alloc; "the same file as {first}, and {clash}").ok()?;
+    file_line(alloc, other.name.as_str(), reason.as_str())
+}
+
+/// Why a job isn't done where two of its files are one, and what is told of them.
+fn refused(alloc: Global, one: &FileUse, other: &FileUse) -> NoAnswer
+    ensures { IsRefused result }
+{
+    let note = one_file_line(alloc, one, other);
+    NoAnswer::Refused {
+        why: Unanswered::File,
+        note,
+    }
+}
+
+/// Looks whether a file and each of others are two, where they have to be.
+fn look_at<S: Places>(
+    system: &S,
+    alloc: Global,
+    file: &FileUse,
+    others: &[FileUse],
+) -> Result<(), NoAnswer>
+    ensures apart { OnOk result
+        (All (λ other. IsSeen (S.leads system.now) other file.now false) others.now) }
+    ensures note { IfErr result (λ missed. IsRefused missed) }
+{
+    for other in others {
+        if clash(system, other, file)? {
+            return Err(refused(alloc, other, file));
+        }
+    }
+    Ok(())
+}
+
+/// Looks whether each two of these files are two, where they have to be.
+fn look_through<S: Places>(system: &S, alloc: Global, files: &[FileUse]) -> Result<(), NoAnswer>
+    ensures apart { OnOk result (HaveNoClash (S.leads system.now) files.now) }
+    ensures note { IfErr result (λ missed. IsRefused missed) }
+{
+    for i in 0..files.len() {
+        look_at(system, alloc, &files[i], &files[..i])?;
+    }
+    Ok(())
+}
+
+/// Whether it is a plain file.
+fn is_plain(kind: FileKind) -> bool
+    ensures { IsTrue result ↔ (kind ≡ Plain) }
+{
+    matches!(kind, FileKind::Plain)
+}
+
+/// Whether it is the null device.
+fn is_null(kind: FileKind) -> bool
+    ensures { IsTrue result ↔ (kind ≡ Null) }
+{
+    matches!(kind, FileKind::Null)
+}
+
+/// Whether no standard stream may lead to a file of this use: to no plain file, nor, but for the
+/// null device, to one that is written.
+fn is_barred(access: Access, kind: FileKind) -> bool
+    ensures { IsTrue result ↔ IsBarred access kind }
+{
+    is_plain(kind) || (access.excludes(Access::Read) && !is_null(kind))
+}
+
+/// Whether a stream leads to such a file, as far as that can be told.
+fn is_barred_seen(access: Access, place: &Option<Place>, there: &Option<Place>) -> bool
+    ensures { IsTrue result ↔ IsBarredSeen access place.now there.now }
+{
+    match (place, there) {
+        (Some(place), Some(there)) => is_barred(access, place.kind) && are_one_file(place, there),
+        _ => false,
+    }
+}
+
+/// Looks whether a stream that leads to this place is none of these files, but where it may be.
+/// Where it is another, this is why there is no answer; what is told of that may go to standard
+/// error, or nowhere.
+fn look_beside<S: Places>(
+    system: &S,
+    alloc: Global,
+    place: &Option<Place>,
+    files: &[FileUse],
+    why: Unanswered,
+    tells: bool,
+) -> Result<(), NoAnswer>
+    ensures none { OnOk result (All (IsOther (S.leads system.now) place.now) files.now) }
+    ensures note { IfErr result (λ missed. IsRefused missed) }
+{
+    for file in files {
+        let there = system.place(file.name.as_str())?;
+        if is_barred_seen(file.access, place, &there) {
+            return Err(unanswered(alloc, &file.name, why, tells));
+        }
+    }
+    Ok(())
+}
+
+/// Why a job isn't done where a standard stream is one of its files.
+fn unanswered(alloc: Global, file: &Text, why: Unanswered, tells: bool) -> NoAnswer
+    ensures { IsRefused result }
+{
+    match why {
+        Unanswered::Output if tells => {
+            let reason = "standard output goes there, and nothing else may";
+            let note = file_line(alloc, file.as_str(), reason);
+            NoAnswer::Refused { why, note }
+        }
+        _ => NoAnswer::Refused { why, note: None },
+    }
+}
+
+/// Looks whether standard output and standard error are none of these files, but where they may be.
+/// Where standard error is another, nothing is told there.
+fn look_at_streams<S: Places>(system: &S, alloc: Global, files: &[FileUse]) -> Result<(), NoAnswer>
+    ensures out { OnOk result (IsNoneOf (S.leads system.now) (codes "/dev/stdout") files.now) }
+    ensures err { OnOk result (IsNoneOf (S.leads system.now) (codes "/dev/stderr") files.now) }
+    ensures note { IfErr result (λ missed. IsRefused missed) }
+{
+    let out = system.place("/dev/stdout")?;
+    let err = system.place("/dev/stderr")?;
+    let end = look_beside(system, alloc, &err, files, Unanswered::File, false);
+    look_beside(system, alloc, &out, files, Unanswered::Output, end.is_ok())?;
+    end
+}
+
+/// Looks whether the files that a job writes are others than those that it reads, and than each
+/// other, and whether standard output and standard error are none of all these, but where they may
+/// be, as far as the system tells where their names lead. Nothing is opened.
+pub(crate) fn check_distinct<S: Places>(
+    system: &S,
+    alloc: Global,
+    job: &Job,
+) -> Result<DistinctFiles, NoAnswer>
+    ensures job { IfOk result (λ apart. apart ≡ job.now) }
+    ensures apart { OnOk result (AreSeenApart (S.leads system.now) (the_uses job.now)) }
+    ensures note { IfErr result (λ missed. IsRefused missed) }
+{
+    let files = file_uses(alloc, job)?;
+    look_at_streams(system, alloc, files.as_slice())?;
+    look_through(system, alloc, files.as_slice())?;
+    let job = Snapshot::of(job);
+    Ok(DistinctFiles { files, job })
+}
