@@ -1,6 +1,9 @@
 # For the scripts of the benches, which source it. The program of a bench is no crate of the
 # repository: as src/main.rt of one it is proved and built in a copy of the crates that it stands
 # on, which takes some minutes.
+export LC_ALL=C
+set -E
+trap 'echo "WRONG: line $LINENO: $BASH_COMMAND" >&2' ERR
 
 # enter_program NAME LAST: makes a folder that goes away at the end, with the crates of crates.txt
 # up to LAST, and behind them a crate of the program NAME.rattle, which stands on LAST and on what
@@ -43,3 +46,30 @@ instructions() {
         valgrind --tool=callgrind --callgrind-out-file=/dev/null "$@" 2>&1 >/dev/null \
         | sed -n 's/.*Collected : *\([0-9]*\).*/\1/p'
 }
+
+# Ends a script that does nothing without valgrind, where that is missing: well with --check
+needs_valgrind() {
+    if ! command -v valgrind >/dev/null; then
+        echo "$(basename "$0" .sh): valgrind is missing, so nothing was counted"
+        [ "$check" ] || exit 1
+        exit 0
+    fi
+}
+
+# judge WHAT FIGURE MOST: with --check, prints of a figure that is over the most that it may be, or no number, and sets `failed`
+judge() {
+    : "${2:?not counted}"
+    judged=$((judged + 1))
+    if [ "$check" ] && ! awk -v figure="$2" -v most="$3" 'BEGIN { exit !(figure ~ /^-?[0-9.]+$/ && figure <= most) }'; then
+        echo "WRONG: $1: $2 is over $3"
+        failed=yes
+    fi
+}
+
+# Something wrong is judged first.
+for figure in 10.1 -nan; do
+    check=yes judged=0 failed=
+    judge "something wrong" "$figure" 9 >/dev/null
+    [ "$failed" ] || { echo "$0: WRONG: $figure passes" && exit 1; }
+done
+check=${1-} judged=0 failed=

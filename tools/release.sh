@@ -55,8 +55,10 @@ use() {
     cd "$1"/*/share/doc/exchange
     local all=$PWD/../../.. line
     (cd "$all" && sha256sum --quiet -c share/exchange/sums) || fail 1 "WRONG: its sums"
+    cut -d' ' -f3- "$all/share/exchange/sums" | LC_ALL=C sort -c || fail 1 "WRONG: the order of its sums"
     [ "$(find "$all" -type f | wc -l)" -eq $(($(wc -l <"$all/share/exchange/sums") + 1)) ] || fail 1 "WRONG: a file has no sum"
-    grep -qE '^[a-z_0-9]+: logic=proved functions=[0-9]+ ' "$all/share/exchange/verdicts" || fail 1 "WRONG: its verdicts"
+    grep -qE '^[[:alnum:]_]+: logic=proved functions=[0-9]+ ' "$all/share/exchange/verdicts" || fail 1 "WRONG: its verdicts"
+    [[ $(<"$all/share/exchange/commit") == "$(git -C "$top" rev-parse HEAD)"?(-dirty) ]] || fail 1 "WRONG: its commit"
     ! grep -rlF -e "$top/crates" -e "$work" "$all" || fail 1 "WRONG: these files say where it was made"
 
     export PATH=$all/bin:$PATH PKG_CONFIG_PATH=$all/lib/pkgconfig PYTHONPATH=$all/lib/$modules PYTHONDONTWRITEBYTECODE=1
@@ -79,6 +81,8 @@ case ${1-} in
     archive=$(make "$work/first" "${crates[0]}")
     again=$(make "$work/second" "${crates[0]}")
     cmp "$archive" "$again" || fail 1 "WRONG: two archives of one build differ"
+    tar -tzf "$archive" | sed 's|/$||; y|/|\x01|' | LC_ALL=C sort -c || fail 1 "WRONG: the order of its files"
+    ! tar -tvzf "$archive" | grep -vE '^(-rw-r--r--|[-dl]rwxr-xr-x) 0/0 ' || fail 1 "WRONG: who has these files, or who may read them"
     tar -C "$work/elsewhere" -xzf "$archive"
     use "$work/elsewhere"
     # Of what isn't proved, or in no commit, none is made.

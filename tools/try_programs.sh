@@ -14,7 +14,7 @@ cd "$(dirname "$(readlink -f "${BASH_SOURCE[0]}")")/.."
 said=$(mktemp)
 faults=$(mktemp)
 trap 'rm -f "$said" "$faults"' EXIT
-wrong=()
+wrong=() tried=()
 
 # Tries one of them, for an hour at most: whether it ends well, and tried enough.
 ends_well() {
@@ -31,6 +31,7 @@ ends_well() {
 try() {
     local began=$SECONDS times=1
     [ "$1" != live ] || { times=2 && shift; }
+    tried+=("$1")
     while ! ends_well "$@"; do
         { echo "== $*" && grep -A 9 WRONG "$said" | tail -n 60; } >>"$faults"
         times=$((times - 1))
@@ -40,7 +41,10 @@ try() {
     echo "$*: $((SECONDS - began)) s"
 }
 
-! ends_well false >/dev/null || wrong+=(ends_well)
+# It is handed a tool that fails first.
+try false >/dev/null
+[ "${wrong[*]-}" = false ] && [ -s "$faults" ] && wrong=() || wrong=(try)
+: >"$faults"
 if grep -nE '^[^#:]*:(.*[^[:alnum:]_])?(io|os|libc)([^[:alnum:]_]|$)' crates.txt; then
     echo "crates.txt: WRONG: a crate lists io, os or libc"
     wrong+=(crates.txt)
@@ -66,6 +70,8 @@ try bench/run/apply.sh --check
 try bench/run/overlap.sh --check
 try bench/session/lines.sh --check
 try tools/hostile/run.sh
+# A tool of least.txt that wasn't tried is wrong too.
+wrong+=($(sed '/^#/d; s/ .*//' tools/least.txt | uniq | grep -vxF -f <(printf '%s\n' "${tried[@]}") || true))
 # What was wrong stands at the end once more.
 cat "$faults"
 if [ ${#wrong[@]} != 0 ]; then

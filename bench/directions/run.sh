@@ -9,13 +9,9 @@
 #
 # Needs valgrind. Build the program first: ./exchange prove
 set -eu
-export LC_ALL=C
-if ! command -v valgrind >/dev/null; then
-    echo "directions: valgrind is missing, so nothing was counted" >&2
-    exit 1
-fi
 here=$(cd "$(dirname "${BASH_SOURCE[0]}")" && pwd)
 . "$here/../copy.sh"
+needs_valgrind
 program=$here/../../crates/exchange/out/exchange
 work=$(mktemp -d)
 trap 'rm -rf "$work"' EXIT

@@ -115,5 +115,8 @@ for count in 512, 4096:
         most = 32 * n * k + 11 * n + 4 * LINKS * ((k + 2) * 2**k - 1) + (MODULES + 1) * 2**k
         print(f"{name:13} {n:4} transfers, {settings:4} settings: {steps:7} steps, at most {most:8}, ratio {most / steps:.1f}")
         # The bound has cells for each colour at each level. Where all transfers share a link, one table is made, and no level is below
-        wrong |= steps > most or (most > GREATEST * steps and settings < n)
+        for figure, greatest in (steps, most), (most / steps, GREATEST if settings < n else most):
+            if figure > greatest:
+                print(f"WRONG: {name}: {figure:.1f} is over {greatest}")
+                wrong = True
 sys.exit(1 if wrong and "--check" in sys.argv else 0)

@@ -36,7 +36,7 @@ def told(program, search, text):
         fewest = int(printed(search, batch.name))
     changes, words, least = re.search(r"changes (\d+), (the fewest with so few settings|the fewest|at least)(?: (\d+))?,", picture).groups()
     if not int(least or changes) <= fewest <= int(changes):
-        sys.exit(f"of changes {changes}, where {fewest} are the fewest, it is told: {words} {least or ''}\n{text}")
+        sys.exit(f"WRONG: of changes {changes}, where {fewest} are the fewest, it is told: {words} {least or ''}\n{text}")
     return words, int(changes), fewest
 
 

@@ -11,14 +11,9 @@
 # Needs valgrind and a C compiler, and rustc without --check. The program and the library are built first, where they are older than
 # their sources.
 set -eu
-export LC_ALL=C
-if ! command -v valgrind >/dev/null; then
-    echo "apply: valgrind is missing, so nothing was counted"
-    [ "${1-}" = --check ]
-    exit
-fi
 here=$(cd "$(dirname "${BASH_SOURCE[0]}")" && pwd)
 . "$here/../copy.sh"
+needs_valgrind
 top=$(cd "$here/../.." && pwd)
 program=$top/crates/exchange/out/exchange
 work=$(mktemp -d)
@@ -46,23 +41,19 @@ millions() {
     awk -v count="${count:?}" 'BEGIN { printf "%.2f", count / 1e6 }'
 }
 
-# NAME PROGRAM WORD..: the count of a program with these words, which may be as great as `greatest` says
-judge() {
+# NAME PROGRAM WORD..: counts for a program with these words, which may take as many as `greatest` says
+count() {
     count[$1]=$(millions "${@:2}")
-    if [ "$check" ] && awk -v count="${count[$1]}" -v most="${greatest[$1]}" 'BEGIN { exit !(count > most) }'; then
-        echo "apply: $1 takes ${count[$1]} million instructions, and may take ${greatest[$1]} million at most"
-        failed=yes
-    fi
+    judge "millions of instructions of $1" "${count[$1]}" "${greatest[$1]}"
 }
 
 # COMMAND WORD..: what the command says into a file of its name, and its count
 measure() {
     "$program" "$@" >"$work/$1"
-    judge "$1" "$program" "$@"
+    count "$1" "$program" "$@"
 }
 
 declare -A count
-check=${1-} failed=
 measure apply 32x64x256 "$work/batch" "$work/image"
 measure run 32x64x256 "$work/batch"
 measure serve 32x64x256 "$work/script"
@@ -70,17 +61,14 @@ measure serve 32x64x256 "$work/script"
 cc -std=c11 -O2 -I"$top/include" -o "$work/call" "$here/call_apply.c" "$top/crates/exchange_c/out/libexchange_c.a" \
     "$(dirname "$(rt doc)")/c/liblibc_c.a"
 "$work/call" 32x64x256 "$work/batch" "$work/image" | cmp - "$work/apply"
-judge call "$work/call" 32x64x256 "$work/batch" "$work/image"
+count call "$work/call" 32x64x256 "$work/batch" "$work/image"
 if ! grep -q "^ran settings 64 words 524288 " "$work/run" || ! grep -q "^ran 1 run 1 settings 64 words 524288 " "$work/serve"; then
-    echo "apply: the batch wasn't run"
+    echo "apply: WRONG: the batch wasn't run"
     exit 1
 fi
 echo "2048 transfers of 256 words, in millions of instructions: ${count[apply]} of apply, ${count[run]} of run, ${count[serve]} of a session, ${count[call]} of a call"
 
-if [ "$check" ]; then
-    [ ! "$failed" ]
-    exit
-fi
+[ ! "$check" ] || exit $((${#failed} > 0))
 
 rustc --edition 2021 -O -o "$work/plain" "$here/plain_apply.rs"
 "$work/plain" 64 256 "$work/batch" "$work/image" | cmp - "$work/apply"

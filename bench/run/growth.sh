@@ -8,14 +8,9 @@
 #
 # Needs valgrind. Build the program first: ./exchange prove
 set -eu
-export LC_ALL=C
-if ! command -v valgrind >/dev/null; then
-    echo "growth: valgrind is missing, so nothing was counted"
-    [ "${1-}" = --check ]
-    exit
-fi
 here=$(cd "$(dirname "${BASH_SOURCE[0]}")" && pwd)
 . "$here/../copy.sh"
+needs_valgrind
 program=$here/../../crates/exchange/out/exchange
 work=$(mktemp -d)
 trap 'rm -rf "$work"' EXIT
@@ -33,9 +28,7 @@ for count in 0 512 1024 2048; do
     awk -v n=$count -v run=${ran[$count]} -v plan=$planned \
         'BEGIN { printf "%4d transfers: %.2f million instructions of the run, %.2f of the plan\n", n, run / 1e6, plan / 1e6 }'
 done
-growth=$(((100 * (ran[2048] - ran[0])) / (ran[1024] - ran[0])))
-echo "growth of what a run takes more than that of no transfer, from 1024 to 2048 transfers: $((growth / 100)).$(printf %02d $((growth % 100)))"
-if [ "${1-}" = --check ] && [ "$growth" -gt 220 ]; then
-    echo "growth: it may be 2.20 at most"
-    exit 1
-fi
+growth=$(awk "BEGIN { printf \"%.2f\", (${ran[2048]} - ${ran[0]}) / (${ran[1024]} - ${ran[0]}) }")
+echo "growth of what a run takes more than that of no transfer, from 1024 to 2048 transfers: $growth"
+judge growth "$growth" 2.20
+[ ! "$failed" ] || exit 1

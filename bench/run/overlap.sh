@@ -8,14 +8,9 @@
 #
 # Needs valgrind. Build the program first: ./exchange prove
 set -eu
-export LC_ALL=C
-if ! command -v valgrind >/dev/null; then
-    echo "overlap: valgrind is missing, so nothing was counted"
-    [ "${1-}" = --check ]
-    exit
-fi
 here=$(cd "$(dirname "${BASH_SOURCE[0]}")" && pwd)
 . "$here/../copy.sh"
+needs_valgrind
 program=$here/../../crates/exchange/out/exchange
 work=$(mktemp -d)
 trap 'rm -rf "$work"' EXIT
@@ -32,7 +27,7 @@ for runs in 1 101; do
     { cat "$work/batch"; echo "plan 1"; yes "run 1" | head -n $runs; } >"$work/$runs"
 done
 if [ "$("$program" serve 32x64x1 "$work/101" | grep -c '^refused overlap 2047 2048$')" != 101 ]; then
-    echo "overlap: the runs aren't refused"
+    echo "overlap: WRONG: the runs aren't refused"
     exit 1
 fi
 
@@ -42,9 +37,7 @@ refused=$(((${many:?not counted} - ${one:?not counted}) / 100))
 all=$(instructions "$program" check "$work/batch" /dev/null)
 none=$(instructions "$program" check "$work/none" /dev/null)
 read=$((${all:?not counted} - ${none:?not counted}))
-ratio=$((100 * (read + refused) / read))
-echo "instructions of a refused run of 4096 transfers: $refused, of reading them: $read, of both: $((ratio / 100)).$(printf %02d $((ratio % 100))) times the reading"
-if [ "${1-}" = --check ] && [ "$ratio" -gt 120 ]; then
-    echo "overlap: both may take 1.20 times the reading at most"
-    exit 1
-fi
+ratio=$(awk "BEGIN { printf \"%.2f\", ($read + $refused) / $read }")
+echo "instructions of a refused run of 4096 transfers: $refused, of reading them: $read, of both: $ratio times the reading"
+judge "a reading and a refused run, in readings" "$ratio" 1.20
+[ ! "$failed" ] || exit 1

@@ -2,8 +2,8 @@
  * a transputer. tools/rack/run.py compiles it by another one, over channels of its own. docs/BOARD.md says more, and what is lost this way.
  *
  * Before each byte of the cable goes the number of its way. On way 1, of the modules, the bytes go on. On way 0 come numbers of two bytes: for
- * -3 the sum of the tables goes back; for K, setting K and those after it are set and moved, and the number of each goes back once all modules
- * are done. In the end -1 goes back. */
+ * -3 the sum of the tables goes back; for K, setting K and those after it are set and moved, and for each goes back what the modules give back
+ * once they are done. In the end -1 goes back. Where a module gives another number back, this ends. */
 #include <channel.h>
 #include <process.h>
 #include <stddef.h>
@@ -31,8 +31,8 @@ static void set(int k)
     ChanOut(CONFIGOUT, (void *)(bytes + at), (int)(ends[k] - at));
 }
 
-/* Sets the switch, and moves from a setting on. Before setting 0 two bytes end a command that was begun. */
-static void move_from(short first)
+/* Sets the switch, and moves from a setting on, until another number comes back. Before setting 0 two bytes end a command that was begun. */
+static int move_from(short first)
 {
     static unsigned char enough[2] = {3, 3};
     short k, back;
@@ -44,14 +44,15 @@ static void move_from(short first)
             continue;
         ChanOut(CHAINOUT, &k, 2);
         ChanIn(CHAININ, &back, 2);
+        give_back(back);
         if (back != k)
-            return;
-        give_back(k);
+            return 0;
     }
     give_back(END);
+    return 1;
 }
 
-/* Relays until a byte names another way. */
+/* Relays until a byte names another way, or another number comes back. */
 void relay(void)
 {
     unsigned char pair[2], up[2] = {MODULES, 0}, low = 0;
@@ -72,8 +73,8 @@ void relay(void)
                 number = (short)(low | pair[1] << 8);
                 if (number == TABLES)
                     give_back(SUM);
-                else if (number >= 0)
-                    move_from(number);
+                else if (number >= 0 && !move_from(number))
+                    return;
             } else
                 low = pair[1];
             is_high ^= pair[0] == SWITCH;

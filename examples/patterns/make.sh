@@ -185,7 +185,7 @@ case ${1-} in
     room=$(mktemp -d)
     trap 'rm -rf "$room"' EXIT
     cp -r "$examples" "$room/examples"
-    find "$room/examples" -name '*.svg' -delete
+    rm "$room"/examples/{three-transfers.{plan.txt,svg},all-to-all.*,patterns/*.txt,patterns/*.svg}
     (make_all "$room/examples")
     diff -rq "$examples" "$room/examples"
     echo "make.sh: $(find "$room/examples" -name '*.svg' -o -name '*.txt' | wc -l) files are as they are made"

@@ -131,10 +131,9 @@ class Rack:
         for end in cable:
             os.close(end)
         if HOST in self.started:
-            try:
+            with contextlib.suppress(subprocess.TimeoutExpired):
                 self.started[HOST].wait(PATIENCE)
-            except subprocess.TimeoutExpired:
-                self.started[HOST].kill()
+            self.started[HOST].kill()
 
 
 def size_of(shape, batch):

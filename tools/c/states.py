@@ -113,8 +113,8 @@ class Calls:
     def __init__(self, path):
         self.process = subprocess.Popen([path], stdin=subprocess.PIPE, stdout=subprocess.PIPE)
 
-    def ask(self, line, *bytes_behind):
-        self.process.stdin.write(line.encode() + b"\n" + b"".join(bytes_behind))
+    def ask(self, line, *bytes_after):
+        self.process.stdin.write(line.encode() + b"\n" + b"".join(bytes_after))
         self.process.stdin.flush()
         return [bytes.fromhex(part) for part in self.process.stdout.readline().decode().rstrip("\n").split(" ")[1:]]
 

@@ -23,8 +23,8 @@ struct text {
     size_t count;
 };
 
-/* How many more times memory is given before it is refused, or -1 where it never is; and how many times it was refused. */
-static long left = -1, refusals = 0;
+/* How many more times memory is given before it is refused, or -1 where it never is; how many times it was refused, and in how many calls. */
+static long left = -1, refusals = 0, all = 0;
 
 void *__real_malloc(size_t size);
 void *__real_realloc(void *old, size_t size);
@@ -169,6 +169,7 @@ static void without_memory(const char *name, const struct text *texts, uint8_t w
         uint8_t status = call(name, texts, out, wanted, &count);
         left = -1;
         is_refused = refusals > 0;
+        all += is_refused;
         int is_same = status == wanted_status && count == wanted && memcmp(out, answer, wanted) == 0;
         if (!is_same && (!is_refused || status != EXCHANGE_NO_MEMORY || count != 0))
             end(name, "memory was refused, and the call doesn't say so, or it wasn't, and the call says so");
@@ -218,5 +219,7 @@ int main(int words, char **word)
         for (int t = 0; t < TEXTS; t++)
             free(texts[t].bytes);
     }
+    if (refuses)
+        fprintf(stderr, "try: %ld growths of memory refused\n", all);
     return EXIT_SUCCESS;
 }

@@ -58,20 +58,17 @@ class Part:
     def entry(self, call):
         """The reply of the session's next entry, which is that of this call."""
         _, found, reply = self.left.pop(0)
-        if found != call:
-            raise AssertionError(f"the record has {found!r}, and the session asked {call!r}")
+        assert found == call, f"the record has {found!r}, and the session asked {call!r}"
         self.seen = max(self.seen, value_of(reply))
         return reply
 
     def reading(self, line):
         """Judges a reading, which is given back."""
         words = line.split()
-        if words[:2] != ["progress", "run"] or words[3] != "done":
-            raise AssertionError(f"{line!r} is no reading")
+        assert words[:2] == ["progress", "run"] and words[3] == "done", f"{line!r} is no reading"
         value = STEP * int(words[2]) + int(words[4])
         place = self.left[0][0] if self.left else len(self.history.entries)
-        if not self.seen <= value <= self.history.greatest[place]:
-            raise AssertionError(f"{line!r} isn't between {self.seen} and {self.history.greatest[place]}")
+        assert self.seen <= value <= self.history.greatest[place], f"{line!r} isn't between {self.seen} and {self.history.greatest[place]}"
         self.seen, self.readings = value, self.readings + 1
         return line
 
@@ -123,8 +120,7 @@ class Part:
             if reply == "bye":
                 break
         ended = [f"ended {self.reader.ended}"] if self.reader.ended else []
-        if told != ended or self.left:
-            raise AssertionError(f"{told} was told and {self.left} entered behind the end {ended}")
+        assert told == ended and not self.left, f"{told} was told and {self.left} entered behind the end {ended}"
 
 
 def parts_of(text):
@@ -145,14 +141,11 @@ def read(name):
 
 def judge_round(shape, scripts, told, status, room):
     """Judges what the sessions were told, their record and their image: the entries, and how many readings there were."""
-    if status != int(any(line.startswith("ended ") for lines in told.values() for line in lines)):
-        raise AssertionError("the status doesn't say whether a fault ended a session")
+    assert status == int(any(line.startswith("ended ") for lines in told.values() for line in lines)), "the status doesn't say whether a fault ended a session"
     replay = Replay(read(f"{room}/record"), shape)
-    if not replay.ended or replay.exchange.image() != read(f"{room}/left"):
-        raise AssertionError("the record leads to another image")
+    assert replay.ended and replay.exchange.image() == read(f"{room}/left"), "the record leads to another image"
     again = ask("replay", f"{room}/record")
-    if (again.out, again.status) != (read(f"{room}/left"), 0):
-        raise AssertionError(f"`replay` leads to another image: {again.err!r}, status {again.status}")
+    assert (again.out, again.status) == (read(f"{room}/left"), 0), f"`replay` leads to another image: {again.err!r}, status {again.status}"
     history, readings = History(replay.entries), 0
     for session, script in enumerate(scripts):
         part = Part(history, session, shape, script, told[session])

@@ -21,6 +21,7 @@ name says that it takes none meets no growth. Nor do the last reading and the cl
 import multiprocessing
 import os
 import re
+import struct
 import sys
 import tempfile
 from collections import Counter, namedtuple
@@ -31,7 +32,7 @@ import sessions
 from program import EXCHANGE, ROOMS, TOP, ask
 from sealed import sealed
 
-LIBRARY = os.path.abspath(sys.argv[1])
+LIBRARY = os.path.abspath(sys.argv[-1])
 CALLS = f"{TOP}/crates/hostile_use/out/hostile_use"
 THREE_TRANSFERS = "batch 3\npush 0 0 1 0\npush 0 1 2 0\npush 1 1 2 1\n"
 SCHEDULE = "settings 2\nsetting 0 2\nsetting 1\nbusiest link 0 module 0\nnamed 0 1\n"
@@ -180,8 +181,8 @@ def run(which, program, words, between, called=None):
     if between:
         env["REFUSE_BETWEEN"] = "1"
     ended = ask(*words, program=program, env=env, given=input_of(words), called=called)
-    with open(log) as file:
-        return ended, *(int(n) for n in file.read().split())
+    with open(log, "rb") as file:
+        return ended, *struct.unpack("@3l", file.read())
 
 
 def sweep(name, program, words, between, judge, called=None):
@@ -193,6 +194,9 @@ def sweep(name, program, words, between, judge, called=None):
             n += 1
             ended, growths, refused, _ = run(f"{n}{later}", program, words, between, called)
             found[judge(ended, refused)] += 1
+            due = max(growths - n + 1, 0)
+            if refused != (due if later else min(due, 1)):
+                found["WRONG: others were refused"] += 1
     ended, _, _, unstarted = run("T", program, words, between, called)
     found[judge(ended, 0)] += 1
     return Swept(name, found, growths, unstarted)

@@ -1,11 +1,13 @@
 #!/usr/bin/env python3
 """What judges the program is handed wrong things: judges.py
 
-Each judge of the plain implementation, of rows, of documents, of edits, of `rt ci` and of how much was
-tried, and the script of examples that adds up prices, takes what is right, and denies each of the
-wrong things beside it. It needs no program.
+Each judge of the plain implementation, of rows, of documents, of tables, of edits, of `rt ci` and of
+how much was tried, and the script of examples that adds up prices, takes what is right, and denies
+each of the wrong things beside it.
 """
 
+import contextlib
+import io
 import os
 import random
 import sys
@@ -13,16 +15,25 @@ import tempfile
 from runpy import run_path
 from types import SimpleNamespace
 
+import clients
+import growths
+import notes
 import orders
 import plain
+import sessions
 import steady
+import streams
 import switching
-from program import TOP
+import texts as spoilt
+from program import TOP, Ended
 
-sys.path.append(f"{TOP}/examples")
+sys.path += [f"{TOP}/{folder}" for folder in ("examples", "tools/c", "tools/rack")]
+import calls
 import check_prices
+import tables
 
-edits, least, rows, said, texts = (SimpleNamespace(**run_path(f"{TOP}/tools/{name}.py")) for name in ("edits", "least", "rows/run", "said", "texts/run"))
+JUDGES = ("edits", "hosts/hosts", "least", "python/run", "rack/run", "rows/run", "said", "texts/run")
+edits, hosts, least, python, rack, rows, said, texts = (SimpleNamespace(**run_path(f"{TOP}/tools/{name}.py")) for name in JUDGES)
 
 THREE = b"batch 3\npush 0 0 1 0\npush 0 1 2 0\npush 1 1 2 1\n"
 PLAN = b"settings 2\nsetting 0 2\nsetting 1\nbusiest link 0 module 0\nnamed 0 1\n"
@@ -41,6 +52,8 @@ FOUR = b"batch 4\npush 0 0 3 0\npush 0 1 3 1\npush 0 2 4 0\npush 1 0 2 0\n"
 LONG = b"settings 3\nsetting 0\nsetting 1\nsetting 2 3\nbusiest link 0 module 0\nnamed 0 1 2\n"
 # As in docs/GUIDE.md: lengths of a link's steps with each partner are 2 and 2, or 1 and 3.
 UNEVEN = ["batch 8"] + [f"push {m} {b} {n} {b}" for m, ends in ((0, (1, 1, 2, 2)), (3, (4, 5, 5, 5))) for b, n in enumerate(ends)]
+# This changes the switch four times, and these two links show that three are needed.
+OFTEN = [[0, 5], [2, 4], [1, 6], [3, 7]]
 # Module 0 has a transfer in each of two settings, module 2 one, so that its link 0 is idle once.
 IDLE = ["batch 3", "push 0 0 1 0", "push 0 1 1 1", "push 2 0 3 0"]
 
@@ -48,7 +61,35 @@ IDLE = ["batch 3", "push 0 0 1 0", "push 0 1 1 1", "push 2 0 3 0"]
 LACKS, PLANNED = "planning: valgrind is missing, so no instructions were counted\n" + "steps, at most\n" * 10, "planning: 29 batches planned, 32 figures judged\n"
 
 # What comes of a line of a row, on both streams.
+ROW = "row a\n$ b\nstatus 1\nout\n    refused b\nerr\n    c\n"
+PAGE = "# A page\n[a](#a-page) [`one`](code.rt#L2)\n```console\n$ echo a; echo b\na\n...\n```\n| For example |\n|---|\n| `true` |\n"
 LINE, ABC = b"refused a\n", b"exchange: b c\n"
+MISSING = b"exchange: schedule: transfer 1 occurs in no setting (line 3 of batch)\n"
+
+# A script, what its session is told, and a record of it beside a run of another.
+SCRIPT, TOLD = b"poke 0 80000800 00000001\nprogress\nprogress\npeek 0 80000800\nbye\n", "poked, progress run 0 done 0, progress run 1 done 1, word 00000001, bye"
+RAN = [(0, "poke 0 80000800 00000001\n", "poked"), (1, "run 1\n", "ran 1 run 1 settings 1 words 1 bits 117"), (0, "peek 0 80000800\n", "word 00000001")]
+# The first of two sessions has no memory for its batch.
+SHORT = b"session 0\nrefused no memory\nrefused unknown\nsession 1\nbye\n"
+CALL, PLAIN = growths.judge_of_call("a"), growths.judge_of_command(["plan"], Ended(LINE, ABC, 1))
+
+
+# Orders of one module, and bytes of a switch, and their tables. A sum has a place of 31 for each number.
+ORDERS = "modules 1 settings 1\nmodule 0 copies 1 orders 2\ncopy block 0\nsetting 0 link 0 send copy 0\nsetting 0 link 3 receive block 0\n"
+IN_C = (
+    "/* the orders of module 0 */\nenum { COPIES = 1, SETTINGS = 1, SUM = 23397 };\nstatic const unsigned char copies[] = {0};\n"
+    "static const struct order orders[][2] = {\n    {{SEND_COPY, 0}, {RECEIVE, 0}},\n};\n"
+)
+IN_OCCAM = (
+    "-- the orders of module 0\nVAL INT16 sum IS 23397 (INT16):\nVAL INT n.copies IS 1:\nVAL []BYTE copies IS [0 (BYTE)]:\n"
+    "VAL INT n.settings IS 1:\nVAL [][2][2]BYTE orders IS\n  [[[send.copy, 0 (BYTE)], [receive, 0 (BYTE)]]]:\n"
+)
+SET = "setting 0 04 03\nsetting 1 03\n"
+SET_IN_C = "enum { SETTINGS = 2, SUM = 32323 };\nstatic const unsigned long ends[] = {2, 3};\nstatic const unsigned char bytes[] = {4, 3, 3};\n"
+SET_IN_OCCAM = (
+    "VAL INT16 sum IS 32323 (INT16):\nVAL INT n.settings IS 2:\nVAL []INT ends IS [2, 3]:\n"
+    "VAL []BYTE bytes IS [#04 (BYTE), #03 (BYTE), #03 (BYTE)]:\n"
+)
 
 
 def priced(first, *lines):
@@ -71,6 +112,12 @@ GUIDE = priced("settings 4 shown 3", ONE, TWO)
 ONCE = priced("settings 2 shown 2", {2: 65536}, {})
 
 
+def is_bound(settings, bound):
+    """Whether the title of a picture may say this of the changes of a schedule."""
+    transfers = plain.read_batch("".join(f"{line}\n" for line in UNEVEN).encode(), plain.WIDEST)
+    return steady.bound_words(transfers, settings, f"<title>a plan, {bound}".encode()) == bound
+
+
 def is_obeyed(batch, schedule, answer):
     """Whether modules move the blocks by these orders. They can't read some of them."""
     try:
@@ -85,6 +132,120 @@ def is_row(out, err, told=b"", status=1):
     says = [(["out"], b"refused a\n"), (["err", "begins"], b"exchange: "), (["err", "has"], b"b"), (["err", "ends"], b"c\n")]
     row.status, row.wanted = 1, [] if told else says
     return not rows.judge(row, told, rows.Ended(out, err, status, None))
+
+
+def is_read(text):
+    """Whether a file of rows with this text is written as it is to be."""
+    with tempfile.NamedTemporaryFile("w") as file:
+        file.write(text)
+        file.flush()
+        try:
+            return len(rows.read_rows(os.path.relpath(file.name, f"{TOP}/rows"))) == 1
+        except rows.Unreadable:
+            return False
+
+
+def is_run(*lines):
+    """Whether a row takes what comes of these lines. It has two pipes, which are read in their order, and an input that nobody may read."""
+    row = rows.Row("judges", "judges")
+    row.lines, row.told, row.there = lines, [b""] * len(lines), [(["pipe", "a"], b"1"), (["pipe", "b"], b"2")]
+    row.wanted = [(["out", "begins"], b"12")]
+    with contextlib.redirect_stdout(io.StringIO()):
+        return rows.try_row(row, TOP) == (True, False)
+
+
+def is_told(told, script=SCRIPT):
+    """Whether a session of a script may be told this beside that record."""
+    try:
+        clients.Part(clients.History(RAN), 0, (2, 1, 1), script, told.split(", ")).judge()
+    except AssertionError:
+        return False
+    return True
+
+
+def is_ended(told, status):
+    """Whether clients that were told this may leave this status: then a record is looked for, which isn't there."""
+    try:
+        clients.judge_round((2, 1, 1), [], {0: told}, status, "/none")
+    except AssertionError:
+        return False
+    except FileNotFoundError:
+        return True
+
+
+def is_grown(judge, out, err, status, refused=1):
+    """Whether a run may end so in which so many growths were refused."""
+    return not judge(Ended(out, err, status), refused).startswith("WRONG")
+
+
+def is_left(text, scripts=(b"batch 1\npush 0 0 1 0\nplan 1\n", b"bye\n")):
+    """Whether sessions of these scripts may be told this where some growths are refused."""
+    return sessions.told_without_memory(b"2x1x1", scripts, text) is not None
+
+
+def is_expected(ended, wanted):
+    """Whether a stream may end so."""
+    with contextlib.redirect_stdout(io.StringIO()):
+        streams.expect("judges", ended, wanted)
+    return not streams.problems or bool(streams.problems.clear())
+
+
+def is_tried(well):
+    """Whether a spoilt text is well."""
+    spoilt.KINDS["judges"] = lambda _: (well, b"a", [], b"b")
+    return not spoilt.try_some(("judges", [0]))[2]
+
+
+def is_table(text, *changes):
+    """Whether tables are read as those of ORDERS or of SET with some texts in the place of others."""
+    for it in changes:
+        text = text.replace(*it)
+    told, table_of = (ORDERS, tables.orders) if "orders" in text else (SET, tables.switch)
+    try:
+        return table_of("occam" if "VAL" in text else "c", text) == told
+    except (AssertionError, AttributeError):
+        return False
+
+
+def is_well(*things):
+    """Whether a case of tools/hosts or tools/ends is well that looks at these things."""
+    with contextlib.redirect_stdout(io.StringIO()):
+        return not hosts.try_cases("judges", [lambda: iter(things)])
+
+
+def is_told_well(text, told=None):
+    """Whether this may be told of line 2 of a batch, and it helps to do so. Where nothing is said it is what belongs there."""
+    asked, line = notes.Asked("batch", ("batch", text)), b"refused batch line 2\n"
+    answer = spoilt.Answer(line, notes.told(asked, line) if told is None else told, 1, "", False, {})
+    return spoilt.is_well_told(answer, asked, line, lambda _: line)
+
+
+def is_noted(tool, well):
+    """Whether a tool notes nothing wrong."""
+    with contextlib.redirect_stderr(io.StringIO()):
+        tool.expect("judges", well)
+    return not tool.wrong or bool(tool.wrong.clear())
+
+
+def is_called(answer, why):
+    """Whether a call of a library may answer and tell this where a schedule lacks transfer 1."""
+    made, given = SimpleNamespace(ask=lambda *_: answer, why=lambda *_: why), [THREE, PLAN.replace(b"setting 1", b"setting")]
+    with tempfile.TemporaryDirectory() as room:
+        os.chdir(room)
+        is_same = calls.is_same(made, "check", given)
+        os.chdir("/")
+    return is_same
+
+
+def is_page(text):
+    """Whether a document is right: of its links, commands and examples there is one each, or two, beside source code."""
+    os.makedirs(f"{TOP}/out", exist_ok=True)
+    with tempfile.TemporaryDirectory(dir=f"{TOP}/out") as folder, contextlib.redirect_stdout(io.StringIO()):
+        for name, written in ("page.md", text), ("code.rt", "// one\nfn one()\n"):
+            with open(f"{folder}/{name}", "w") as file:
+                file.write(written)
+        page = os.path.relpath(f"{folder}/page.md", TOP)
+        return [trial(page) for trial in (texts.try_links, texts.try_document, texts.try_table)] == [(2, 0), (1, 0), (1, 0)]
 
 
 def can_be_made(old, before="let a = 1;\nlet b = 1;\n"):
@@ -113,7 +274,7 @@ CASES = [
     (plain.is_plan, (THREE, PLAN), [
         (THREE, PLAN.replace(b"setting 0 2\nsetting 1\n", b"setting 0 1\nsetting 2\n")),
         (THREE, PLAN.replace(b"setting 0 2", b"setting 2 0")),
-        (THREE, PLAN.replace(b"setting 0 2\nsetting 1\n", b"setting 1\nsetting 0 2\n")),
+        *[(THREE, PLAN.replace(b"setting 0 2\nsetting 1\n", b"setting 1\nsetting %s\n" % it)) for it in (b"0 2", b"2 0")],
         (THREE, PLAN.replace(b"setting 0 2", b"setting 0")),
         (THREE, PLAN.replace(b"settings 2", b"settings 3").replace(b"busiest", b"setting\nbusiest")),
         (THREE, PLAN.replace(b"link 0 module 0", b"link 3 module 2").replace(b"named 0 1", b"named 1 2")),
@@ -125,6 +286,10 @@ CASES = [
         (PAIRS, STEADY.replace(b"setting 3\n", b"")), (PAIRS, STEADY.replace(b"module 0", b"module 1")), (PAIRS, b""),
     ]),
     (steady.is_steady, (FOUR, LONG), [(FOUR, LONG.replace(b"setting 0", b"setting 0 3").replace(b"setting 2 3", b"setting 2"))]),
+    (is_bound, (OFTEN, "changes 4, at least 3"), [
+        (OFTEN, "changes 4, at least 2"), (OFTEN, "changes 4, at least 5"), (OFTEN, "changes 3, at least 3"), ([*OFTEN, []], "changes 5, at least 3"),
+        (OFTEN, "changes 4, the fewest"),
+    ]),
     (switching.is_switched, (THREE, PLAN, BYTES), [
         (THREE, PLAN, BYTES.replace(b" 03\n", b"\n")), (THREE, PLAN, BYTES.replace(b"06 00 11 ", b"")), (THREE, PLAN, BYTES.replace(b"00 12", b"00 13")),
         (THREE, PLAN, BYTES[: BYTES.index(b"setting 1")]), (THREE, PLAN, BYTES + b"setting 2 03\n"), (THREE, PLAN, b""),
@@ -150,6 +315,35 @@ CASES = [
         (LINE, ABC, b"", 0),
     ]),
     (is_row, (b"", ABC, ABC), [(b"", b"", ABC), (LINE, ABC, ABC), (b"", ABC * 2, ABC)]),
+    (is_read, (ROW,), [
+        (ROW + "word\n",), (ROW.replace("d b", "d \\b"),), (ROW * 2,), (ROW.replace("$", "#"),), ("row a\n$ b\n",), (ROW.partition("err")[0],),
+    ]),
+    (is_run, ("cat a b", "cat a b"), [
+        ("cat b a",), ("cat a; printf 2",), ("cat a b -",), ("cat a b", "cat a b; printf 3"), ("cat a b; exit 1",), ("cat a b; echo 3 >&2",),
+    ]),
+    (is_told, (TOLD,), [
+        (TOLD.replace(*it),) for it in [("run 1 done", "run 1 gone"), ("run 1", "run 2"), ("0 done 0, progress run 1 done 1", "1 done 1, progress run 0 done 0"), ("01", "02"), ("bye", "bye, ended cut")]
+    ] + [(TOLD, SCRIPT.replace(b"01", b"02")), (TOLD.replace("word 00000001, ", ""), SCRIPT.replace(b"peek 0 80000800\n", b""))]),
+    (is_expected, (LINE, LINE), [(LINE, ABC), (LINE, lambda it: it == ABC)]), (is_tried, (True,), [(False,)]),
+    (is_ended, (["ended cut"], 1), [(["ended cut"], 0), (["poked"], 1)]),
+    (is_left, (SHORT,), [
+        (SHORT.replace(*it),) for it in [(b"0\n", b"2\n"), (b"1\n", b"2\n"), (b"bye\n", b"bye\nbye\n"), (b"unknown", b"unplanned"), (b"refused unknown\n", b""), (b"bye\n", b"")]
+    ] + [(b"session 0\nrefused no memory\n", [b"hello\n"])]),
+    (is_grown, (CALL, b"a: no memory\n", b"", 0), [(CALL, b"a: no memory\n", b"", 0, 0), (CALL, b"a: row\n", b"", 1), (CALL, b"b: row\n", b"", 0)]),
+    (is_grown, (PLAIN, LINE, b"", 1), [
+        (PLAIN, LINE, b"", 1, 0), (PLAIN, LINE, b"exchange: c\n", 1), (PLAIN, LINE, b"", 0), (PLAIN, b"refused no memory\n", b"", 3),
+    ]),
+    (is_well, ((1, 1), (2, 2)), [((1, 2),), ((1, 1), (1, 2)), ((1, 2), (1, 1)), ()]),
+    (is_told_well, (b"batch 1\npush 0 0 1\n",), [(b"batch 1\npush 0 0 1\n", b""), (b"batch 1\npush 0 0 0 0\n",)]),
+    (is_noted, (python, True), [(python, False)]), (is_noted, (rack, True), [(rack, False)]),
+    (is_called, ((1, b"refused check missing 1\n"), (0, MISSING)), [
+        ((0, b"refused check missing 1\n"), (0, MISSING)), ((1, b"refused check missing 2\n"), (0, MISSING)),
+        ((1, b"refused check missing 1\n"), (1, MISSING)), ((1, b"refused check missing 1\n"), (0, b"")),
+    ]),
+    (is_page, (PAGE,), [
+        (PAGE.replace(*it),) for it in [("#a-page", "#page"), ("](code", "](../../code"), ("#L2", "#L1"), ("`one`", "`on`"), ("#L2", "#M2"), ("\na\n", "\nb\n"),
+        ("`true`", "`false`"), ("console", "file x"), ("For example", "Example")]
+    ]),
     (texts.fits, (["a", "...", "b"], ["a", "c", "b"]), [
         (["a", "...", "b"], ["a", "c"]), (["a", "...", "b"], ["c", "b"]), (["a"], ["b"]), (["a"], ["a", "b"]), (["a", "b"], ["a"]), ([], ["a"]), (["a"], []),
     ]),
@@ -157,6 +351,17 @@ CASES = [
     (is_enough, (LACKS + PLANNED, "bench/planning/run.sh"), [(LACKS, "bench/planning/run.sh"), (PLANNED, "bench/planning/run.sh")]),
     (is_said, (1, "Threads+Wait"), [(2, "Threads+Wait"), (1, "Wait"), (0, ""), (1, "Threads+Wait", "BAD EDIT a"), (1, "Threads+Wait", "only by a limit")]),
     (can_be_made, ("let a = 1;",), [("let c = 1;",), ("= 1;",), ("let a = 1;", ""), ("let c = 2;", "let c = 2;\n")]),
+    (is_table, (IN_C,), [(IN_C, *it) for it in [
+        [("97", "98")], [("{0}", "{0, 0}")], [("e 0", "e 1")], [("},\n}", "},\n\n}")], [("23397", "25166"), ("},\n}", "},\n    {{IDLE, 0}, {IDLE, 0}},\n}")],
+        [("23397", "20408"), ("RECEIVE", "SEND"), ("SEND_COPY", "RECEIVE"), ("SEND,", "SEND_COPY,")],
+    ]]),
+    (is_table, (IN_OCCAM,), [(IN_OCCAM, *it) for it in [
+        [("97", "98")], [("[0", "[0 (BYTE), 0")], [("e 0", "e 1")], [("]]]", "]] ]")],
+        [("23397", "25166"), ("]]]", "]],\n   [[idle, 0 (BYTE)], [idle, 0 (BYTE)]]]")],
+        [("23397", "20408"), ("receive", "send"), ("send.copy", "receive"), ("send,", "send.copy,")],
+    ]]),
+    (is_table, (SET_IN_C,), [(SET_IN_C, it) for it in [("23 }", "24 }"), ("{2, 3", "{2, 3, 3"), ("{4, 3", "{4, 3, 3"), ("{4", "{5")]]),
+    (is_table, (SET_IN_OCCAM,), [(SET_IN_OCCAM, it) for it in [("23 (", "24 ("), ("[2, 3", "[2, 3, 3"), ("[#04", "[#04 (BYTE), #03"), ("#04", "#05")]]),
     (are_right, (IDLE, 2, ONCE), [(IDLE, 2, priced("settings 2 shown 3", {2: 65536}, {})), (IDLE, 2, priced("settings 2 shown 2", {2: 32768}, {}))]),
 ]  # fmt: skip
 

@@ -5,28 +5,32 @@
 // REFUSE=T       each start of a thread is refused
 // REFUSE_BETWEEN=1     only growths and starts between two marks count. The program sets the marks by writing to standard error:
 //                what begins with "[" starts the count, and what begins with "]" ends it
-// REFUSE_LOG=FILE      three numbers are kept there: growths met, growths refused, and starts of threads refused
+// REFUSE_LOG=FILE      holds three numbers of 8 bytes: growths met, growths refused, and starts of threads refused
 #define _GNU_SOURCE
 #include <dlfcn.h>
 #include <errno.h>
 #include <fcntl.h>
 #include <pthread.h>
 #include <stdatomic.h>
-#include <stdio.h>
 #include <stdlib.h>
 #include <string.h>
+#include <sys/mman.h>
 #include <unistd.h>
 
-static atomic_long met, refused, unstarted;
+enum { MET, REFUSED, UNSTARTED, NUMBERS };
+static atomic_long own[NUMBERS];
+// The log itself: a program may end without running what the C library runs at its exit, and its threads count side by side.
+static atomic_long *numbers = own;
 static atomic_int counts;
 static long first;
-static int later, no_threads, between, log_file = -1;
+static int later, no_threads, between;
 
-// Written at each change, since a program may end without running what the C library runs at its exit.
-static void note(void) {
-    char text[64];
-    int n = snprintf(text, sizeof text, "%10ld %10ld %10ld\n", (long)met, (long)refused, (long)unstarted);
-    if (log_file >= 0 && pwrite(log_file, text, n, 0) < 0) return;
+static void keep_in(const char *log) {
+    int file = open(log, O_CREAT | O_RDWR | O_TRUNC, 0644);
+    if (file < 0 || ftruncate(file, sizeof own)) abort();
+    numbers = mmap(NULL, sizeof own, PROT_READ | PROT_WRITE, MAP_SHARED, file, 0);
+    if (numbers == MAP_FAILED) abort();
+    close(file);
 }
 
 __attribute__((constructor)) static void begin(void) {
@@ -35,8 +39,7 @@ __attribute__((constructor)) static void begin(void) {
     first = which && !no_threads ? atol(which) : 0;
     later = which && strchr(which, '+');
     between = getenv("REFUSE_BETWEEN") != NULL;
-    if (log) log_file = open(log, O_CREAT | O_WRONLY | O_TRUNC, 0644);
-    note();
+    if (log) keep_in(log);
     counts = !between;
 }
 
@@ -44,10 +47,9 @@ static void *next(const char *name) { return dlsym(RTLD_NEXT, name); }
 
 static int is_refused(void) {
     if (!counts) return 0;
-    long n = ++met;
+    long n = ++numbers[MET];
     int is = first > 0 && (n == first || (later && n > first));
-    refused += is;
-    note();
+    numbers[REFUSED] += is;
     if (is) errno = ENOMEM;
     return is;
 }
@@ -80,8 +82,7 @@ int pthread_create(pthread_t *thread, const pthread_attr_t *how, void *(*run)(vo
     static int (*real)(pthread_t *, const pthread_attr_t *, void *(*)(void *), void *);
     if (!real) real = next("pthread_create");
     if (counts && no_threads) {
-        ++unstarted;
-        note();
+        ++numbers[UNSTARTED];
         return EAGAIN;
     }
     return real(thread, how, run, with);

@@ -22,8 +22,9 @@ export PYTHONDONTWRITEBYTECODE=1
 calls=$top/crates/hostile_use/out/hostile_use
 if [ ! -x "$calls" ] || [ -n "$(find "$top/crates.txt" "$top"/crates/*/src "$top"/crates/*/specs -type f -newer "$calls" -print -quit)" ]; then
     echo "run.sh: proving and building hostile_use .." >&2
+    touch "$work/began"
     (cd "$top/crates/hostile_use" && rt run) >"$work/log" 2>&1 || { cat "$work/log" >&2; exit 3; }
-    touch "$calls"
+    touch -r "$work/began" "$calls"
 fi
 cc -O2 -shared -fPIC -o "$work/refuse.so" "$here/refuse.c" -ldl
 

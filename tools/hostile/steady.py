@@ -77,9 +77,8 @@ def bound_words(transfers, settings, told=b""):
         return f"changes {count}, the fewest"
     fewest = len(plain.busiest(transfers)[1]) if transfers else 0
     found = re.search(rb"<title>.*, changes \d+, at least (\d+)", told)
-    least = int(found[1]) if found else count
-    if len(settings) != fewest or not min(count, two_links(transfers, fewest)) <= least <= count:
-        least = partners
+    shown = min(count, max(two_links(transfers, fewest), int(found[1]) if found else count))
+    least = shown if len(settings) == fewest else partners
     return f"changes {count}, the fewest with so few settings" if count == least else f"changes {count}, at least {least}"
 
 

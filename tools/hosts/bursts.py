@@ -20,8 +20,8 @@ import sys
 import tempfile
 from collections import namedtuple
 
-from kept import Record, Wrong, calls_of, end_of, judge_client
-from moments import EXCHANGE, LIMIT, read, resume, shown, try_all
+from kept import CHECKS, Record, Wrong, calls_of, end_of, judge_client, must
+from moments import EXCHANGE, LIMIT, is_wrong, read, resume, shown, try_all
 
 MOST = 0.05
 MOST_BY_TURNS = 0.08
@@ -210,6 +210,20 @@ def in_room(try_it):
         return try_it(room)
 
 
+def try_judge():
+    """The judge is handed a day on which all is told before it is recorded, one on which a plan is recorded before what comes before it is told, one
+    without syncs, and one on which they begin before there is anything."""
+    lines = "poke 0 80000800 000000aa\nbatch 1\npush 0 0 1 0\nplan 1\n"
+    day = in_room(lambda room: Day(room, [[(lines, 3)]], "--sync"))
+    told, others = ([call for call in day.calls if (call.name == "c0.out") == is_told] for is_told in (True, False))
+    day.judge()
+    no_syncs = [call for call in day.calls if call.what != "sync"]
+    early_syncs = sorted(day.calls, key=lambda call: (call.when, call.what) != ("begin", "sync"))
+    for what, day.calls in {"early": told + others, "late": others + told, "no syncs": no_syncs, "early syncs": early_syncs}.items():
+        must(is_wrong(day.judge), f"the judge lets this through: {what}")
+    return 4
+
+
 def try_order():
     """One client and sixteen, in bursts of all lengths."""
     looked = 0
@@ -219,11 +233,9 @@ def try_order():
         texts = [[burst(list(commands(draw, draw.randint(1, most), k))) for _ in range(draw.randint(1, 20))] for k in range(count)]
         day = in_room(lambda room: Day(room, texts, *(["--sync"] if turn % 2 else [])))
         looked += day.judge()
-        if day.status != 0 or not day.record.ended:
-            raise Wrong(f"turn {turn}: status {day.status}, {day.out!r}, {day.err[:300]!r}")
+        must(day.status == 0 and day.record.ended, f"turn {turn}: status {day.status}, {day.out!r}, {day.err[:300]!r}")
         for client in day.clients:
-            if client.told.count(b"\n") != client.due:
-                raise Wrong(f"turn {turn}: {client.name} wasn't told all")
+            must(client.told.count(b"\n") == client.due, f"turn {turn}: {client.name} wasn't told all")
     return looked
 
 
@@ -235,8 +247,7 @@ def try_parts():
     for options in [], ["--sync"]:
         day = in_room(lambda room: Day(room, [texts] * 3, *options))
         looked += day.judge()
-        if day.status != 0:
-            raise Wrong(f"status {day.status}, {day.out!r}, {day.err[:300]!r}")
+        must(day.status == 0, f"status {day.status}, {day.out!r}, {day.err[:300]!r}")
     return looked
 
 
@@ -250,8 +261,8 @@ def try_counts():
             looked += day.judge()
             entries, writes, syncs = len(day.record.entries), day.on_record("write"), day.on_record("sync")
             print(f"bursts: {clients} clients, {entries} entries, {writes / entries:.4f} writes and {syncs / entries:.4f} syncs an entry", flush=True)
-            if entries != 1280 * clients or max(writes, syncs) > MOST * entries or (not options and syncs > 1):
-                raise Wrong(f"{clients} clients, {options}: {writes} writes, {syncs} syncs")
+            well = entries == 1280 * clients and max(writes, syncs) <= MOST * entries and (options or syncs <= 1)
+            must(well, f"{clients} clients, {options}: {writes} writes, {syncs} syncs")
     return looked
 
 
@@ -265,8 +276,7 @@ def try_turns():
         looked, entries, syncs = day.judge(), len(day.record.entries), day.on_record("sync")
         told = f"{syncs / entries:.4f} syncs and {day.switches / entries:.2f} switches an entry"
         print(f"bursts: 16 clients by turns, {entries} entries, {told}", flush=True)
-        if entries != 800:
-            raise Wrong(f"{entries} entries")
+        must(entries == 800, f"{entries} entries")
         if syncs <= MOST_BY_TURNS * entries and day.switches <= MOST_SWITCHES * entries:
             return looked
     raise Wrong(f"{entries} entries, {told}")
@@ -298,18 +308,16 @@ def try_failures():
         def fail(room):
             day = Day(room, texts, *(["--sync"] if kind == 2 or turn % 2 else []), **calls)
             failed = [at for at, call in enumerate(day.calls) if call.name == "record" and call.count < 0]
-            if len(failed) != 1 or any(call.name == "record" for call in day.calls[failed[0] + 1 :]):
-                raise Wrong(f"turn {turn}: the record is written behind a failure, or nothing failed")
-            if day.status != 3 or "ended record" not in day.out:
-                raise Wrong(f"turn {turn}: status {day.status}, {day.out!r}, {day.err[:300]!r}")
+            well = len(failed) == 1 and all(call.name != "record" for call in day.calls[failed[0] + 1 :])
+            must(well, f"turn {turn}: the record is written behind a failure, or nothing failed")
+            must(day.status == 3 and "ended record" in day.out, f"turn {turn}: status {day.status}, {day.out!r}, {day.err[:300]!r}")
             many, whole = day.judge(), read(f"{room}/record")[: day.record.ends[-1]]
             for client in day.clients:
                 os.unlink(f"{client.name}.in")
                 os.unlink(f"{client.name}.out")
                 open(f"{client.name}.in", "wb").close()
             status, told = resume(room, SHAPE, [client.name for client in day.clients])
-            if status != 0 or read(f"{room}/record") != whole + end_of(len(day.record.entries)):
-                raise Wrong(f"turn {turn}: resumed: status {status}, {told!r}")
+            must(status == 0 and read(f"{room}/record") == whole + end_of(len(day.record.entries)), f"turn {turn}: resumed: status {status}, {told!r}")
             return many
 
         looked += in_room(fail)
@@ -317,8 +325,8 @@ def try_failures():
 
 
 def main():
-    failed = try_all([try_order, try_parts, try_counts, try_turns, try_last, try_failures], "bursts")
-    print(f"bursts: {failed} wrong")
+    failed = try_all([try_judge, try_order, try_parts, try_counts, try_turns, try_last, try_failures], "bursts")
+    print(f"bursts: {len(CHECKS)} checks, {failed} wrong")
     sys.exit(1 if failed else 0)
 
 

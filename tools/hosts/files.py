@@ -98,6 +98,9 @@ def orders_of_scripts():
     # The image is written in two parts.
     half = {"CALLS_HALF": "other.exchange-0:1"}
     yield is_so("serve 1x1x1 amy.in --image-out other", os.devnull, [*held("other.exchange-0"), "open amy.in", *put("other"), *done], **half)
+    ended_so("serve 1x1x1 amy.in --image-out other", CALLS_LOG="calls", **half)
+    yield re.findall("end write other.* ([0-9]+)", read("calls")), ["2", "2"]
+    os.unlink("calls")
     yield sorted(os.listdir(".")), ["amy.in", "left", "other", "record"]
 
 
@@ -129,6 +132,9 @@ def orders_of_readers():
     batch, schedule = "three-transfers.txt", "three-transfers.plan.txt"
     words = [f"plan {batch} --steady", f"check {batch} {schedule}", f"draw {batch} {schedule}", f"switch {batch} --schedule {schedule}"]
     words += [f"orders {batch}", "direct gather.moves.txt", f"run 3x2x2 --image before.img {batch}", f"apply 3x2x2 {batch} before.img"]
+    for order, status in ([], 0), ([f"open {batch}", "write stdout"], 1):
+        found, wanted = is_so(f"plan {batch}", os.devnull, order, status)
+        yield found == wanted, False
     for line in [*words, "replay two-clients.record.txt"]:
         yield is_so(line, os.devnull, [*(f"open {word}" for word in line.split() if "." in word), "write stdout"])
 
@@ -232,6 +238,8 @@ def twins():
     words = "serve 1x1x1 amy.in --record record --image-out left"
     yield ended_so(words, CALLS_TWINS="1"), ("session 0\nword 00000000\n", "", 0)
     yield [os.path.getsize(name) > 0 for name in ("record", "left")], [True, True]
+    told = subprocess.run(["stat", "-c", "%i", "record", "left"], capture_output=True, env={"LD_PRELOAD": os.environ["LIBRARIES"], "CALLS_TWINS": "1"})
+    yield told.stdout, b"7\n7\n"
 
 
 # ---- calls that wait

@@ -143,6 +143,12 @@ def main(words):
     with multiprocessing.Pool(workers) as pool:
         found = pool.starmap(try_records, [(turn, first, step, workers, asks) for turn in range(count) for first in range(workers)])
     wrong = [line for _, lines in found for line in lines]
+    with tempfile.TemporaryDirectory() as room:
+        text = made_record(0)[:-1]
+        wanted, left = judged(text, Replay(made_record(0)))
+        for it in [(wanted[0], wanted[1], b"x"), left], [wanted, b"x"]:
+            if asks and not tried(text, *it, [], room):
+                wrong.append("what is told of a record, or left of it, isn't compared")
     for line in wrong[:20]:
         print(f"flips: WRONG: {line}")
     print(f"flips: {sum(looked for looked, _ in found)} spoilt records of {count}, {len(wrong)} wrong")

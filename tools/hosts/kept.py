@@ -17,11 +17,21 @@ from records import CLIENT, HEAD, Misrecorded, end_of, entry_at, head_of, limit_
 from sealed import sum_line  # noqa: E402
 from sessions import Exchange  # noqa: E402
 
-__all__ = ["Record", "Wrong", "end_of", "head_of", "judge_client"]
+__all__ = ["CHECKS", "Record", "Wrong", "end_of", "head_of", "judge_client", "must"]
+
+# The lines of a tool at which it looked at something.
+CHECKS = set()
 
 
 class Wrong(Exception):
     """What is wrong with a record, or with what a client was told beside it."""
+
+
+def must(well, why):
+    """Notes the line that looks at something, which has to be well."""
+    CHECKS.add(sys._getframe(1).f_lineno)
+    if not well:
+        raise Wrong(why)
 
 
 class Record:

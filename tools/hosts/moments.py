@@ -22,7 +22,7 @@ import tempfile
 import time
 from concurrent.futures import ProcessPoolExecutor
 
-from kept import Record, Wrong, end_of, head_of, judge_client
+from kept import CHECKS, Record, Wrong, end_of, head_of, judge_client, must
 from records import made, summed
 
 TOP = os.path.dirname(os.path.dirname(os.path.dirname(os.path.abspath(__file__))))
@@ -223,8 +223,7 @@ def ask(*words):
 def judge_replay(room, record):
     """Judges `replay` of a record: it comes to the same words, whether the record has its end or not."""
     out, err, status = ask("replay", f"{room}/record")
-    if (out, status) != (record.exchange.image(), 0):
-        raise Wrong(f"`replay` has status {status}, and tells {err[:300]!r}")
+    must((out, status) == (record.exchange.image(), 0), f"`replay` has status {status}, and tells {err[:300]!r}")
 
 
 def judge(room, shape, names, said):
@@ -236,8 +235,7 @@ def judge(room, shape, names, said):
             judge_client([], sayings)
         return None
     record = Record(text)
-    if not text.startswith(head):
-        raise Wrong("the head is another")
+    must(text.startswith(head), "the head is another")
     for session, sayings in enumerate(said):
         judge_client(record.of(session), sayings)
     judge_replay(room, record)
@@ -251,8 +249,8 @@ def begun(number):
 
 
 def try_kills(number):
-    """A round of hosts on one record, all of which are killed but the last: how often one was killed, how many entries there are, and what is
-    wrong."""
+    """A round of hosts on one record, all of which are killed but the last: how often one was killed, how many entries there are, what is
+    wrong, and the lines that looked."""
     draw, shape, kills = begun(number)
     said, before = [[] for _ in range(CLIENTS)], b""
     with tempfile.TemporaryDirectory(prefix="moments-") as room:
@@ -265,21 +263,19 @@ def try_kills(number):
                 out, err, status, parts = host.end(None if last else draw.choice(SIGNALS))
                 for sayings, (more, extra) in zip(said, parts):
                     sayings.extend([None, *more])
-                    if extra:
-                        raise Wrong(f"a client was told {extra}")
+                    must(not extra, f"a client was told {extra}")
                 record = judge(room, shape, host.names, said)
                 text = recorded(room)
-                if not text.startswith(before):
-                    raise Wrong("an entry that was there is gone, or another")
+                must(text.startswith(before), "an entry that was there is gone, or another")
                 # A head without entries is written anew, so a host that is killed then may leave none.
                 before = text[: record.ends[-1]] if record and record.entries else b""
-            if status != 0 or not record.ended or read(f"{room}/left") != record.exchange.image():
-                raise Wrong(f"the last host has status {status}, and prints {out!r} and {err[:300]!r}")
+            well = status == 0 and record.ended and read(f"{room}/left") == record.exchange.image()
+            must(well, f"the last host has status {status}, and prints {out!r} and {err[:300]!r}")
         except (Wrong, OSError, subprocess.TimeoutExpired) as why:
-            return kills, 0, f"round {number}, shape {shown(shape)}: {why!r}"
+            return kills, 0, f"round {number}, shape {shown(shape)}: {why!r}", CHECKS
         finally:
             stop_all()
-    return kills, len(record.entries), None
+    return kills, len(record.entries), None, CHECKS
 
 
 def idle_names(room, count):
@@ -320,14 +316,11 @@ def try_cuts():
             write(f"{room}/record", text[:cut])
             whole = max([end for end in ends if end <= cut], default=ends[0])
             status, told = resume(room, shape, names)
-            if status != 0:
-                raise Wrong(f"cut at {cut}: status {status}, {told!r}")
-            if read(f"{room}/record") != text[:whole] + end_of(max(ends.index(whole), 0)):
-                raise Wrong(f"cut at {cut}: the record isn't that of its whole entries")
-            if (off := said_of_cut(room, text[:whole], text[whole:cut])) != b"\n".join(line for line in told.split(b"\n") if b": cut off: " in line):
-                raise Wrong(f"cut at {cut}: {told!r}, and not {off!r}")
-            if read(f"{room}/left") != Record(text[:whole]).exchange.image():
-                raise Wrong(f"cut at {cut}: the image is another")
+            must(status == 0, f"cut at {cut}: status {status}, {told!r}")
+            must(read(f"{room}/record") == text[:whole] + end_of(max(ends.index(whole), 0)), f"cut at {cut}: the record isn't that of its whole entries")
+            well = (off := said_of_cut(room, text[:whole], text[whole:cut])) == b"\n".join(line for line in told.split(b"\n") if b": cut off: " in line)
+            must(well, f"cut at {cut}: {told!r}, and not {off!r}")
+            must(read(f"{room}/left") == Record(text[:whole]).exchange.image(), f"cut at {cut}: the image is another")
         return len(text) + 1
 
 
@@ -341,8 +334,8 @@ def try_other_heads():
         write(f"{room}/words", bytes(range(16)))
         kept = ["--record", f"{room}/record"]
         out, err, status = ask("host", shown(shape), *names, *kept)
-        if (out, status) != (b"refused file\n", 1) or b"--resume" not in err or read(f"{room}/record") != text:
-            raise Wrong(f"not to be resumed: {out!r} and {err!r}, status {status}")
+        well = (out, status) == (b"refused file\n", 1) and b"--resume" in err and read(f"{room}/record") == text
+        must(well, f"not to be resumed: {out!r} and {err!r}, status {status}")
         tries = [
             (b"refused record head\n", ["host", "2x1x2", *names, *kept, "--resume"]),
             (b"refused record head\n", ["host", shown(shape), *names[::-1], *kept, "--resume"]),
@@ -352,12 +345,9 @@ def try_other_heads():
         ]
         for wanted, words in tries:
             out, err, status = ask(*words)
-            if (out, status) != (wanted, 1):
-                raise Wrong(f"{words}: {out!r} and {err!r}, status {status}")
-            if read(f"{room}/record") != text:
-                raise Wrong(f"{words}: the record isn't as it was")
-        if any(os.path.exists(f"{name}.out") for name in names):
-            raise Wrong("a client's file was opened")
+            must((out, status) == (wanted, 1), f"{words}: {out!r} and {err!r}, status {status}")
+            must(read(f"{room}/record") == text, f"{words}: the record isn't as it was")
+        must(not any(os.path.exists(f"{name}.out") for name in names), "a client's file was opened")
         return 1 + len(tries)
 
 
@@ -377,11 +367,10 @@ def try_killed_resuming():
             process.send_signal(draw.choice(SIGNALS))
             process.wait(LIMIT)
             text = read(f"{room}/record")
-            if not text.startswith(whole) or text[len(whole) :] not in (b"0 peek 0 8000", b"", *(end[: n + 1] for n in range(len(end)))):
-                raise Wrong(f"turn {turn}: {text[len(whole):]!r} stands behind the entries")
+            well = text.startswith(whole) and text[len(whole) :] in (b"0 peek 0 8000", b"", *(end[: n + 1] for n in range(len(end))))
+            must(well, f"turn {turn}: {text[len(whole):]!r} stands behind the entries")
         status, told = resume(room, shape, names)
-        if status != 0 or read(f"{room}/record") != whole + end:
-            raise Wrong(f"at last: status {status}, {told!r}")
+        must(status == 0 and read(f"{room}/record") == whole + end, f"at last: status {status}, {told!r}")
         return 41
 
 
@@ -397,21 +386,17 @@ def try_full_disk():
             host.go_on(LIMIT)
             out, err, status, parts = host.end()
             said = [list(sayings) for sayings, _ in parts]
-            if status not in (1, 3):
-                raise Wrong(f"full {turn}: status {status}, {out!r}, {err[:300]!r}")
+            must(status in (1, 3), f"full {turn}: status {status}, {out!r}, {err[:300]!r}")
             for line in out.splitlines():
-                if not line.startswith("session ") and line != "ended record":
-                    raise Wrong(f"full {turn}: {line!r} is told")
-            if os.path.getsize(f"{room}/record") > room_left:
-                raise Wrong(f"full {turn}: the file is longer than it can be")
+                must(line.startswith("session ") or line == "ended record", f"full {turn}: {line!r} is told")
+            must(os.path.getsize(f"{room}/record") <= room_left, f"full {turn}: the file is longer than it can be")
             record = judge(room, shape, host.names, said)
             host = Host(room, shape, draw, 2, 5, "--resume", "--image-out", f"{room}/left")
             host.go_on(LIMIT)
             out, err, status, parts = host.end()
             for sayings, (more, _) in zip(said, parts):
                 sayings.extend([None, *more])
-            if status != 0 or not (record := judge(room, shape, host.names, said)).ended:
-                raise Wrong(f"full {turn}: resumed, status {status}, {out!r}, {err[:300]!r}")
+            must(status == 0 and (record := judge(room, shape, host.names, said)).ended, f"full {turn}: resumed, status {status}, {out!r}, {err[:300]!r}")
             looked += len(record.entries)
     return looked
 
@@ -434,13 +419,12 @@ def try_taken_away():
             host.go_on(LIMIT)
             out, err, status, parts = host.end()
             told = f"exchange: {room}/record: its name leads to another file now, or to none\n"
-            if status != 3 or not err.startswith(told) or any(os.path.exists(f"{room}/{name}") for name in ("record", "left")):
-                raise Wrong(f"away {turn}: status {status}, {out!r}, {err[:300]!r}")
+            well = status == 3 and err.startswith(told) and not any(os.path.exists(f"{room}/{name}") for name in ("record", "left"))
+            must(well, f"away {turn}: status {status}, {out!r}, {err[:300]!r}")
             if is_moved:
                 os.rename(f"{room}/moved", f"{room}/record")
                 record = judge(room, shape, host.names, [sayings for sayings, _ in parts])
-                if not record.ended:
-                    raise Wrong(f"away {turn}: the moved record isn't whole")
+                must(record.ended, f"away {turn}: the moved record isn't whole")
     return 6
 
 
@@ -493,8 +477,7 @@ def try_judge_of_clients():
     for entries, said in right:
         judge_client(entries, said)
     for entries, said in wrong:
-        if not is_wrong(lambda: judge_client(entries, said)):
-            raise Wrong(f"the judge of clients lets {entries} and {said} through")
+        must(is_wrong(lambda: judge_client(entries, said)), f"the judge of clients lets {entries} and {said} through")
     return len(right) + len(wrong)
 
 
@@ -507,21 +490,20 @@ def try_reader():
         text = made_record(draw, shape, names, 12)
         record = Record(text)
         head = len(head_of(shape, bytes(4 * shape[0] * shape[1] * shape[2]), names))
-        if (record.ends[0], record.ends[-1], record.ended, record.names) != (head, len(text) - len(end_of(12)), True, names):
-            raise Wrong(f"turn {turn}: a record isn't read as it is")
+        well = (record.ends[0], record.ends[-1], record.ended, record.names) == (head, len(text) - len(end_of(12)), True, names)
+        must(well, f"turn {turn}: a record isn't read as it is")
         for cut in range(len(text)):
             if cut < head:
-                if not is_wrong(lambda: Record(text[:cut])):
-                    raise Wrong(f"turn {turn}: a head that ends at {cut} is read")
+                must(is_wrong(lambda: Record(text[:cut])), f"turn {turn}: a head that ends at {cut} is read")
                 continue
             part = Record(text[:cut])
-            if part.entries != record.entries[: len(part.entries)] or part.ends[-1] != max(end for end in record.ends if end <= cut):
-                raise Wrong(f"turn {turn}: cut at {cut} it has other entries")
+            well = part.entries == record.entries[: len(part.entries)] and part.ends[-1] == max(end for end in record.ends if end <= cut)
+            must(well, f"turn {turn}: cut at {cut} it has other entries")
             looked += 1
         last = record.ends[-1]
         spoilt = [text + b"\n", text + b"0 show 1\n", text[:last] + bytes(1), text[:last] + summed(12, b"0 progress\n"), text[:last] + end_of(11)]
         spoilt += [text.replace(b"client amy", b"Client amy"), text.replace(b"client amy", b"client emy"), text[head:]]
-        spoilt += [b"record-2 %dx%dx%d %08x 3\n" % (*shape, 7) + text.partition(b"\n")[2]]
+        spoilt += [head_of(shape, bytes([1]) * (4 * shape[0] * shape[1] * shape[2]), names) + text[head:]]
         for at, entry in enumerate(record.entries):
             begin, end = record.ends[at], record.ends[at + 1]
             lines = text[begin:end].partition(b"=")[0]
@@ -551,7 +533,7 @@ def try_rests():
 
 def try_all(cases, tool="moments"):
     """Tries each case, and says what it looked at: how many are wrong."""
-    failed = 0
+    failed = int(not is_wrong(lambda: must(False, "something wrong comes first")))
     for case in cases:
         try:
             print(f"{tool}: {case.__name__[4:]}: {case()} looked at", flush=True)
@@ -588,8 +570,9 @@ def kill(count):
     wrong = []
     # Where this tool is stopped, the rounds at work come to their ends, and no other begins.
     with ProcessPoolExecutor(len(os.sched_getaffinity(0)), initializer=obey) as pool:
-        for kills, more, why in pool.map(try_kills, numbers_of(count)):
+        for kills, more, why, checks in pool.map(try_kills, numbers_of(count)):
             killed, entries = killed + kills, entries + more
+            CHECKS.update(checks)
             if why:
                 wrong.append(why)
     print(f"moments: {killed} hosts of {CLIENTS} clients killed, {entries} entries, {len(wrong)} rounds wrong", flush=True)
@@ -604,7 +587,7 @@ def main():
     failed = try_all([try_judge_of_clients, try_reader, try_rests])
     if what != "self":
         failed += kill(int(what)) + try_all([try_cuts, try_other_heads, try_killed_resuming, try_full_disk, try_taken_away])
-    print(f"moments: {failed} wrong")
+    print(f"moments: {len(CHECKS)} checks, {failed} wrong")
     sys.exit(1 if failed else 0)
 
 

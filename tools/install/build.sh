@@ -65,8 +65,8 @@ follow() {
 "$top/exchange" prove
 if [ ! -e "$library" ] ||
     [ -n "$(find "$top/crates.txt" "$top"/crates/*/src "$top"/crates/*/specs -type f -newer "$library" -print -quit)" ]; then
-    said=$(mktemp)
-    trap 'rm -f "$said"' EXIT
+    said=$(mktemp) start=$(mktemp)
+    trap 'rm -f "$said" "$start"' EXIT
     mkdir -p "$built/rlib"
     say "proving and building exchange_c, the library: two minutes, or longer beside other work .."
     if ! follow archive; then
@@ -74,6 +74,6 @@ if [ ! -e "$library" ] ||
         : >"$said"
         follow make_all || { cat "$said" >&2 && exit 3; }
     fi
-    touch "$library"
+    touch -r "$start" "$library"
     say "exchange_c is proved and built, $SECONDS s after the start"
 fi

@@ -5,6 +5,7 @@
 # install put there is replaced; where another file is in the way, nothing is put. uninstall.sh takes all away.
 set -euo pipefail
 unset CDPATH
+umask 022
 here=$(dirname "$(readlink -f "${BASH_SOURCE[0]}")")
 source "$here/prefix.sh"
 

@@ -403,8 +403,7 @@ def is_moved_in_c(room, *case, by_tables=False, first=0):
         compile_all(room, [f"{EXAMPLES}/board/module.c"], f"-DBLOCKS={blocks}", f"-DBLOCK_BYTES={4 * size}", "-o", room.at(f"modules/{m}"))
     if not by_tables:
         return is_moved(room, *case, options=["--modules", "modules"])
-    Path(room.at("switch.h")).write_text(tables_of("switch_to_c", room.ask("switch", "batch", *room.options).decode()))
-    compile_all(room, [f"{EXAMPLES}/board/relay.c"], "-DRELAY", "-o", room.at("relay"))
+    relay_in_c(room)
     run = room.rack("--modules", "modules", "--relay", "relay", "--tables", "--from", str(first), "--image", "image", "--image-out", "left")
     told, moved = room.end(run), int(room.orders().split()[3])
     wanted = "".join(f"moved setting {k}\n" for k in range(first, moved)) + f"moved settings {moved}\n"
@@ -416,6 +415,21 @@ def is_moved_in_c(room, *case, by_tables=False, first=0):
     told = room.end(other)
     is_seen = re.fullmatch(r"host.py: \d+ came back, and awaited was the sum of the switch's tables, .*\n", told)
     expect(f"{room.what}: a switch's other tables", other.returncode == 1 and is_seen, told)
+
+
+def relay_in_c(room):
+    """Compiles the relay by the tables of the room's batch."""
+    Path(room.at("switch.h")).write_text(tables_of("switch_to_c", room.ask("switch", "batch", *room.options).decode()))
+    compile_all(room, [f"{EXAMPLES}/board/relay.c"], "-DRELAY", "-o", room.at("relay"))
+
+
+def ends_by_tables(room, *case):
+    """Notes whether a board that sets its switch itself ends where a module gives another number back, and its host too."""
+    room.write(*case)
+    relay_in_c(room)
+    run = room.rack(*room.programs({0: ERRS}), "--relay", "relay", "--tables")
+    said = "host.py: 1 came back, and awaited was 0 from the relay, once setting 0 is moved\nrack.py: relay.py has ended with status 1\n"
+    room.expect((told := room.end(run)) == said and run.returncode == 1, told)
 
 
 def are_told_again(room, path, words, modules):
@@ -663,7 +677,7 @@ def is_flooded(room):
 
 
 def hears(room, said, replies, *words):
-    """Notes whether a host ends that hears these of a board, each once so many bytes have come, and says this."""
+    """Notes whether a host ends that hears these of a board, each once so many bytes have come, after a byte of a switch, and says this."""
     room.write("1x1x1", "batch 1\npush 0 0 0 0\n", [])
     room.pipes("cable")
     held = os.open(room.at("cable.out"), os.O_RDWR)
@@ -673,7 +687,7 @@ def hears(room, said, replies, *words):
     def reply():
         for count, numbers in replies:
             take(there, count)
-            os.write(held, b"".join(bytes([host.MODULES, byte]) for byte in numbers))
+            os.write(held, b"".join(bytes([host.SWITCH_B, 0, host.MODULES, byte]) for byte in numbers))
 
     threading.Thread(target=reply, daemon=True).start()
     told = room.end(run)
@@ -722,6 +736,16 @@ def says_who_is_killed(room, m, setting, *options):
     told = [room.end(it) for it in runs]
     is_well = told[0].endswith(f"rack.py: module {m} was killed by SIGKILL\n") and all(it.returncode == 1 for it in runs)
     room.expect(is_well and "driven" not in "".join(told) and f"setting {setting} " in told[-1], told)
+
+
+def ends_its_host(room):
+    """Notes whether a rack that fails before its host has opened the cable ends that too."""
+    room.write(*CASES[0][1:])
+    Path(room.at("slow")).write_text(f'#!/bin/sh\nsleep 5\nexec {room.program} "$@"\n')
+    os.chmod(room.at("slow"), 0o755)
+    room.env["EXCHANGE"] = room.at("slow")
+    told = room.end(room.rack(*room.programs({0: "os.kill(os.getpid(), 9)"})))
+    room.expect(told.endswith("rack.py: module 0 was killed by SIGKILL\n"), told)
 
 
 def is_spoilt(room, kind, way, place, byte, said=r"(?m)^host\.py: |^stopped setting 0 "):
@@ -802,6 +826,7 @@ def boards():
         yield is_moved_in_c, f"in C: {what}", *case
     for what, *case in IN_C[:-1]:
         yield by_tables, f"in C, by the board's own tables: {what}", 0, *case
+    yield ends_by_tables, "in C, by the board's own tables: another number", "1x2x1", "batch 1\npush 0 0 0 1\n", []
     # Setting 0 moves nothing. Setting 1 needs what it joined.
     yield by_tables, "in C, by the board's own tables, from setting 1 on", 1, "1x3x1", "batch 2\npush 0 0 0 0\npush 0 1 0 2\n", []
 
@@ -826,6 +851,7 @@ def faults(totals):
     for m, setting in itertools.product((0, 2), range(3)):
         yield says_who_is_killed, f"module {m} is killed in setting {setting}", m, setting, "--cable", "cable"
     yield says_who_is_killed, "a module is killed, and the host is the rack's", 2, 1
+    yield ends_its_host, "a module is killed before the rack's host begins"
 
 
 def hosts():

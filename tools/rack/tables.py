@@ -80,8 +80,11 @@ def switch(language, text):
     else:
         settings, added, ends, listed = re.fullmatch(SWITCH["c"], text).groups()
         sent = [int(it) for it in listed.split(", ")]
-    ends = [int(it) for it in ends.split(", ")][: int(settings)]
+    ends, settings = [int(it) for it in ends.split(", ")], int(settings)
+    # An array has one element at least.
+    assert len(ends) == max(1, settings) and len(sent) == max(1, ends[-1])
+    ends = ends[:settings]
     sent = sent[: ends[-1] if ends else 0]
-    assert len(ends) == int(settings) and int(added) == sum_of([len(ends), *ends, *sent])
+    assert int(added) == sum_of([settings, *ends, *sent])
     starts = [0, *ends]
     return "".join(f"setting {k} {bytes(sent[starts[k] : end]).hex(' ')}\n" for k, end in enumerate(ends))

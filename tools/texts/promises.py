@@ -22,6 +22,8 @@ import sys
 TOP = os.path.dirname(os.path.dirname(os.path.dirname(os.path.abspath(__file__))))
 PLACE = ("exchange", "Promises")
 CLAUSE = f"{TOP}/crates/exchange/src/promises.rt"
+# What the ninth rests on beside that clause: `laws::right_is_not_wrong`.
+LAW = ("exchange", "Rights", "RightIsNotWrong")
 
 # What is imported: a file's names in braces, or the file under another name.
 NAMES = re.compile(r"(pub )?use Rattle\.([\w-]+)\.specs\.([\w.]+)\.\{([^}]*)\}")
@@ -150,10 +152,10 @@ def main():
         if f"{own:,}" != lines:
             faults.append(f"{name} rests on {own:,} lines, and not on {lines}")
     start = [(*PLACE, one.strip()) for those in clause for one in those.split(",") if one.strip()]
-    seen, made, others = rests_on(start, told, names, handed)
+    seen, made, others = rests_on([*start, LAW], told, names, handed)
     all_of = (
         f"rest on {sum(seen.values()):,} lines in {len(seen)} definitions. Of these lines "
-        f"{sum(grammar.values())} say which arguments ask for which job. All cite {len(made)} names "
+        f"{sum(grammar.values())} say which arguments ask for which job. Together they cite {len(made)} names "
         f"that are made from code, and {len(others)} of the toolchain's libraries."
     )
     print(f"promises: all {all_of}")
