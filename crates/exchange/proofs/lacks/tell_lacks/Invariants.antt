@@ -1,5 +1,0 @@
-use Rattle.named_files.specs.Notes.{HasToldLines}
-use Rattle.exchange.proofs.lacks.tell_lacks.Given as goal
-
-abbrev pub invariant-loop-lack : goal.invariant-loop-lack
-invariant-loop-lack g l = HasToldLines l.fn.is_quiet (g.E.Write.contents l.fn.err) (g.E.Write.contents l.err)

@@ -1,7 +1,0 @@
-use Rattle.std.proofs.Common.{false, take}
-use Rattle.std.specs.Prelude.{All}
-use Rattle.named_files.specs.Apart.{IsSeen}
-use Rattle.named_files.proofs.apart.look_at.Given as goal
-
-abbrev pub invariant-loop-other : goal.invariant-loop-other
-invariant-loop-other g l = All (λ other. IsSeen (g.S.Places.leads l.system) other l.file false) (take l.other-index l.others)

@@ -1,7 +1,0 @@
-use Rattle.std.proofs.Common.{take}
-use Rattle.std.specs.Prelude.{All}
-use Rattle.named_files.specs.Apart.{IsOther}
-use Rattle.named_files.proofs.apart.look_beside.Given as goal
-
-abbrev pub invariant-loop-file : goal.invariant-loop-file
-invariant-loop-file g l = All (IsOther (g.S.Places.leads l.system) l.place) (take l.file-index l.files)

@@ -1,6 +1,0 @@
-use Rattle.std.proofs.Common.{take}
-use Rattle.named_files.specs.Apart.{HaveNoClash}
-use Rattle.named_files.proofs.apart.look_through.Given as goal
-
-abbrev pub invariant-loop-i : goal.invariant-loop-i
-invariant-loop-i g l = HaveNoClash (g.S.Places.leads l.system) (take l.i l.files)

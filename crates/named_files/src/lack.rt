@@ -1,9 +1,0 @@
-//! What lacks.
-
-/// What lacks, and what is told of it.
-#[derive(Drop)]
-pub struct Lack {
-    /// The name of the file.
-    pub name: String,
-    pub why: String,
-}
