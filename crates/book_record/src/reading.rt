@@ -1,27 +1,17 @@
-//! The reader of a record, from the left: each function gives what it has read, and the rest.
+//! The reader of a record, from the left: what it has read, and the rest where lines may follow.
 
 ghost use Rattle.std.specs.Prelude.{◌≡◌, ◌≢◌, ◌+◌, ◌<◌, ◌≤◌, ◌++◌, ℕ, drop, length, IfOk, IfSome, IfNone, Some, None};
-ghost use Rattle.std.specs.Fmt.{decimal};
 ghost use Rattle.batch.specs.Batches.{IsBatch};
 ghost use Rattle.batch.specs.Text.{IsNumber, number, batch_text, space};
 ghost use Rattle.batch_book.specs.Told.{PlanlessCall};
 ghost use Rattle.book_record.specs.Reading.{after_lines, BeginsWithNoBatch, BeginsWithNoCall, BeginsWithNoEntry, IsCallOf, command_for};
 ghost use Rattle.book_record.specs.RecordText.{CanSay, call_text};
 
-use batch::{Batch, BatchFault, Shape, number_from_digits, position_of};
+use batch::{Batch, BatchFault, Shape, position_of};
 use batch_book::RecordedCall;
 use client_session::SessionCommand;
-use line_words::{behind, number_and_rest};
+use line_words::{number_after, number_and_rest};
 use std::alloc::{AllocError, Global};
-
-/// The number after a word, where the line is just that.
-fn number_after(line: &[u8], word: &[u8]) -> Option<usize>
-    ensures some { IfSome result (λ n. IsNumber n × (line.now ≡ word.now ++ decimal n)) }
-    ensures none { IfNone result ((n : ℕ) → IsNumber n → line.now ≢ word.now ++ decimal n) }
-{
-    let digits = behind(line, word)?;
-    number_from_digits(digits)
-}
 
 /// The call that a command makes, where it makes just one of one line.
 fn call_by(command: SessionCommand) -> Option<RecordedCall<Batch>>

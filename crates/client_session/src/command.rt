@@ -1,14 +1,14 @@
 //! The commands of a session, and the lines that they stand for.
 
 ghost use Rattle.std.specs.Prelude.{◌≡◌, ◌≢◌, ℕ, ◌∷◌, ◌++◌, ◌≤◌, ◌+◌, length, codes, IfSome, IfNone};
-ghost use Rattle.std.specs.Fmt.{decimal};
 ghost use Rattle.batch.specs.Text.{IsNumber, number, space};
 ghost use Rattle.line_words.specs.HexWords.{IsWord, hex8};
 ghost use Rattle.client_session.specs.Commands.{Means, is_quick, line_of};
 
 use crate::limits::COMMAND_ROOM;
-use batch::number_from_digits;
-use line_words::{LINE_ROOM, Line, behind, hex8_and_rest, number_and_rest, word_from_hex8};
+use line_words::{
+    LINE_ROOM, Line, behind, hex8_and_rest, number_after, number_and_rest, word_from_hex8,
+};
 
 /// A line of a session that is in the grammar. Batches go by the numbers under which they were
 /// accepted, modules are counted from 0, and addresses are in bytes.
@@ -32,15 +32,6 @@ pub enum SessionCommand {
     Progress,
     /// End the session: `bye`.
     Bye,
-}
-
-/// The number after a word that the line begins with.
-fn number_behind(line: &[u8], word: &[u8]) -> Option<usize>
-    ensures some { IfSome result (λ n. IsNumber n × (line.now ≡ word.now ++ decimal n)) }
-    ensures none { IfNone result ((n : ℕ) → IsNumber n → line.now ≢ word.now ++ decimal n) }
-{
-    let digits = behind(line, word)?;
-    number_from_digits(digits)
 }
 
 /// What a line that peeks names.
@@ -138,19 +129,19 @@ impl SessionCommand {
         if let Some((module, address, word)) = poke(line) {
             return Some(SessionCommand::Poke(module, address, word));
         }
-        if let Some(count) = number_behind(line, b"batch ") {
+        if let Some(count) = number_after(line, b"batch ") {
             return Some(SessionCommand::Batch(count));
         }
-        if let Some(id) = number_behind(line, b"plan ") {
+        if let Some(id) = number_after(line, b"plan ") {
             return Some(SessionCommand::Plan(id));
         }
-        if let Some(id) = number_behind(line, b"run ") {
+        if let Some(id) = number_after(line, b"run ") {
             return Some(SessionCommand::Run(id));
         }
-        if let Some(id) = number_behind(line, b"show ") {
+        if let Some(id) = number_after(line, b"show ") {
             return Some(SessionCommand::Show(id));
         }
-        if let Some(id) = number_behind(line, b"drop ") {
+        if let Some(id) = number_after(line, b"drop ") {
             return Some(SessionCommand::Drop(id));
         }
         if line == b"progress".as_slice() {

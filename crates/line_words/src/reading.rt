@@ -1,6 +1,7 @@
 //! The words of a line, read from the left. Each reader gives what it has read, and the rest.
 
 ghost use Rattle.std.specs.Prelude.{◌≡◌, ◌≢◌, ℕ, List, ◌∷◌, ◌++◌, IfSome, IfNone, MatchOption};
+ghost use Rattle.std.specs.Fmt.{decimal};
 ghost use Rattle.batch.specs.Text.{BeginsWithNoNumber, IsNumber, number, space};
 ghost use Rattle.line_words.specs.HexWords.{IsWord, hex8, BeginsWithNoHex8};
 
@@ -14,6 +15,15 @@ pub fn behind<'a>(line: &'a [u8], front: &[u8]) -> Option<&'a [u8]>
         (λ rest. line.entry.now ≡ front.now ++ rest.now) }
 {
     line.strip_prefix(front)
+}
+
+/// The number after a word, where the line is just that.
+pub fn number_after(line: &[u8], word: &[u8]) -> Option<usize>
+    ensures some { IfSome result (λ n. IsNumber n × (line.now ≡ word.now ++ decimal n)) }
+    ensures none { IfNone result ((n : ℕ) → IsNumber n → line.now ≢ word.now ++ decimal n) }
+{
+    let digits = behind(line, word)?;
+    number_from_digits(digits)
 }
 
 /// A number with a space after it, and the rest.

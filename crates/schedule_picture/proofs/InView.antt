@@ -1,15 +1,13 @@
 -- Each cell stands beside the labels, within the width, and above the legend.
-use Rattle.std.proofs.Common.{◌≡◌, ℕ, ◌+◌, ◌*◌, ◌/◌, ◌<◌, ◌≤◌, inl, inr, List, Some, slice_get, subst, arith}
+use Rattle.std.proofs.Common.{◌≡◌, ℕ, ◌+◌, ◌*◌, ◌/◌, ◌<◌, ◌≤◌, inl, inr, List, Some, slice_get, arith}
 use Rattle.std.proofs.Math.Nat.{le-max_right}
 use Rattle.std.proofs.lemmas.Bool.{cases_lt}
-use Rattle.std.proofs.lemmas.Option.{slice_get_within, get_or_from_slice_get}
 use Rattle.batch.specs.declared.transfer.Transfer.{Transfer}
 use Rattle.batch.specs.Batches.{IsBatch}
-use Rattle.batch.specs.Extent.{widest}
-use Rattle.batch.specs.Text.{HasModules, IsWithin}
 use Rattle.link_graph.specs.declared.link.End.{End}
 use Rattle.link_graph.specs.declared.link.End.TheVariants.{Zero, Three}
 use Rattle.link_graph.specs.Counts.{module_at}
+use Rattle.link_graph.proofs.Tables.{module_fits, modules_of}
 use Rattle.schedule_picture.specs.declared.layout.TheConstants.{MARGIN, PANEL, LABELS, COLUMN, CELL_WIDTH, HALF, LEAST}
 use Rattle.schedule_picture.specs.Places.{takes_part, half_place, rack_modules, column_place, panels_of, panel_place, width_of, row_place, legend_place}
 use Rattle.schedule_picture.specs.Cells.{cell_left}
@@ -43,13 +41,9 @@ half_below : (e : End) → half_place e ≤ HALF
 half_below Zero = omega arith
 half_below Three = omega arith
 
-has_modules : (batch : List Transfer) (t : ℕ) (x : Transfer) → IsBatch batch → slice_get batch t ≡ Some x → HasModules widest x
-has_modules batch t x b at = (subst (IsWithin widest) (get_or_from_slice_get batch t x x at) (b.within t x (slice_get_within batch t x at))).0
-
 in_rack : (batch : List Transfer) (t : ℕ) (x : Transfer) (e : End) → IsBatch batch → slice_get batch t ≡ Some x → module_at e x < rack_modules
 unfolding rack_modules
-in_rack batch t x Zero b at = omega (arith, (has_modules batch t x b at).0)
-in_rack batch t x Three b at = omega (arith, (has_modules batch t x b at).1)
+in_rack batch t x e b at = module_fits e x (modules_of batch t x at b)
 
 pub in_view : AllIsInView
 unfolding row_place legend_place

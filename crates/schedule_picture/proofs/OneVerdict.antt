@@ -66,9 +66,5 @@ one_verdict batch settings certificate v w p q least =
     let changes : v.changes ≡ w.changes = p.counted ∙ sym q.counted in
     let partners : v.partners ≡ w.partners = same_most batch v.partners w.partners p.needed q.needed in
     let all : ℕ → Option Link → Standing → ℕ → ℕ → ℕ → Verdict = λ f l s c n m. record { fewest = f; busiest = l; standing = s; changes = c; partners = n; least = m } in
-    ap (λ (f : ℕ). all f v.busiest v.standing v.changes v.partners v.least) fewest
-    ∙ ap (λ (l : Option Link). all w.fewest l v.standing v.changes v.partners v.least) busiest
-    ∙ ap (λ (s : Standing). all w.fewest w.busiest s v.changes v.partners v.least) standing
-    ∙ ap (λ (c : ℕ). all w.fewest w.busiest w.standing c v.partners v.least) changes
-    ∙ ap (λ (n : ℕ). all w.fewest w.busiest w.standing w.changes n v.least) partners
-    ∙ ap (all w.fewest w.busiest w.standing w.changes w.partners) least
+    let same : all v.fewest v.busiest v.standing v.changes v.partners v.least ≡ all w.fewest w.busiest w.standing w.changes w.partners w.least = cc in
+    same

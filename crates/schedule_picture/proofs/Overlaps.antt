@@ -1,8 +1,9 @@
 -- Cells that overlap are one: columns stand apart by their setting, halves of rows by their link,
 -- and a setting uses a link once.
-use Rattle.std.proofs.Common.{◌≡◌, ℕ, zero, suc, ◌+◌, ◌*◌, ◌<◌, inl, inr, Bool, true, false, List, [], Some, slice_get, refl, sym, ap, subst, ◌∙◌, arith}
+use Rattle.std.proofs.Common.{◌≡◌, ℕ, zero, suc, ◌+◌, ◌*◌, ◌<◌, inl, inr, Bool, true, List, [], Some, slice_get, refl, sym, ap, subst, ◌∙◌, arith}
 use Rattle.std.specs.Prelude.{◌==◌, ◌||◌}
-use Rattle.std.proofs.lemmas.Bool.{cases_eq, cases_lt, eq-eqb}
+use Rattle.std.proofs.lemmas.Bool.{cases_eq, cases_order, eq-eqb}
+use Rattle.std.proofs.Math.Bool.{or-true}
 use Rattle.std.proofs.lemmas.List.Folds.{list_any_at}
 use Rattle.std.proofs.lemmas.Option.{get_or_from_slice_get, slice_get_within}
 use Rattle.batch.specs.declared.transfer.Transfer.{Transfer}
@@ -41,21 +42,17 @@ rows_grow p m (suc n) lt up = elim (cases_eq m n) [
 ]
 
 same_row : (batch : List Transfer) (m n : ℕ) → takes_part batch m ≡ true → takes_part batch n ≡ true → row_of batch m ≡ row_of batch n → m ≡ n
-same_row batch m n here there rows = elim (cases_lt m n) [
-  | inl lt ↦ absurd (omega (arith, rows_grow (takes_part batch) m n lt here))
-  | inr ge ↦ elim (cases_lt n m) [
-    | inl lt ↦ absurd (omega (arith, rows_grow (takes_part batch) n m lt there))
-    | inr le ↦ omega arith
+same_row batch m n here there rows = elim (cases_order m n) [
+  | inl e ↦ e
+  | inr other ↦ elim other [
+    | inl lt ↦ absurd (omega (arith, rows_grow (takes_part batch) m n lt here))
+    | inr lt ↦ absurd (omega (arith, rows_grow (takes_part batch) n m lt there))
   ]
 ]
 
-or_true : (b : Bool) → (b || true) ≡ true
-or_true true = refl
-or_true false = refl
-
 touches : (x : Transfer) (e : End) → (x.initiator == module_at e x || x.responder == module_at e x) ≡ true
 touches x Zero = rw (eq-eqb x.initiator x.initiator refl) refl
-touches x Three = ap (λ (b : Bool). x.initiator == x.responder || b) (eq-eqb x.responder x.responder refl) ∙ or_true (x.initiator == x.responder)
+touches x Three = ap (λ (b : Bool). x.initiator == x.responder || b) (eq-eqb x.responder x.responder refl) ∙ or-true (x.initiator == x.responder)
 
 pub has_row : (batch : List Transfer) (t : ℕ) (x : Transfer) (e : End) → slice_get batch t ≡ Some x → takes_part batch (module_at e x) ≡ true
 has_row batch t x e at =
@@ -73,11 +70,11 @@ same_position batch setting i j t u link matching one other uses used =
     let there = get_or_from_slice_get setting j u 0 other in
     let uses_here = subst (λ (n : ℕ). Uses batch n link) (sym here) uses in
     let uses_there = subst (λ (n : ℕ). Uses batch n link) (sym there) used in
-    elim (cases_lt i j) [
-      | inl lt ↦ absurd ((matching i j 0 lt (slice_get_within setting j u other)).none_common link uses_here uses_there)
-      | inr ge ↦ elim (cases_lt j i) [
-        | inl lt ↦ absurd ((matching j i 0 lt (slice_get_within setting i t one)).none_common link uses_there uses_here)
-        | inr le ↦ omega arith
+    elim (cases_order i j) [
+      | inl e ↦ e
+      | inr apart ↦ elim apart [
+        | inl lt ↦ absurd ((matching i j 0 lt (slice_get_within setting j u other)).none_common link uses_here uses_there)
+        | inr lt ↦ absurd ((matching j i 0 lt (slice_get_within setting i t one)).none_common link uses_there uses_here)
       ]
     ]
 

@@ -23,8 +23,8 @@ all_four a b c d e x y v w z p q r s = both a d e ((x ++ y) ++ v) w z (next a c 
 pub all_five : (a b c d e f x y v w u z : List ℕ) → b ≡ a ++ x → c ≡ b ++ y → d ≡ c ++ v → e ≡ d ++ w → f ≡ e ++ u → (((x ++ y) ++ v) ++ w) ++ u ≡ z → f ≡ a ++ z
 all_five a b c d e f x y v w u z p q r s t = all_four a c d e f (x ++ y) v w u z (next a b c x y p q) r s t
 
--- two parts, of which the last may want memory, are together what is wanted; and three, four, five
--- and six
+-- two parts, of which the last may want memory, are together what is wanted; and three, four and
+-- five
 pub two : {T E : Type 0} (r : Result T E) (a b c x y z : List ℕ) → b ≡ a ++ x → OnOk r (c ≡ b ++ y) → x ++ y ≡ z → OnOk r (c ≡ a ++ z)
 two r a b c x y z p q e = on_ok_weaker r (λ (h : c ≡ b ++ y). next a b c x y p h ∙ ap (λ (t : List ℕ). a ++ t) e) q
 
@@ -36,9 +36,6 @@ four r a b c d e x y v w z p q = three r a c d e (x ++ y) v w z (next a b c x y 
 
 pub five : {T E : Type 0} (r : Result T E) (a b c d e f x y v w u z : List ℕ) → b ≡ a ++ x → c ≡ b ++ y → d ≡ c ++ v → e ≡ d ++ w → OnOk r (f ≡ e ++ u) → (((x ++ y) ++ v) ++ w) ++ u ≡ z → OnOk r (f ≡ a ++ z)
 five r a b c d e f x y v w u z p q = four r a c d e f (x ++ y) v w u z (next a b c x y p q)
-
-pub six : {T E : Type 0} (r : Result T E) (a b c d e f g x y v w u t z : List ℕ) → b ≡ a ++ x → c ≡ b ++ y → d ≡ c ++ v → e ≡ d ++ w → f ≡ e ++ u → OnOk r (g ≡ f ++ t) → ((((x ++ y) ++ v) ++ w) ++ u) ++ t ≡ z → OnOk r (g ≡ a ++ z)
-six r a b c d e f g x y v w u t z p q = five r a c d e f g (x ++ y) v w u t z (next a b c x y p q)
 
 -- what is put after a text where there is memory
 pub put : {T E : Type 0} (r : Result T E) (s x y : List ℕ) → s ≡ (if is_ok r then x else y) → OnOk r (s ≡ x)

@@ -79,8 +79,8 @@ explained_text = EXPLAINED.now
 unfoldable pub size_text : ℕ → ℕ → List ℕ
 size_text width height =
     codes "<svg xmlns='http://www.w3.org/2000/svg' width='" ++ decimal width ++ codes "' height='"
-    ++ decimal height ++ codes "'"
-    ++ codes " viewBox='0 0 " ++ decimal width ++ codes " " ++ decimal height ++ codes "'>\n<title>"
+    ++ decimal height ++ codes "' viewBox='0 0 " ++ decimal width ++ codes " " ++ decimal height
+    ++ codes "'>\n<title>"
 
 -- the white ground, before the heading's words
 unfoldable pub ground_text : ℕ → ℕ → List ℕ

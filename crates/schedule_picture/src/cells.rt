@@ -55,6 +55,7 @@ fn module_at(end: End, transfer: &Transfer) -> usize
 }
 
 /// Puts a place at the end of the text: a module with the link through which its block goes.
+#[tactic(auto, unfolding(crate::specs::Cells::end_label))]
 fn push_place(text: &mut String, module: usize, end: End, block: usize) -> Result<(), AllocError>
     ensures { OnOk result (Adds text.old text.new (end_label «module» end block)) }
 {

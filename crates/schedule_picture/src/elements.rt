@@ -7,6 +7,7 @@ use link_graph::Link;
 use std::alloc::AllocError;
 
 /// Puts the place and the size of a rectangle at the end of the text, and ends the rectangle.
+#[tactic(auto, unfolding(crate::specs::Elements::box_text))]
 pub(crate) fn push_box(
     text: &mut String,
     left: usize,
@@ -38,6 +39,7 @@ pub(crate) fn push_coloured(
 }
 
 /// Puts the beginning of a text at the end of the text: its place, before its words.
+#[tactic(auto, unfolding(crate::specs::Elements::text_start))]
 pub(crate) fn push_text_start(text: &mut String, left: usize, top: usize) -> Result<(), AllocError>
     ensures { OnOk result (Adds text.old text.new (text_start left top)) }
 {
@@ -45,6 +47,7 @@ pub(crate) fn push_text_start(text: &mut String, left: usize, top: usize) -> Res
 }
 
 /// Puts the name of a link at the end of the text.
+#[tactic(auto, unfolding(crate::specs::Elements::link_label))]
 pub(crate) fn push_link(text: &mut String, link: Link) -> Result<(), AllocError>
     ensures { OnOk result (Adds text.old text.new (link_label link)) }
 {

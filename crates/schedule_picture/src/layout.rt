@@ -48,6 +48,7 @@ pub const LEGEND: usize = 112;
 pub const LEAST: usize = 760;
 
 /// Where a column begins, from the left.
+#[tactic(auto, unfolding(crate::specs::Places::column_place))]
 pub(crate) fn column_left(column: usize) -> usize
     requires { IsNumber column }
     ensures value { result ≡ column_place column }
@@ -65,6 +66,7 @@ pub(crate) fn panels(columns: usize) -> usize
 }
 
 /// Where the labels of a panel begin, from the left.
+#[tactic(auto, unfolding(crate::specs::Places::panel_place))]
 pub(crate) fn panel_left(panel: usize) -> usize
     requires { IsNumber panel }
     ensures value { result ≡ panel_place panel }
@@ -74,6 +76,7 @@ pub(crate) fn panel_left(panel: usize) -> usize
 }
 
 /// How wide a panel's columns are together, of so many columns in all.
+#[tactic(auto, unfolding(crate::specs::Places::panel_width))]
 pub(crate) fn panel_columns(columns: usize, panel: usize) -> usize
     requires columns { IsNumber columns }
     requires panel { panel < panels_of columns }
@@ -94,6 +97,7 @@ pub(crate) fn half_below(end: End) -> usize
 }
 
 /// How wide a picture of so many columns is.
+#[tactic(auto, unfolding(crate::specs::Places::width_of))]
 pub(crate) fn width(columns: usize) -> usize
     requires { IsNumber columns }
     ensures { result ≡ width_of columns }

@@ -139,9 +139,9 @@ fn push_size(text: &mut String, width: usize, height: usize) -> Result<(), Alloc
 {
     write!(
         text,
-        "<svg xmlns='http://www.w3.org/2000/svg' width='{width}' height='{height}'"
-    )?;
-    write!(text, " viewBox='0 0 {width} {height}'>\n<title>")
+        "<svg xmlns='http://www.w3.org/2000/svg' width='{width}' height='{height}' \
+        viewBox='0 0 {width} {height}'>\n<title>"
+    )
 }
 
 /// Puts the white ground at the end of the text, and the beginning of the heading.
@@ -150,9 +150,9 @@ fn push_ground(text: &mut String, width: usize, height: usize) -> Result<(), All
 {
     write!(
         text,
-        "<rect class='paper' width='{width}' height='{height}'/>\n"
-    )?;
-    text.push_str("<text class='heading' x='16' y='36'>")
+        "<rect class='paper' width='{width}' height='{height}'/>\n\
+        <text class='heading' x='16' y='36'>"
+    )
 }
 
 /// Puts the beginning of the picture at the end of the text: its size, and its title.

@@ -83,6 +83,7 @@ impl<'a> Rows<'a> {
     }
 
     /// How far the top of the module's row stands from the top of the picture.
+    #[tactic(auto, unfolding(crate::specs::Places::row_place))]
     pub(crate) fn top(&self, module: usize) -> usize
         requires { «module» ≤ MAX_MODULES }
         ensures value { result ≡ row_place self.now «module» }
@@ -92,6 +93,7 @@ impl<'a> Rows<'a> {
     }
 
     /// How far the legend, below all rows, stands from the top of the picture.
+    #[tactic(auto, unfolding(crate::specs::Places::rack_modules, crate::specs::Places::legend_place))]
     pub(crate) fn below(&self) -> usize
         ensures value { result ≡ legend_place self.now }
         ensures small { result < 2 ^ 20 }

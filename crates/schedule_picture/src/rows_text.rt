@@ -79,6 +79,7 @@ fn push_lane(
 }
 
 /// Puts the half of a module's row that is one link's, in one panel, at the end of the text.
+#[tactic(auto, unfolding(crate::specs::RowsText::half_text))]
 fn push_half(
     text: &mut String,
     rows: &Rows<'_>,

@@ -94,9 +94,12 @@ const LIMITS: [Row; 3] = [
     (Ask::Settle(1, PUSH), Said::Settled(1)),
 ];
 
-/// Whether a closed exchange has as many entries in its history as there may be, and the first word
-/// is still 0.
-fn is_full(closed: Closed<MemoryPort, PlainWires, OpenGate>) -> bool {
+/// Whether an exchange is closed, with as many entries in its history as there may be, and its first
+/// word is still 0.
+fn is_full(closed: Option<Closed<MemoryPort, PlainWires, OpenGate>>) -> bool {
+    let Some(closed) = closed else {
+        return false;
+    };
     let word = closed.book.rack().read(0, FIRST);
     let entries = closed.book.history().len();
     entries == 65536 && word == Ok(0)
@@ -113,14 +116,9 @@ fn fills<L: ExchangeName, R: AllocGlobal + Clock + Threads + Wait + Sync>(
     let mut pair = pair;
     let zeros = pair.rightly(rt, Calls::Peeks, 0, peeks);
     let poked = pair.ask(rt, Ask::Poke(0, FIRST, 1));
-    match close(rt.alloc(), pair) {
-        Some(closed) => {
-            let is_full = is_full(closed);
-            let is_refused = poked == Said::Refused(BookRefusal::HistoryFull);
-            zeros == peeks && is_refused && is_full
-        }
-        None => false,
-    }
+    let is_refused = poked == Said::Refused(BookRefusal::HistoryFull);
+    let is_full = is_full(close(rt.alloc(), pair));
+    zeros == peeks && is_refused && is_full
 }
 
 /// Whether the batch of [`PUSH`] is accepted under each number from 2 to 256, and then the book is

@@ -1,5 +1,5 @@
 use Rattle.std.proofs.Common.{rules}
 use Rattle.client_session.proofs.command.SessionCommand.read.Goals as goal
 
-pub returns-in-Some-number_behind-2 : goal.returns-in-Some-number_behind-2
-returns-in-Some-number_behind-2 c = search rules
+pub returns-in-Some-number_after-2 : goal.returns-in-Some-number_after-2
+returns-in-Some-number_after-2 c = search rules

@@ -1,8 +1,8 @@
 use Rattle.std.proofs.Common.{◌≢◌, ℕ, ◌++◌}
 use Rattle.std.specs.Fmt.{decimal}
 use Rattle.batch.specs.Text.{IsNumber}
-use Rattle.line_words.proofs.Numbers.{none_as, after_word}
-use Rattle.client_session.proofs.command.number_behind.Goals as goal
+use Rattle.line_words.proofs.Numbers.{after_word, none_as}
+use Rattle.line_words.proofs.reading.number_after.Goals as goal
 
 pub returns-clause-none : goal.returns-clause-none
 returns-clause-none c =
