@@ -340,8 +340,8 @@ class _BootState(ctypes.Structure):
 class EndFailed(ValueError):
     """The end of a link refuses a byte, and each byte after it. `replies` are those to what came before."""
 
-    def __init__(self, why: str, replies: bytes):
-        super().__init__(why)
+    def __init__(self, why: str, replies: bytes = b""):
+        super().__init__(why)  # A copy is made of this alone; its replies are set after that.
         self.replies = replies
 
 

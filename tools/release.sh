@@ -96,6 +96,12 @@ case ${1-} in
     rm "$work/clone/changed"
     printf '#!/bin/sh\n[ "$1" = check ] && echo logic=proved functions=1\n' >"$work/rt"
     ! PATH=$work:$PATH "$work/clone/tools/release.sh" "$work/first" >/dev/null 2>&1 || fail 1 "WRONG: what isn't built is released"
+    # What is built has the verdict on each crate.
+    (cd "$top" && tar -cf - crates/exchange/out/exchange crates/exchange_c/out/libexchange_c.a) | tar -C "$work/clone" -xmf -
+    printf '#!/bin/sh\ncase $1 in check) echo logic=proved functions=1 ;; doc) echo "%s" ;; *) exit 1 ;; esac\n' "$(rt doc)" >"$work/rt"
+    archive=$(PATH=$work:$PATH "$work/clone/tools/release.sh" "$work/first")
+    tar -xzOf "$archive" --wildcards '*/share/exchange/verdicts' | cut -d: -f1 | cmp - <(printf '%s\n' "${crates[@]}") ||
+        fail 1 "WRONG: the crates of its verdicts"
     echo "release: $(basename "$archive") is the same twice, and works where it wasn't made"
     ;;
 '' | -*) fail 2 "the words are: FOLDER, or --check" ;;

@@ -15,6 +15,7 @@ each module does what it is told for link 0, and then what it is told for link 3
 
 import argparse
 import contextlib
+import fcntl
 import os
 import queue
 import signal
@@ -23,6 +24,7 @@ import subprocess
 import sys
 import tempfile
 import threading
+import time
 
 try:
     import exchange
@@ -39,7 +41,7 @@ from chain import LINK_ENDED, ON_ONE_SWITCH  # noqa: E402
 
 HOST = "host.py"
 
-# Seconds that a host has to end in, once its cable has ended, and a process that others miss.
+# Seconds that a host has to end in, once its cable or the modules have ended, and a process that others miss.
 PATIENCE = 10
 
 
@@ -136,6 +138,15 @@ class Rack:
             self.started[HOST].kill()
 
 
+def wait_for_host(cable):
+    """Waits until no host has the cable: what the modules said last may still be on its way there."""
+    until = time.monotonic() + PATIENCE
+    while time.monotonic() < until:
+        with contextlib.suppress(BlockingIOError):
+            return fcntl.flock(cable, fcntl.LOCK_EX | fcntl.LOCK_NB)
+        time.sleep(0.01)
+
+
 def size_of(shape, batch):
     """How many bytes the words of a rack have, of a shape that a batch fits."""
     try:
@@ -200,6 +211,8 @@ def main():
                 rack.start(HOST, sys.executable, f"{BOARD}/{HOST}", *words)
             print(f"rack.py: {rack.numbers()}", file=sys.stderr, flush=True)
             fault = rack.wait()
+            if given.cable and not fault:
+                wait_for_host(held[0])
         finally:
             rack.stop(held)
     if fault:

@@ -11,6 +11,7 @@ import multiprocessing
 import os
 import random
 import re
+import signal
 import subprocess
 import sys
 import tempfile
@@ -211,6 +212,11 @@ def are_same(asked, path, *words):
     return calls.end() and not wrong
 
 
+def has_no_more(path, size):
+    """Whether a thread with so many kilobytes of stack has no more: the program ends where a thread takes as many before its call."""
+    return subprocess.run([path, "over", size], input=b"plan 8\nbatch 0\n", stdout=subprocess.DEVNULL).returncode == -signal.SIGSEGV
+
+
 def on_small_stacks(path):
     """The examples and the largest texts, on threads with as much stack as the page says, which may name calls that need another number."""
     with open(f"{TOP}/docs/EMULATORS.md", encoding="utf-8") as file:
@@ -220,7 +226,10 @@ def on_small_stacks(path):
     for name, given in [*examples(), *largest()]:
         asked.setdefault(named.get(name, most), []).append((name, given))
     print(f"calls: {sum(map(len, asked.values()))} calls on small stacks")
-    return all([are_same(calls, path, "stack", size) for size, calls in asked.items()])
+    more = [size for size in asked if not has_no_more(path, size)]
+    if more:
+        print(f"calls: WRONG: threads with more stack than {more} kilobytes", file=sys.stderr)
+    return all([are_same(calls, path, "stack", size) for size, calls in asked.items()]) and not more
 
 
 def main():

@@ -3,12 +3,14 @@
  *   try              requests of standard input
  *   try no-memory    the same, and each growth of memory is refused in turn
  *   try stack KB     the same, and each call is made on a thread with so many kilobytes of stack
+ *   try over KB      the same, and before its call the thread takes as much as that, which ends the program
  *
  * A request is a line `NAME BYTES..`, with the number of bytes of each text, and behind it the texts. `whyN` asks why call N refuses its three
  * texts, and behind them stand their names. The reply is a line
  * `STATUS COUNT`, and behind it the bytes of the answer. What is wrong is told on standard error, and ends the program. */
 #define _GNU_SOURCE
 #include "exchange.h"
+#include <alloca.h>
 #include <pthread.h>
 #include <stdio.h>
 #include <stdlib.h>
@@ -94,15 +96,19 @@ struct made {
     uint8_t status;
 };
 
+/* How many bytes of stack the thread of a call has, or 0 where this one makes them. Below it is a page that nobody may touch. */
+static size_t stack;
+/* How many bytes of stack are taken before the call. */
+static size_t over;
+
 static void *make(void *given)
 {
     struct made *it = given;
+    if (over > 0)
+        explicit_bzero(alloca(over), over);
     it->status = call_here(it->name, it->texts, it->out, it->room, it->count);
     return NULL;
 }
-
-/* How many bytes of stack the thread of a call has, or 0 where this one makes them. Below it is a page that nobody may touch. */
-static size_t stack;
 
 static uint8_t call(const char *name, const struct text *texts, uint8_t *out, size_t room, size_t *count)
 {
@@ -183,7 +189,8 @@ int main(int words, char **word)
 {
     char line[200], name[16];
     int refuses = words > 1 && strcmp(word[1], "no-memory") == 0;
-    stack = words > 2 && strcmp(word[1], "stack") == 0 ? 1024 * (size_t)atol(word[2]) : 0;
+    over = words > 2 && strcmp(word[1], "over") == 0 ? 1024 * (size_t)atol(word[2]) : 0;
+    stack = words > 2 && (over > 0 || strcmp(word[1], "stack") == 0) ? 1024 * (size_t)atol(word[2]) : 0;
     while (fgets(line, sizeof line, stdin) != NULL) {
         struct text texts[TEXTS] = {{NULL, 0}};
         int taken, next, given = 0;

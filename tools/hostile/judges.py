@@ -2,14 +2,17 @@
 """What judges the program is handed wrong things: judges.py
 
 Each judge of the plain implementation, of rows, of documents, of tables, of edits, of `rt ci` and of
-how much was tried, and the script of examples that adds up prices, takes what is right, and denies
-each of the wrong things beside it.
+how much was tried, the scripts of examples that add up prices and make patterns, and the head of the
+test command take what is right, and deny each of the wrong things beside it.
 """
 
 import contextlib
 import io
 import os
 import random
+import re
+import shutil
+import subprocess
 import sys
 import tempfile
 from runpy import run_path
@@ -25,7 +28,7 @@ import steady
 import streams
 import switching
 import texts as spoilt
-from program import TOP, Ended
+from program import EXCHANGE, TOP, Ended
 
 sys.path += [f"{TOP}/{folder}" for folder in ("examples", "tools/c", "tools/rack")]
 import calls
@@ -227,6 +230,26 @@ def is_noted(tool, well):
     return not tool.wrong or bool(tool.wrong.clear())
 
 
+def is_printed(script):
+    """Whether a program may do this that is to print `a`."""
+    with contextlib.redirect_stderr(io.StringIO()):
+        python.expect_run("judges", "a\n", "sh", "-c", script)
+    return not python.wrong or bool(python.wrong.clear())
+
+
+def is_handed(*left):
+    """Whether the module for Python and plain Python may leave these of one stream."""
+    def refuse(*_):
+        raise ValueError("no C004 has this state")
+
+    sys.modules["exchange"] = SimpleNamespace(C004=refuse, LinkEnd=refuse)
+    python.try_states.__globals__["hand"] = lambda number: [left, left]
+    with contextlib.redirect_stderr(io.StringIO()):
+        python.try_states(1)
+    del sys.modules["exchange"]
+    return not python.wrong or bool(python.wrong.clear())
+
+
 def is_called(answer, why):
     """Whether a call of a library may answer and tell this where a schedule lacks transfer 1."""
     made, given = SimpleNamespace(ask=lambda *_: answer, why=lambda *_: why), [THREE, PLAN.replace(b"setting 1", b"setting")]
@@ -267,6 +290,34 @@ def is_said(waits, threads, *lines):
     """Whether crates.txt says what `rt ci` does of a crate that waits so often, and whose tests do so much."""
     own = [f"logic=proved may-wait={waits}", "== a: its tests", f"logic=proved main=Abort+{threads}"] if waits else []
     return not [*said.faults(["== a", *own, *lines], {"a": {"may_wait": "1", "tests_may": "Wait+Threads"}})]
+
+
+def is_made(name):
+    """Whether the files of patterns are as they are made, where one of the examples has a line more."""
+    with tempfile.TemporaryDirectory() as room:
+        shutil.copytree(f"{TOP}/examples", f"{room}/examples")
+        os.symlink(EXCHANGE, f"{room}/exchange")
+        with open(f"{room}/examples/{name}", "a") as file:
+            file.write("" if name == "ring.txt" else "\n")
+        return subprocess.run([f"{room}/examples/patterns/make.sh", "--check"], capture_output=True).returncode == 0
+
+
+def is_tested(script, fails="", crates="a: std\n"):
+    """Whether a script of the test command ends well where one thing that it calls fails. One that it doesn't call stands in least.txt alone."""
+    with tempfile.TemporaryDirectory() as room:
+        with open(f"{TOP}/tools/{script}") as file:
+            called = {*re.findall(r"(?m)^(?:try (?:live )?)?((?:tools|bench|examples)/\S+)", file.read()), "rt", "exchange", "tools/least.py"}
+        for name in called:
+            os.makedirs(os.path.dirname(f"{room}/{name}"), exist_ok=True)
+            with open(f"{room}/{name}", "w") as file:
+                file.write(f"#!/bin/sh\nexit {int(name == fails)}\n")
+            os.chmod(f"{room}/{name}", 0o755)
+        shutil.copy(f"{TOP}/tools/{script}", f"{room}/tools")
+        for name, text in ("crates.txt", crates), ("tools/least.txt", f"{fails} 1 it\n" if fails and fails not in called else ""):
+            with open(f"{room}/{name}", "w") as file:
+                file.write(text)
+        env = {**os.environ, "PATH": f"{room}:{os.environ['PATH']}"}
+        return subprocess.run([f"{room}/tools/{script}"], capture_output=True, env=env).returncode == 0
 
 
 # Each judge, what it takes, and what stands in the place of that in turn.
@@ -335,7 +386,15 @@ CASES = [
     ]),
     (is_well, ((1, 1), (2, 2)), [((1, 2),), ((1, 1), (1, 2)), ((1, 2), (1, 1)), ()]),
     (is_told_well, (b"batch 1\npush 0 0 1\n",), [(b"batch 1\npush 0 0 1\n", b""), (b"batch 1\npush 0 0 0 0\n",)]),
-    (is_noted, (python, True), [(python, False)]), (is_noted, (rack, True), [(rack, False)]),
+    (is_noted, (python, True), [(python, False), (python, "")]), (is_noted, (rack, True), [(rack, False), (rack, None)]),
+    (is_printed, ("echo a",), [("echo b",), ("echo a; exit 1",), ("echo a; echo b >&2",)]),
+    (is_handed, (1, 1), [(1, 2)]),
+    (is_made, ("ring.txt",), [("all-to-all.txt",), ("patterns/halo.svg",)]),
+    (is_tested, ("test.sh",), [("test.sh", it) for it in ("rt", "tools/said.py", "tools/try_programs.sh")]),
+    (is_tested, ("try_programs.sh",), [
+        *[("try_programs.sh", it) for it in ("exchange", "tools/edits.py", "tools/rack/run.py", "tools/hostile/run.sh", "tools/none.py")],
+        ("try_programs.sh", "", "a: std os\n"),
+    ]),
     (is_called, ((1, b"refused check missing 1\n"), (0, MISSING)), [
         ((0, b"refused check missing 1\n"), (0, MISSING)), ((1, b"refused check missing 2\n"), (0, MISSING)),
         ((1, b"refused check missing 1\n"), (1, MISSING)), ((1, b"refused check missing 1\n"), (0, b"")),
@@ -347,9 +406,12 @@ CASES = [
     (texts.fits, (["a", "...", "b"], ["a", "c", "b"]), [
         (["a", "...", "b"], ["a", "c"]), (["a", "...", "b"], ["c", "b"]), (["a"], ["b"]), (["a"], ["a", "b"]), (["a", "b"], ["a"]), ([], ["a"]), (["a"], []),
     ]),
-    (is_enough, ("rows: 5000 tried, 0 wrong\n",), [("rows: 900 tried, 0 wrong\n",), ("5000\n",), ("rows: 5000 tried\nWRONG\n",), ("", "tools/none.py")]),
+    (is_enough, ("rows: 9 tried, 0 wrong\nrows: 5000 tried, 0 wrong\n",), [("rows: 900 tried, 0 wrong\n",), ("5000\n",), ("rows: 5000 tried\nWRONG\n",), ("", "tools/none.py")]),
     (is_enough, (LACKS + PLANNED, "bench/planning/run.sh"), [(LACKS, "bench/planning/run.sh"), (PLANNED, "bench/planning/run.sh")]),
-    (is_said, (1, "Threads+Wait"), [(2, "Threads+Wait"), (1, "Wait"), (0, ""), (1, "Threads+Wait", "BAD EDIT a"), (1, "Threads+Wait", "only by a limit")]),
+    (is_said, (1, "Threads+Wait"), [
+        (2, "Threads+Wait"), (1, "Wait"), (0, ""), (0, "", "== a: its tests", "logic=proved main=Abort+Threads+Wait"),
+        (1, "Threads+Wait", "BAD EDIT a"), (1, "Threads+Wait", "only by a limit"),
+    ]),
     (can_be_made, ("let a = 1;",), [("let c = 1;",), ("= 1;",), ("let a = 1;", ""), ("let c = 2;", "let c = 2;\n")]),
     (is_table, (IN_C,), [(IN_C, *it) for it in [
         [("97", "98")], [("{0}", "{0, 0}")], [("e 0", "e 1")], [("},\n}", "},\n\n}")], [("23397", "25166"), ("},\n}", "},\n    {{IDLE, 0}, {IDLE, 0}},\n}")],

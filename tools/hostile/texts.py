@@ -516,7 +516,7 @@ def try_scripts(draw):
     answer = ask_of(draw, ["serve", words], [keep(f"script{number}", text) for number, text in enumerate(scripts)])
     wanted, status = sessions.answer_serve(words.encode(), scripts)
     asked = notes.Asked("batch", shape=words.encode())
-    return is_served(answer, wanted, status, asked), b"sessions side by side", [words.encode(), *scripts], answer
+    return is_served(answer, wanted, status, asked), last_line(wanted), [words.encode(), *scripts], answer
 
 
 def try_record(draw):

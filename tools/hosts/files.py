@@ -16,7 +16,7 @@ import shutil
 import subprocess
 import sys
 
-from hosts import EXCHANGE, LIMIT, TOP, Client, Host, try_cases
+from hosts import EXCHANGE, LIMIT, TOP, Client, Host, start, try_cases
 
 SESSION = "session 0\nword 000000ff\n"
 
@@ -42,6 +42,14 @@ def ended_so(words, given=os.devnull, **environment):
     with open(given) as file:
         run = subprocess.run([EXCHANGE, *words.split()], stdin=file, capture_output=True, timeout=LIMIT, env=environment)
     return run.stdout.decode(errors="replace"), run.stderr.decode(), run.returncode
+
+
+def beside(call, script):
+    """Has a script run as this call begins, which waits for its end."""
+    if not os.path.exists("gate"):
+        os.mkfifo("gate")
+    start(["sh", "-c", f"exec 3>gate; {script}"])
+    return {"CALLS_WAIT": f"{call}:gate"}
 
 
 # ---- the order of calls
@@ -72,14 +80,14 @@ def held(name):
     return [f"open {name}", f"lock {name}", f"stat {name}"]
 
 
-def put(name, *before):
+def put(name, *before, folder="."):
     """A new file is written, and goes to its place once the disk has it. Then the disk keeps its name."""
     new = f"{name}.exchange-0"
-    return [f"write {new}", f"sync {new}", *before, f"rename {new}:{name}", *keep_name()]
+    return [f"write {new}", f"sync {new}", *before, f"rename {new}:{name}", *keep_name(folder)]
 
 
-def keep_name():
-    return ["open .", f"sync {os.path.basename(os.getcwd())}"]
+def keep_name(folder="."):
+    return [f"open {folder}", f"sync {os.path.basename(os.path.abspath(folder))}"]
 
 
 RECORD, IMAGE = held("record"), held("left.exchange-0")
@@ -102,6 +110,11 @@ def orders_of_scripts():
     yield re.findall("end write other.* ([0-9]+)", read("calls")), ["2", "2"]
     os.unlink("calls")
     yield sorted(os.listdir(".")), ["amy.in", "left", "other", "record"]
+    # Where a name is a link, the new file is beside the file that it leads to, whose folder keeps its name.
+    os.mkdir("far")
+    os.symlink("far/linked", "soft")
+    order = [*held("linked.exchange-0"), "open amy.in", *put("linked", folder="far"), *done]
+    yield is_so("serve 1x1x1 amy.in --image-out soft", os.devnull, order)
 
 
 def orders_of_sessions():
@@ -113,10 +126,14 @@ def orders_of_sessions():
     yield is_so(talk, "amy.in", [*RECORD, *IMAGE, *begun, "write stdout", *LAST, *put("left")])
     order = [*RECORD, *keep_name(), *held("left"), *IMAGE, "cut record", "sync record", *synced, "write stdout", *LAST, *put("left", *held("left"))]
     yield is_so(f"{talk} --resume --sync", "amy.in", order)
-    os.unlink("record")
-    order = [*RECORD, *keep_name(), "cut record", *synced, "open amy.in", "open amy.out", "lock amy.out", "cut amy.out", *synced, "write amy.out"]
-    yield is_so("host 1x1x1 amy --record record --sync", os.devnull, [*order, *LAST, "write stdout"])
     told = ["open amy.in", "open amy.out", "lock amy.out", "cut amy.out"]
+    os.mkdir("far")
+    for folder in "far", ".":
+        os.unlink("record")
+        if folder == "far":
+            os.symlink("far/record", "record")
+        order = [*RECORD, *keep_name(folder), "cut record", *synced, *told, *synced, "write amy.out", *LAST, "write stdout"]
+        yield is_so("host 1x1x1 amy --record record --sync", os.devnull, order)
     order = [*RECORD, *held("left"), *IMAGE, "cut record", *told, *entry, "write amy.out", *LAST, *put("left", *held("left")), "write stdout"]
     yield is_so("host 1x1x1 amy --record record --resume --image-out left", os.devnull, order)
     os.unlink("left")
@@ -199,6 +216,10 @@ def new_files_of_others():
     yield ended_so("serve 1x1x1 amy.in --image-out left", **fails(("open:left.exchange-0:1", errno.EACCES))), (
         "refused file\n", "exchange: left: no new file can be made in its folder\n", 1,
     )  # fmt: skip
+    # One to which another program writes before it is locked is that program's.
+    written = beside("lock:left.exchange-0:1", "echo theirs >left.exchange-0")
+    yield ended_so("serve 1x1x1 amy.in --image-out left", **written)[2], 0
+    yield [os.path.getsize(name) for name in ("left", "left.exchange-0")], [4, 7]
 
 
 def image_that_fails():
@@ -212,6 +233,9 @@ def image_that_fails():
         yield (sorted(os.listdir(".")), read("left")), (["amy.in", "left"], "old\n")
     yield ended_so("serve 1x1x1 amy.in --image-out left", **fails((f"sync:{os.path.basename(os.getcwd())}:1", errno.EINVAL)))[2], 0
     yield os.path.getsize("left"), 4
+    # Up to then no other program gets the lock of the old one.
+    yield ended_so("serve 1x1x1 amy.in --image-out left", **beside("rename:left.exchange-0:1", "flock -n left true || echo none >locked"))[2], 0
+    yield os.path.exists("locked"), True
 
 
 def record_that_fails():

@@ -22,6 +22,7 @@ import copy
 import itertools
 import multiprocessing
 import os
+import pickle
 import random
 import re
 import shutil
@@ -32,6 +33,7 @@ import tempfile
 import time
 from concurrent.futures import ThreadPoolExecutor
 from pathlib import Path
+from types import SimpleNamespace
 
 TOP = os.path.dirname(os.path.dirname(os.path.dirname(os.path.abspath(__file__))))
 sys.path.insert(0, f"{TOP}/tools/c")
@@ -265,6 +267,8 @@ def try_home(room):
     if run("python3", "-c", "import site, sys; sys.exit(not site.ENABLE_USER_SITE)", env=env)[0] == 0:
         expect_run("a program at home", "b'bbbbbbbb'\n", "python3", "-c", program, env=env, cwd=room)
         expect("no way for it is said", "PYTHONPATH" not in told, told)
+    told = install("uninstall without a home", 1, script="uninstall", env={**env, "HOME": ""})
+    expect("no folder is taken for it", "/.local" not in told, told)
     install("uninstall at home", 0, script="uninstall", env=env)
     expect("nothing is left at home", os.listdir(home) == [], os.listdir(home))
 
@@ -316,8 +320,11 @@ def try_pages(rack):
         env = {**os.environ, "MANWIDTH": "200", "LC_ALL": "C.UTF-8"}
         status, shown = run("man", "-l", f"{rack}/share/man/man1/exchange.1", env=env)
         lines = {" ".join(line.split()) for line in shown.splitlines()}
+        helps += ["SYNOPSIS", *(line.partition(": ")[2] for line in helps if line.startswith("Usage: ") and not line.endswith("<COMMAND>"))]
         missing = [line for line in helps if " ".join(line.split()) not in lines]
         expect("man shows each line of each help", status == 0 and not missing, "\n".join([*missing, shown]))
+    told = run("bash", "-c", 'source "$1"; complete -p exchange', "bash", f"{rack}/share/{COMPLETIONS['bash']}")
+    expect("bash goes on with names of files", told[0] == 0 and " -o default " in told[1], told)
     for shell, (words, wanted) in itertools.product(filter(shutil.which, SHELLS), COMPLETED.items()):
         expect_run(
             f"{shell} completes {words}", f"{wanted}\n", shell, *SHELLS[shell], f"{rack}/share/{COMPLETIONS[shell]}", "exchange", *words.split(), cwd=rack
@@ -392,12 +399,16 @@ def try_python(module):
 
 
 def try_link(module):
-    """A link to the module finds the library too."""
+    """A link to the module finds the library that was installed with it, whatever the loader finds, and a copy elsewhere the one that this finds."""
     program = "import exchange; print(exchange.plan('batch 0\\n'), exchange.__file__)"
     with tempfile.TemporaryDirectory(prefix="linked-") as linked:
         os.symlink(module, f"{linked}/exchange.py")
-        env = {**os.environ, "PYTHONPATH": linked}
-        expect_run("a link to the module", f"settings 0\nbusiest none\n {linked}/exchange.py\n", sys.executable, "-c", program, env=env)
+        os.mkdir(f"{linked}/copied")
+        shutil.copy(module, f"{linked}/copied")
+        expect_run("a library without calls", "", "cc", "-shared", "-o", f"{linked}/libexchange.so.1", "-x", "c", os.devnull)
+        for where, found in (linked, linked), (f"{linked}/copied", str(Path(module).parents[2])):
+            env = {**os.environ, "PYTHONPATH": where, "LD_LIBRARY_PATH": found}
+            expect_run(f"the module in {where}", f"settings 0\nbusiest none\n {where}/exchange.py\n", sys.executable, "-c", program, env=env)
 
 
 def refusal_of(call_it, *given):
@@ -439,6 +450,10 @@ def try_copies():
             told = other.take(ends)
             expect("a copy has its own state", (it.state, other.state != before) == (before, True), (before, it.state, other.state))
             expect("a copy goes on", (told, getattr(other, "refused", 1)) == (it is end and b"abcd" or b"\0", 1), told)
+    # As an error is that comes from another process.
+    for error in refusal_of(exchange.plan, "x"), exchange.EndFailed("why", b"abcd"):
+        other = pickle.loads(pickle.dumps(error))
+        expect("a copy of an error", (str(other), vars(other)) == (str(error), vars(error)), vars(other))
 
 
 def stop_links(links, drive, env):
@@ -496,9 +511,16 @@ def try_calls():
     except exchange.Refused as refused:
         told = refused.line
     exchange.draw(calls.read("all-to-all.txt"), calls.read("all-to-all.plan.txt"))
+    exchange.apply("32x64x256", "batch 0\n", bytes(32 * 64 * 256 * 4))
+    exchange._LIBRARY = SimpleNamespace(exchange_direct=lambda *_: exchange._NO_MEMORY)
+    try:
+        without = exchange.direct("moves 0\n")
+    except MemoryError as error:
+        without = str(error)
     exchange._LIBRARY = counted.library
+    expect("a call without memory is named", without == "exchange_direct was given no memory", without)
     expect("half a character is refused", told == "refused batch line 1", told)
-    made = ["exchange_plan", "exchange_why", "exchange_draw", "exchange_draw"]
+    made = ["exchange_plan", "exchange_why", "exchange_draw", "exchange_draw", "exchange_apply"]
     expect("calls are made once", counted.told == made, counted.told)
 
 
@@ -515,17 +537,18 @@ def try_settings():
 
 
 def try_no_schedule():
-    """An empty text of a schedule is refused, as the program refuses an empty file. To the calls from C it would be none."""
+    """An empty text of a schedule or of a wiring is refused, as the program refuses an empty file. To the calls from C it would be none."""
     import exchange
 
-    batch, named = calls.read("three-transfers.txt"), {exchange.switch_bytes: "switch", exchange.orders: "orders"}
-    for call_it, text in itertools.product(named, ("", b"", memoryview(b""))):
+    batch = calls.read("three-transfers.txt")
+    ways = [(exchange.switch_bytes, "switch", "schedule"), (exchange.switch_bytes, "switch", "wiring"), (exchange.orders, "orders", "schedule")]
+    for (call_it, name, option), text in itertools.product(ways, ("", b"", memoryview(b""))):
         try:
-            told = call_it(batch, text)
+            told = call_it(batch, **{option: text})
         except exchange.Refused as refused:
             told = f"{refused.line}\n".encode()
-        program = ask(named[call_it], f"{EXAMPLES}/three-transfers.txt", "--schedule", os.devnull)
-        expect("an empty text of a schedule is refused", (told, 1) == (program.out, program.status), told)
+        program = ask(name, f"{EXAMPLES}/three-transfers.txt", f"--{option}", os.devnull)
+        expect(f"an empty text of a {option} is refused", (told, 1) == (program.out, program.status), told)
 
 
 def given_as(text):

@@ -145,6 +145,17 @@ except (EOFError, ConnectionError):
 DIES = "orders = module.Module.orders\nmodule.Module.orders = lambda self, k: os.kill(os.getpid(), 9) if k == {} else orders(self, k)"
 ERRS = "sent = module.sent\nmodule.sent = lambda *told: sent(*(it + (it == 0) for it in told))"
 
+# A relay that hands on what comes back a tenth of a second late.
+LATE = f"""#!{sys.executable}
+import sys, time
+sys.dont_write_bytecode = True
+sys.path[:0] = ["{EXAMPLES}/board"]
+import relay
+select = relay.select.select
+relay.select.select = lambda *ends: (select(*ends), time.sleep(0.1))[0]
+relay.main()
+"""
+
 # A host whose lines are read, and that reads.
 PAUSED = {"stdin": subprocess.PIPE, "stderr": subprocess.DEVNULL}
 
@@ -385,6 +396,7 @@ def goes(room, order, is_well, *case):
         drive.process.wait()
     Path(room.at("left")).write_bytes(cable.read(shape))
     cable.end_modules()
+    os.close(cable.out)
     told = room.end(run)
     room.expect(run.returncode == 0 and told == "" and room.is_left() == is_well, told)
 
@@ -408,13 +420,18 @@ def is_moved_in_c(room, *case, by_tables=False, first=0):
     told, moved = room.end(run), int(room.orders().split()[3])
     wanted = "".join(f"moved setting {k}\n" for k in range(first, moved)) + f"moved settings {moved}\n"
     room.expect(run.returncode == 0 and told == wanted and room.is_left(), told)
-    # The tables of another wiring are seen.
+    # The tables of another wiring are seen. The next host fills the modules once more, and its relay ends a command that was begun.
     room.pipes("cable")
     run = room.rack("--modules", "modules", "--relay", "relay", "--cable", "cable")
-    other = room.host("--tables", "--wiring", "turned")
+    Path(room.at("zeros")).write_bytes(bytes(os.path.getsize(room.at("image"))))
+    other = room.host("--tables", "--wiring", "turned", "--image", "zeros")
     told = room.end(other)
     is_seen = re.fullmatch(r"host.py: \d+ came back, and awaited was the sum of the switch's tables, .*\n", told)
     expect(f"{room.what}: a switch's other tables", other.returncode == 1 and is_seen, told)
+    next(Path(room.path).glob("rack-*/board.in")).write_bytes(b"\0")
+    os.remove(room.at("left"))
+    told = room.end(room.host("--tables", "--from", str(first), "--image", "image", "--image-out", "left")), room.end(run)
+    expect(f"{room.what}: the next host", told == (wanted, "") and room.is_left(), told)
 
 
 def relay_in_c(room):
@@ -545,8 +562,11 @@ def is_moved_over_a_pty(room, *case):
     for ends in (far, there), (back, far):
         threading.Thread(target=relay.carry, args=ends, daemon=True).start()
     driven = room.host("--image", "image", "--image-out", "left", cable=os.ttyname(near))
-    told = room.end(driven), room.end(run)
-    room.expect(driven.returncode == run.returncode == 0 and told[1] == "" and room.is_left(), told)
+    driven.stdout.readline()
+    # The terminal that it is sent signals by.
+    own = Path(f"/proc/{driven.pid}/stat").read_text().rpartition(")")[2].split()[4]
+    told = room.end(driven), room.end(run), own
+    room.expect(driven.returncode == run.returncode == 0 and told[1:] == ("", "0") and room.is_left(), told)
 
 
 def ends(room, switches, *words):
@@ -609,6 +629,18 @@ def is_ended(room, by):
     room.expect(found == (b"setting 0 0 2\n", 2, set(), [128 + by] * 2, 6, []), f"{found} {texts}")
 
 
+def hears_all(room):
+    """Notes whether a rack ends no sooner than its host has heard what the modules say last, whose relay is late."""
+    room.write(*CASES[0][1:])
+    room.pipes("cable")
+    Path(room.at("relay")).write_text(LATE)
+    os.chmod(room.at("relay"), 0o755)
+    run = room.rack("--cable", "cable", "--relay", "relay")
+    driven = room.host()
+    told = room.end(driven), room.end(run), driven.returncode, run.returncode
+    room.expect(told == ("setting 0 0 2\nsetting 1 1\ndriven settings 2\n", "", 0, 0), told)
+
+
 def folders(room):
     """The folders of racks and hosts that are there."""
     return {it.name for name in ("rack-*", "host-*") for it in Path(room.path).glob(name)}
@@ -662,7 +694,9 @@ def waits(room):
 def host_says(room, said, cable, *words):
     """Notes whether a host ends at once, and says this."""
     room.write(*CASES[0][1:])
-    Path(room.at("file")).write_text("")
+    for name in "file", "half.out":
+        Path(room.at(name)).write_text("")
+    os.mkfifo(room.at("half.in"))
     run = room.host(*words, cable=cable)
     told = room.end(run)
     room.expect(run.returncode == 1 and told.endswith(said), told)
@@ -765,11 +799,14 @@ def falls_silent(room, way, place, awaited):
         with tempfile.TemporaryDirectory(dir=room.path) as path, contextlib.closing(Room(room.installed, path, room.what)) as inner:
             inner.write(*SPOILT)
             Between(inner, "silent", way, place)
+            left = Path(inner.at("left"))
+            left.write_text("old")
             run = inner.host("--patience", str(patience), "--image", "image", "--image-out", "left")
             told = inner.end(run)
+            is_whole = left.read_bytes() == b"old" or inner.is_left()
             # Modules that have ended end the cable.
             for status, why in (host.SILENT, f"nothing has come for {patience} s;"), (1, "the cable has ended, and"):
-                if run.returncode == status and f"host.py: {why} awaited was {awaited}" in told:
+                if run.returncode == status and f"host.py: {why} awaited was {awaited}" in told and is_whole:
                     return
     room.expect(False, told)
 
@@ -871,7 +908,8 @@ def hosts():
         ["--schedule", "schedule", "--image", HOST]
     yield compares, "another number comes back", "host.py: 1 came back, and awaited was 0 from the modules, which have to do setting 0\n", \
         ("1x2x1", "batch 1\npush 0 0 0 1\n", []), {0: ERRS}
-    yield host_says, "a plain file for a cable", "host.py: file is a plain file, and no cable\n", "file"
+    for cable in "file", "half":
+        yield host_says, f"a plain file for a cable, {cable}", f"host.py: {cable} is a plain file, and no cable\n", cable
     yield goes_on, "a host that is killed in its pause"
     yield pauses, "a pause"
     yield waits, "a host before its rack"
@@ -906,7 +944,8 @@ def misused():
     """Programs of the examples that are handed wrong words or texts, or lack what they need."""
     python, made_of = sys.executable, f"""\"$EXCHANGE\" {{}} | {sys.executable} '{EXAMPLES}/{{}}.py'"""
     yield says, "misuse: a relay", 1, "usage: relay.py CABLE CONFIG [CONFIG_B] [CHAIN]\n", python, RELAY, "--help", "config"
-    yield says, "misuse: a host without a program", 1, "host.py: there is no program /none\n", "env", "EXCHANGE=/none", python, HOST, "cable", "batch"
+    path = f"PATH={os.path.dirname(host.PROGRAM)}:{os.environ['PATH']}"
+    yield says, "misuse: a host without a program", 1, "host.py: there is no program /none\n", "env", "EXCHANGE=/none", path, python, HOST, "cable", "batch"
     yield says, "misuse: a host's option", 2, "--pause: host.py takes these, and with --cable you start it\n", \
         python, RACK, "2x1x1", "batch", "--cable", "cable", "--pause"
     yield says, "misuse: no batch", 1, "rack.py: [Errno 2] No such file or directory: 'missing'\n", python, RACK, "2x1x1", "missing"
@@ -916,6 +955,8 @@ def misused():
         "sh", "-c", made_of.format("orders batch", "orders_to_occam")
     yield says, "misuse: bytes of two switches", 1, "wanted are the bytes of one switch: exchange switch BATCH\n", \
         "sh", "-c", made_of.format("switch batch --switches 2", "switch_to_c")
+    yield says, "misuse: bytes of setting 1 alone", 1, "wanted are the bytes of one switch: exchange switch BATCH\n", \
+        "sh", "-c", made_of.format("switch batch | sed 's/ 0 / 1 /'", "switch_to_c")
     yield says, "misuse: no program to drive", 1, "there is no program /none\n", python, f"{EXAMPLES}/emulator/links.py", "/none"
     yield says, "misuse: no pipes", 1, "its first lines say how to make them and start the host\n", python, f"{EXAMPLES}/all-reduce.py"
     yield says, "misuse: patterns", 2, "make.sh: one word at most, --check\n", f"{EXAMPLES}/patterns/make.sh", "check"
@@ -943,6 +984,7 @@ def alone():
     yield ends, "a cable that ends", 1
     yield ends, "a cable that ends, and two switches", 2, "--switches", "2"
     yield is_cut, "a cable that nobody reads any more"
+    yield hears_all, "a cable whose relay is late"
     yield is_ended, "a rack that is told to end, and its host", signal.SIGTERM
     yield is_ended, "a rack that is interrupted, and its host", signal.SIGINT
     yield finds_the_program, "the program, where nothing says where it is"
