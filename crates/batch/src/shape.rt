@@ -8,7 +8,7 @@ use std::marker::Model;
 /// How many modules a rack has, how many blocks each module, and how many words each block.
 ///
 /// Each number is at least 1 and at most [`MAX_MODULES`], [`MAX_BLOCKS`] and [`MAX_WORDS`].
-#[derive(Clone, Copy, Debug, PartialEq, Eq)]
+#[derive(Clone, Copy, PartialEq, Eq)]
 pub struct Shape {
     modules: usize,
     blocks: usize,

@@ -4,7 +4,7 @@ ghost use Rattle.batch.specs.Places.{own_place, far_place, source_of, destinatio
 use crate::listed::Listed;
 
 /// Which way a transfer moves its block.
-#[derive(Clone, Copy, Debug, PartialEq, Eq)]
+#[derive(Clone, Copy, PartialEq, Eq)]
 pub enum Kind {
     /// From the initiator to the responder: the initiator pokes its words into the responder.
     Push,
@@ -13,7 +13,7 @@ pub enum Kind {
 }
 
 /// A block of a module, both numbered from 0.
-#[derive(Clone, Copy, Debug, PartialEq, Eq)]
+#[derive(Clone, Copy, PartialEq, Eq)]
 pub struct Place {
     pub module: usize,
     pub block: usize,
@@ -23,7 +23,7 @@ pub struct Place {
 ///
 /// Either kind uses link 0 of the initiator and link 3 of the responder. Modules and blocks are
 /// numbered from 0.
-#[derive(Clone, Copy, Debug, PartialEq, Eq)]
+#[derive(Clone, Copy, PartialEq, Eq)]
 pub struct Transfer {
     pub kind: Kind,
     pub initiator: usize,

@@ -4,7 +4,7 @@ use crate::shared_batch::SharedBatch;
 use schedule_certificate::Planned;
 
 /// How far a batch of the book has come.
-#[derive(Clone, Copy, Debug, PartialEq, Eq)]
+#[derive(Clone, Copy, PartialEq, Eq)]
 pub enum BatchState {
     /// It has no plan yet.
     Waiting,

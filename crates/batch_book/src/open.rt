@@ -38,7 +38,7 @@ use std::sync::{Condvar, Mutex, ledger};
 use thiserror::Error;
 
 /// Why an exchange can't be made. The causes are tested in this order.
-#[derive(Clone, Copy, Debug, PartialEq, Eq, Error)]
+#[derive(Clone, Copy, Debug, Error)]
 pub enum SharedFault {
     /// There are no sessions, or more than [`MAX_SESSIONS`].
     #[error("sessions must be 1 to 16")]

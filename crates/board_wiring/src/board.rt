@@ -15,7 +15,7 @@ pub(crate) const MOST: usize = JOINED_MODULES as usize;
 /// Which links of a board's one switch link 0 and link 3 of each of its modules are on, where they
 /// are on one. The modules' numbers are below [`JOINED_MODULES`], and some may be left out. No two
 /// of their links are on one link of the switch.
-#[derive(Clone, Copy, Debug, PartialEq, Eq)]
+#[derive(Clone, Copy)]
 pub struct Board {
     // What the modules are on, by rising numbers, and after them anything.
     lines: [WiredModule; MOST],

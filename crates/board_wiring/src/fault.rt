@@ -2,7 +2,7 @@ use refusals::Refusal;
 use thiserror::Error;
 
 /// Why a text says no wiring.
-#[derive(Clone, Copy, Debug, PartialEq, Eq, Error)]
+#[derive(Clone, Copy, Debug, Error)]
 pub enum WiringFault {
     /// This line, counted from 1, is the first that isn't as it should be, or has no line feed.
     /// Where the text ends too early, it is the line that is missing; where something follows a

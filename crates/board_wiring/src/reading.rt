@@ -14,7 +14,7 @@ use crate::fault::WiringFault;
 use crate::wired_module::WiredModule;
 use batch::number_before;
 use c004_commands::PORTS;
-use line_words::behind;
+use line_words::rest_after;
 
 /// A number after these words, and what stands after the byte that ends it, which is no digit.
 fn number_behind<'a>(bytes: &'a [u8], words: &[u8], end: u8) -> Option<(usize, &'a [u8])>
@@ -24,7 +24,7 @@ fn number_behind<'a>(bytes: &'a [u8], words: &[u8], end: u8) -> Option<(usize, &
     ensures none { IfNone result ((n : ℕ) (rest : List ℕ) → IsNumber n →
         bytes.entry.now ≢ words.now ++ (number n end ++ rest)) }
 {
-    let (n, rest) = number_before(behind(bytes, words)?, end)?;
+    let (n, rest) = number_before(rest_after(bytes, words)?, end)?;
     Some((n, rest))
 }
 
@@ -37,9 +37,9 @@ fn place_after<'a>(bytes: &'a [u8], words: &[u8], end: u8) -> Option<(Option<u8>
     ensures none { IfNone result ((link : Option ℕ) (rest : List ℕ) → IsPort link →
         bytes.entry.now ≢ words.now ++ (place link end ++ rest)) }
 {
-    let bytes = behind(bytes, words)?;
-    if let Some(rest) = behind(bytes, b"none") {
-        return Some((None, behind(rest, &[end])?));
+    let bytes = rest_after(bytes, words)?;
+    if let Some(rest) = rest_after(bytes, b"none") {
+        return Some((None, rest_after(rest, &[end])?));
     }
     let (link, rest) = link_after(bytes, end)?;
     Some((Some(link), rest))

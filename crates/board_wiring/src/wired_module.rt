@@ -2,7 +2,7 @@
 
 /// A module of a board, by its number, and the links of the switch that its link 0 and its link 3
 /// are on, as numbers below [`PORTS`](c004_commands::PORTS), where they are on one.
-#[derive(Clone, Copy, Debug, PartialEq, Eq)]
+#[derive(Clone, Copy)]
 pub struct WiredModule {
     pub number: usize,
     pub link0: Option<u8>,

@@ -11,7 +11,7 @@ use crate::sum::{after_sum, sum_at};
 use crate::writing::push_sum_of;
 use batch::{Shape, number_from_digits, position_of};
 use exchange_limits::MAX_SESSIONS;
-use line_words::{Line, behind, hex8_and_rest};
+use line_words::{Line, hex8_and_rest, rest_after};
 use std::alloc::{AllocError, Global};
 
 /// The first line of a record: the shape of its rack, the sum of the image of its opening words,
@@ -72,7 +72,7 @@ fn read_rack_line(line: &[u8]) -> Option<(Shape, u32, usize)>
     ensures some { IfSome result (λ x. line.now ≡ rack_words x.0 x.1 x.2) }
     ensures none { IfNone result (IsNoRackLine line.now) }
 {
-    let rest = behind(line, b"record-2 ")?;
+    let rest = rest_after(line, b"record-2 ")?;
     let end = position_of(rest, b' ')?;
     let shape = match Shape::read(&rest[..end]) {
         Ok(shape) => shape,
@@ -89,7 +89,7 @@ fn client_and_rest(text: &[u8]) -> Option<(&[u8], &[u8])>
         × (text.now ≡ codes "client " ++ (x.0.now ++ line_feed ∷ x.1.now))) }
     ensures none { IfNone result (BeginsWithNoClient text.now) }
 {
-    let rest = behind(text, b"client ")?;
+    let rest = rest_after(text, b"client ")?;
     let end = position_of(rest, b'\n')?;
     if end == 0 {
         return None;

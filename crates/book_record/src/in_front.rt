@@ -10,7 +10,7 @@ ghost use Rattle.book_record.specs.declared.sum.TheConstants.{SUM_ROOM};
 
 use crate::sum::{sum_at, sum_line};
 use batch::position_of;
-use line_words::{Line, behind, hex8_of};
+use line_words::{Line, hex8_of, rest_after};
 
 /// How the text of a record begins.
 #[derive(Drop)]
@@ -106,7 +106,7 @@ fn end_line(entries: u64) -> Line
 pub fn is_end(lines: &[u8], entries: u64) -> bool
     ensures { (n : ℕ) → entries ≡ numbered n → IsTrue result ↔ (lines.now ≡ end_line n) }
 {
-    if behind(lines, b"end ").is_none() {
+    if rest_after(lines, b"end ").is_none() {
         return false;
     }
     let line = end_line(entries);

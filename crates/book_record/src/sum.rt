@@ -3,7 +3,7 @@
 ghost use Rattle.std.specs.Prelude.{◌≡◌, ◌≢◌, ◌<◌, ◌++◌, ◌^◌, ℕ, List, MatchOption};
 ghost use Rattle.book_record.specs.Sums.{adler, sum_at, sum_line, summing};
 
-use line_words::{HEX_DIGITS, behind, hex8_of};
+use line_words::{HEX_DIGITS, hex8_of, rest_after};
 
 /// The greatest prime below 65,536 (RFC 1950).
 const MODULUS: u32 = 65521;
@@ -64,5 +64,5 @@ pub(crate) fn after_sum(text: &[u8], sum: u32) -> Option<&[u8]>
     ensures { MatchOption result ((rest : List ℕ) → text.now ≢ sum_line sum ++ rest)
         (λ rest. text.now ≡ sum_line sum ++ rest.now) }
 {
-    behind(text, &sum_line(sum))
+    rest_after(text, &sum_line(sum))
 }

@@ -13,7 +13,7 @@ use thiserror::Error;
 pub const CONNECTED: u8 = 128;
 
 /// What an enquired output says of itself (INMOS IMS C004 data sheet).
-#[derive(Clone, Copy, Debug, PartialEq, Eq)]
+#[derive(Clone, Copy, PartialEq, Eq)]
 pub enum OutputState {
     /// This input feeds it.
     Connected(PortNo),

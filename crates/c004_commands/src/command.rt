@@ -24,7 +24,7 @@ pub(crate) const CUT_PAIR: u8 = 6;
 pub const LONGEST_COMMAND: usize = 3;
 
 /// A command to the switch, a configuration message of the INMOS IMS C004 data sheet.
-#[derive(Clone, Copy, Debug, PartialEq, Eq)]
+#[derive(Clone, Copy, PartialEq, Eq)]
 pub enum Command {
     /// The input feeds the output.
     Connect { input: PortNo, output: PortNo },

@@ -10,7 +10,7 @@ pub const PORTS: u8 = 32;
 
 /// The number of a link input or of a link output, below [`PORTS`] (INMOS IMS C004 data sheet).
 /// Contracts see the number.
-#[derive(Clone, Copy, Debug, PartialEq, Eq)]
+#[derive(Clone, Copy, PartialEq, Eq)]
 pub struct PortNo {
     number: u8,
 }

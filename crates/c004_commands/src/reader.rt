@@ -26,7 +26,7 @@ pub enum CommandFault {
 }
 
 // What has come of a command.
-#[derive(Clone, Copy, Debug)]
+#[derive(Clone, Copy)]
 enum Begun {
     Nothing,
     Connect,
@@ -41,7 +41,7 @@ enum Begun {
 
 /// Reads commands byte by byte (INMOS IMS C004 data sheet, configuration messages). Contracts see
 /// the bytes of the command that isn't whole yet.
-#[derive(Debug, Drop)]
+#[derive(Drop)]
 pub struct CommandReader {
     begun: Begun,
 }

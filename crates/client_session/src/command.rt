@@ -7,12 +7,12 @@ ghost use Rattle.client_session.specs.Commands.{Means, is_quick, line_of};
 
 use crate::limits::COMMAND_ROOM;
 use line_words::{
-    LINE_ROOM, Line, behind, hex8_and_rest, number_after, number_and_rest, word_from_hex8,
+    LINE_ROOM, Line, hex8_and_rest, number_after, number_and_rest, rest_after, word_from_hex8,
 };
 
 /// A line of a session that is in the grammar. Batches go by the numbers under which they were
 /// accepted, modules are counted from 0, and addresses are in bytes.
-#[derive(Clone, Copy, Debug, PartialEq, Eq)]
+#[derive(Clone, Copy)]
 pub enum SessionCommand {
     /// Submit the batch of which so many lines follow: `batch N`.
     Batch(usize),
@@ -41,7 +41,7 @@ fn peek(line: &[u8]) -> Option<(usize, u32)>
     ensures none { IfNone result ((n a : ℕ) → IsNumber n → IsWord a
         → line.now ≢ codes "peek " ++ number n space ++ hex8 a) }
 {
-    let rest = behind(line, b"peek ")?;
+    let rest = rest_after(line, b"peek ")?;
     let (module, rest) = number_and_rest(rest)?;
     let address = word_from_hex8(rest)?;
     Some((module, address))
@@ -54,7 +54,7 @@ fn poke(line: &[u8]) -> Option<(usize, u32, u32)>
     ensures none { IfNone result ((n a w : ℕ) → IsNumber n → IsWord a → IsWord w
         → line.now ≢ codes "poke " ++ (number n space ++ (hex8 a ++ space ∷ hex8 w))) }
 {
-    let rest = behind(line, b"poke ")?;
+    let rest = rest_after(line, b"poke ")?;
     let (module, rest) = number_and_rest(rest)?;
     let (address, rest) = hex8_and_rest(rest)?;
     let word = word_from_hex8(rest)?;

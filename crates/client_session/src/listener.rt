@@ -26,7 +26,7 @@ pub trait Listener {
 }
 
 /// A listener that tells nothing.
-#[derive(Clone, Copy, Debug)]
+#[derive(Clone, Copy)]
 pub struct NoListener;
 
 impl Listener for NoListener {

@@ -14,7 +14,7 @@ const MODULES: usize = JOINED_MODULES as usize;
 /// How a board leads link 0 and link 3 of each of its modules to its one switch. The modules are
 /// numbered from 0 on. There are at most [`JOINED_MODULES`], and no two of their links are on one
 /// link of the switch. That link 0 and link 3 are the ones that matter is this project's choice.
-#[derive(Clone, Copy, Debug, PartialEq, Eq)]
+#[derive(Clone, Copy)]
 pub struct BoardWiring {
     // What the modules are on, and after them anything.
     links: [ModuleLinks; MODULES],

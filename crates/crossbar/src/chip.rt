@@ -4,7 +4,7 @@ use crate::board::BoardWiring;
 
 /// A switch of a rack. A rack of at most [`crate::JOINED_MODULES`] modules has `A` alone, and a
 /// wider one has both. That there are two is this project's choice.
-#[derive(Clone, Copy, Debug, PartialEq, Eq)]
+#[derive(Clone, Copy)]
 pub enum Chip {
     A,
     B,
@@ -12,7 +12,7 @@ pub enum Chip {
 
 /// Which ends of the modules' links are on a switch. This project's choice, which uses all inputs
 /// and outputs of the chip.
-#[derive(Clone, Copy, Debug, PartialEq, Eq)]
+#[derive(Clone, Copy)]
 pub enum Wiring {
     /// Both directions of link 0 and of link 3 of each module, of at most
     /// [`crate::JOINED_MODULES`].

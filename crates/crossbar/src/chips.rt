@@ -11,7 +11,7 @@ use crate::switch::Crossbar;
 use std::marker::Model;
 
 /// A switch for each chip. Contracts see both.
-#[derive(Debug, Drop)]
+#[derive(Drop)]
 pub struct Chips {
     a: Crossbar,
     b: Crossbar,

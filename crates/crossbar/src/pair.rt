@@ -5,7 +5,7 @@
 /// [`crate::JOINED_MODULES`] + `responder`, so both modules are below `JOINED_MODULES`. In a wider
 /// rack [`crate::Wiring`] says which end is on which switch. Both may be one module. Which links a
 /// module is on is this project's choice.
-#[derive(Clone, Copy, Debug, PartialEq, Eq)]
+#[derive(Clone, Copy, PartialEq, Eq)]
 pub struct Pair {
     /// The module that begins each message of a transfer.
     pub initiator: u8,

@@ -17,7 +17,7 @@ use thiserror::Error;
 
 /// The port failed. Which of the commands the switches have carried out isn't known. That a port
 /// may fail is this project's choice.
-#[derive(Clone, Copy, Debug, PartialEq, Eq, Error)]
+#[derive(Clone, Copy, Debug, Error)]
 #[error("the port to the switch failed")]
 pub struct PortFault;
 
@@ -58,7 +58,7 @@ pub trait ConfigPort {
 
 /// A port to a switch in memory for each chip (INMOS IMS C004 data sheet). It is honest and never
 /// fails. Contracts see the switches.
-#[derive(Debug, Drop)]
+#[derive(Drop)]
 pub struct MemoryPort {
     chips: Chips,
 }

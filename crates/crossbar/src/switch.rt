@@ -18,7 +18,7 @@ const LATCHES: usize = PORTS as usize;
 
 /// A switch (INMOS IMS C004 data sheet). Contracts see the map from its outputs to the inputs that
 /// feed them, and whether it is ready to accept data.
-#[derive(Debug, Drop)]
+#[derive(Drop)]
 pub struct Crossbar {
     // The input that feeds each output.
     latches: [Option<PortNo>; LATCHES],

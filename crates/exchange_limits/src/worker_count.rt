@@ -5,7 +5,7 @@ use std::marker::Model;
 
 /// How many workers planning or a run may have: from 1 to [`MAX_WORKERS`], which is this project's
 /// choice.
-#[derive(Clone, Copy, Debug)]
+#[derive(Clone, Copy)]
 pub struct WorkerCount {
     count: usize,
 }

@@ -42,24 +42,15 @@ type PlainClosed = Closed<MemoryPort, PlainWires, OpenGate>;
 /// That, or why it isn't closed.
 type Closing<L> = Result<PlainClosed, SeatMissing<L, MemoryPort, PlainWires, OpenGate>>;
 
-/// How a session ended: with its seat, and the fault that ended it, if one did.
-type Served<L> = Result<Seat<L>, (Seat<L>, ServeFault)>;
-
-/// The fault that ended a session, if one did.
-fn fault_of<L: ExchangeName>(served: &Served<L>) -> Option<ServeFault> {
-    match served {
-        Ok(_) => None,
-        Err((_, fault)) => Some(*fault),
-    }
-}
-
-/// The seat of a session that ended.
-fn seat_of<L: ExchangeName>(served: Served<L>) -> Seat<L>
-    ensures { result ≡ seat_back served }
+/// The seat of a session that ended, and the fault that ended it, if one did.
+fn back<L: ExchangeName>(
+    served: Result<Seat<L>, (Seat<L>, ServeFault)>,
+) -> (Seat<L>, Option<ServeFault>)
+    ensures { result.0 ≡ seat_back served }
 {
     match served {
-        Ok(seat) => seat,
-        Err((seat, _fault)) => seat,
+        Ok(seat) => (seat, None),
+        Err((seat, fault)) => (seat, Some(fault)),
     }
 }
 
@@ -99,7 +90,7 @@ fn serve_script<L: ExchangeName, R: AllocGlobal + Clock + Eprint + Threads + Wai
         None => &[],
     };
     let mut lines = Vec::new(rt.alloc());
-    let served = serve(
+    let (mut seat, fault) = back(serve(
         rt,
         rt.alloc(),
         exchange,
@@ -108,14 +99,12 @@ fn serve_script<L: ExchangeName, R: AllocGlobal + Clock + Eprint + Threads + Wai
         &mut lines,
         &mut NoListener,
         workers(),
-    );
-    let told = Told {
+    ));
+    let _ = all.lock(rt).push(Told {
         session,
         lines,
-        fault: fault_of(&served),
-    };
-    let _ = all.lock(rt).push(told);
-    let mut seat = seat_of(served);
+        fault,
+    });
     read_between(rt, exchange, &mut seat);
     seat
 }
@@ -132,10 +121,15 @@ fn push_told(text: &mut Vec<u8>, told: &Told) -> Result<(), AllocError> {
 }
 
 /// What there is to say of a closing: that the exchange is closed, or why it isn't.
-fn closing_words<L: ExchangeName>(closing: &Closing<L>) -> &'static str {
+fn closing_words<L: ExchangeName>(closing: Closing<L>) -> &'static str {
     match closing {
-        Ok(_) => "closed",
-        Err(_) => "a seat is missing",
+        Ok(_closed) => "closed",
+        Err(
+            SeatMissing {
+                exchange: _exchange,
+                seats: _seats,
+            },
+        ) => "a seat is missing",
     }
 }
 
@@ -151,7 +145,7 @@ fn close_between<L: ExchangeName, R: Eprint>(
     begin(rt);
     let closing = exchange.close(seats);
     end(rt);
-    closing_words(&closing)
+    closing_words(closing)
 }
 
 /// Puts what all sessions were told, in whatever order they ended, and then whether their exchange
@@ -165,9 +159,10 @@ fn push_all(text: &mut Vec<u8>, all: &[Told], closing: &str) -> Result<(), Alloc
 
 /// What all sessions were told, and then whether their exchange is closed, if there was memory for
 /// it.
-fn told_text(alloc: Global, all: &[Told], closing: &str) -> Option<Vec<u8>> {
+fn told_text(alloc: Global, all: Mutex<Vec<Told>>, closing: &str) -> Option<Vec<u8>> {
+    let all = all.into_inner();
     let mut text = Vec::new(alloc);
-    push_all(&mut text, all, closing).ok()?;
+    push_all(&mut text, all.as_slice(), closing).ok()?;
     Some(text)
 }
 
@@ -194,8 +189,7 @@ fn serve_all<
         return None;
     };
     let closing = close_between(rt, exchange, seats);
-    let all = all.into_inner();
-    told_text(rt.alloc(), all.as_slice(), closing)
+    told_text(rt.alloc(), all, closing)
 }
 
 /// The files' bytes.

@@ -1,5 +1,5 @@
 /// How a call ended that may want memory, compared with the worked row that is named for it.
-#[derive(Clone, Copy, PartialEq, Eq)]
+#[derive(Clone, Copy)]
 pub enum Met {
     /// It answered what the row says, and left what was lent as the row says.
     Row,

@@ -22,7 +22,7 @@ pub struct JobResult {
 }
 
 /// What was cut off from the record with which sessions go on: an entry that was torn off.
-#[derive(Clone, Copy, Debug, PartialEq, Eq)]
+#[derive(Clone, Copy)]
 pub struct Cut {
     /// The line with which it began, counted from 1.
     pub line: usize,

@@ -16,7 +16,7 @@ use batch_book::{Book, Silent};
 use book_record::{head_text, last_lines, session_limit, sum_of};
 use command_words::Text;
 use exchange_limits::WorkerCount;
-use line_words::behind;
+use line_words::rest_after;
 use module_memory::Rack;
 use named_files::{NoAnswer, Unanswered};
 use record_replay::{RecordError, RecordFault, Remade, replay};
@@ -170,7 +170,7 @@ fn resume<R: Threads + Sync>(
     ensures all { IfOk result (λ r. r.0.stands ≡ r.0.history) }
     ensures unbegun { IfErr result (IsUnbegun true limit held.now head.items rack) }
 {
-    let Some(text) = behind(held, head.as_slice()) else {
+    let Some(text) = rest_after(held, head.as_slice()) else {
         return Err(BeginError::Wrong(other_head(held, head)));
     };
     match replay(rt, alloc, rack, text, limit, None, workers) {

@@ -10,7 +10,7 @@ use crate::limits::HEX_DIGITS;
 use batch::{number_from_digits, position_of};
 
 /// What stands after these bytes, where the line begins with them.
-pub fn behind<'a>(line: &'a [u8], front: &[u8]) -> Option<&'a [u8]>
+pub fn rest_after<'a>(line: &'a [u8], front: &[u8]) -> Option<&'a [u8]>
     ensures { MatchOption result ((rest : List ℕ) → line.entry.now ≢ front.now ++ rest)
         (λ rest. line.entry.now ≡ front.now ++ rest.now) }
 {
@@ -22,7 +22,7 @@ pub fn number_after(line: &[u8], word: &[u8]) -> Option<usize>
     ensures some { IfSome result (λ n. IsNumber n × (line.now ≡ word.now ++ decimal n)) }
     ensures none { IfNone result ((n : ℕ) → IsNumber n → line.now ≢ word.now ++ decimal n) }
 {
-    let digits = behind(line, word)?;
+    let digits = rest_after(line, word)?;
     number_from_digits(digits)
 }
 

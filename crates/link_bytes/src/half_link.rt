@@ -13,7 +13,7 @@ use std::marker::Model;
 /// One end of a link: it sends a byte once the one before is acknowledged, and takes what comes
 /// from the other end (IMS T414 data sheet, link protocol). Contracts see how many bytes are sent
 /// and not acknowledged yet, at most 1.
-#[derive(Debug, Drop)]
+#[derive(Drop)]
 pub struct HalfLink {
     waits: bool,
 }

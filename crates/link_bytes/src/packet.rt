@@ -13,7 +13,7 @@ pub const DATA_BITS: usize = 8;
 pub const FRAME_BITS: usize = 11;
 
 /// What travels on a link: a byte one way, and its acknowledge the other way (IMS T414 data sheet).
-#[derive(Clone, Copy, Debug, PartialEq, Eq)]
+#[derive(Clone, Copy, PartialEq, Eq)]
 pub enum Packet {
     /// A byte of data.
     Byte(u8),

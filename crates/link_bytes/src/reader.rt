@@ -12,7 +12,7 @@ use crate::packet::{DATA_BITS, Packet};
 use std::marker::Model;
 
 // How far a packet has come.
-#[derive(Clone, Copy, Debug)]
+#[derive(Clone, Copy)]
 enum Stage {
     // No bit of one.
     Idle,
@@ -27,7 +27,7 @@ enum Stage {
 /// Reads the bits of a line one by one, and answers each packet at its last bit (IMS T414 data
 /// sheet, link protocol). Contracts see the bits of the packet that isn't whole yet, or that the
 /// reader has failed.
-#[derive(Debug, Drop)]
+#[derive(Drop)]
 pub struct BitReader {
     stage: Stage,
 }

@@ -4,7 +4,7 @@ use peek_poke::AnswerFault;
 use thiserror::Error;
 
 /// Why a byte isn't taken.
-#[derive(Clone, Copy, Debug, PartialEq, Eq, Error)]
+#[derive(Clone, Copy, Debug, Error)]
 pub enum BootFault {
     /// No end has this state.
     #[error("no end has this state")]

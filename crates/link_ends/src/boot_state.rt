@@ -17,7 +17,7 @@ pub const MOST_BEGUN: usize = POKE_BYTES - 1;
 /// The bytes that keep an end. Not all bytes do: those that no end has are refused by each call.
 /// That they are these is this project's choice.
 #[repr(C)]
-#[derive(Clone, Copy, Debug, PartialEq, Eq)]
+#[derive(Clone, Copy)]
 pub struct BootState {
     /// The bytes that have come of a message. What stands after them has no effect.
     pub begun: [u8; MOST_BEGUN],

@@ -13,7 +13,7 @@ use crossbar::Crossbar;
 use std::marker::Model;
 
 /// A switch, and what has come of its next command. Contracts see both.
-#[derive(Debug, Drop)]
+#[derive(Drop)]
 pub struct SwitchEnd {
     reader: CommandReader,
     crossbar: Crossbar,

@@ -4,7 +4,7 @@ use c004_commands::CommandFault;
 use thiserror::Error;
 
 /// Why a byte isn't taken.
-#[derive(Clone, Copy, Debug, PartialEq, Eq, Error)]
+#[derive(Clone, Copy, Debug, Error)]
 pub enum TakeFault {
     /// No switch has this state.
     #[error("no switch has this state")]
@@ -15,7 +15,7 @@ pub enum TakeFault {
 }
 
 /// Why there is no answer.
-#[derive(Clone, Copy, Debug, PartialEq, Eq, Error)]
+#[derive(Clone, Copy, Debug, Error)]
 pub enum AskFault {
     /// No switch has this state.
     #[error("no switch has this state")]

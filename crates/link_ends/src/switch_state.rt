@@ -17,7 +17,7 @@ pub const MOST_BEGUN: usize = LONGEST_COMMAND - 1;
 /// The bytes that keep a switch, and what has come of its next command. Not all bytes do: those
 /// that no switch has are refused by each call. That they are these is this project's choice.
 #[repr(C)]
-#[derive(Clone, Copy, Debug, PartialEq, Eq)]
+#[derive(Clone, Copy)]
 pub struct SwitchState {
     /// What each output answers an enquiry: the input that feeds it, with the top bit 1, or 0 where
     /// none does.

@@ -6,7 +6,7 @@ use thiserror::Error;
 ///
 /// The faults are tested in the order in which they are listed here, each of them in all of the
 /// schedule before the next. That order is this project's choice.
-#[derive(Clone, Copy, Debug, PartialEq, Eq, Error)]
+#[derive(Clone, Copy, Debug, Error)]
 pub enum CheckFault {
     /// This number stands in a setting, and the batch has no such transfer. It is the first one in
     /// the order of the settings.

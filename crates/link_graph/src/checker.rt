@@ -13,7 +13,7 @@ use batch::Batch;
 use std::alloc::{AllocError, Global};
 
 /// The schedule of a batch is shortest.
-#[derive(Clone, Copy, Debug, PartialEq, Eq)]
+#[derive(Clone, Copy)]
 pub struct Shortest {
     /// How many settings it has: no schedule of the batch has fewer.
     pub settings: usize,

@@ -2,7 +2,7 @@ use std::alloc::{AllocError, AllocFailed};
 use thiserror::Error;
 
 /// Why a text says no schedule, or want of memory.
-#[derive(Clone, Copy, Debug, PartialEq, Eq, Error)]
+#[derive(Clone, Copy, Debug, Error)]
 pub enum ScheduleFault {
     /// This line, counted from 1, is the first that doesn't have the form that is wanted in its
     /// place, or has no line feed. Where the text ends too early, it is the line that is missing;

@@ -19,7 +19,7 @@ pub enum MemoryFault {
 
 /// Why there is no rack of an image. The number of bytes is looked at first, and memory is asked
 /// for last. This is the project's choice.
-#[derive(Clone, Copy, Debug, PartialEq, Eq, Error)]
+#[derive(Clone, Copy, Debug, Error)]
 pub enum ImageFault {
     /// The image has so many bytes, and the images of the shape have another number.
     #[error("the image has {is} bytes, and {wanted} are wanted")]

@@ -6,7 +6,7 @@ use batch::{Kind, Transfer};
 use link_graph::End;
 
 /// What a module does over a link, as to one of its blocks.
-#[derive(Clone, Copy, Debug, PartialEq, Eq)]
+#[derive(Clone, Copy, PartialEq, Eq)]
 pub enum Act {
     /// It sends the words of the block, as they are.
     Send,
@@ -41,7 +41,7 @@ impl Act {
 
 /// What a module does over one of its links while a setting stands: with all words of a block, the
 /// first of them first. Settings and blocks are numbered from 0.
-#[derive(Clone, Copy, Debug, PartialEq, Eq)]
+#[derive(Clone, Copy, PartialEq, Eq)]
 pub struct Order {
     pub setting: usize,
     /// Which of the module's links it is: link 0 or link 3.

@@ -10,7 +10,7 @@ use std::marker::Model;
 
 /// A block that goes to another place, which may be of the same module. Either end may start the
 /// transfer that does this.
-#[derive(Clone, Copy, Debug, PartialEq, Eq)]
+#[derive(Clone, Copy)]
 pub struct Move {
     pub source: Place,
     pub destination: Place,

@@ -1,7 +1,7 @@
 use refusals::Refusal;
 
 /// Why a job has no answer.
-#[derive(Clone, Copy, Debug, PartialEq, Eq)]
+#[derive(Clone, Copy)]
 pub enum Unanswered {
     /// A file, or standard input, can't be read or opened, or isn't one that the job may use.
     File,

@@ -47,6 +47,6 @@ impl From<StoreFault> for AnswerFault {
 }
 
 /// A wire didn't carry a byte.
-#[derive(Clone, Copy, Debug, PartialEq, Eq, Error)]
+#[derive(Clone, Copy, Debug, Error)]
 #[error("the wire failed")]
 pub struct WireFault;

@@ -106,7 +106,7 @@ impl Wire for FuseLine {
 
 /// Makes a wire with a fuse of so many bytes for one transfer, and for the others wires that never
 /// fail.
-#[derive(Clone, Copy, Debug, PartialEq, Eq)]
+#[derive(Clone, Copy)]
 pub struct FuseWires {
     /// The number of the transfer in its batch.
     pub transfer: usize,

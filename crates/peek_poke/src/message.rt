@@ -20,7 +20,7 @@ pub const PEEK_BYTES: usize = 5;
 pub const REPLY_BYTES: usize = 4;
 
 /// What an answering end is asked.
-#[derive(Clone, Copy, Debug, PartialEq, Eq)]
+#[derive(Clone, Copy)]
 pub enum Message {
     /// To write a word.
     Poke { address: u32, word: u32 },

@@ -87,7 +87,7 @@ impl Wire for PlainWire {
 }
 
 /// Makes wires that never fail.
-#[derive(Clone, Copy, Debug, PartialEq, Eq)]
+#[derive(Clone, Copy)]
 pub struct PlainWires;
 
 impl WireMaker for PlainWires {

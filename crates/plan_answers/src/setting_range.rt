@@ -4,10 +4,10 @@ ghost use Rattle.std.specs.Prelude.{IfSome, IfNone};
 ghost use Rattle.plan_answers.specs.Drawings.{DenotesRange, IsBadRange};
 
 use batch::{number_before, number_from_digits};
-use line_words::behind;
+use line_words::rest_after;
 
 /// Settings that follow one another, counted from 0.
-#[derive(Clone, Copy, Debug, PartialEq, Eq)]
+#[derive(Clone, Copy)]
 pub struct SettingRange {
     /// The first of them.
     pub first: usize,
@@ -22,7 +22,7 @@ impl SettingRange {
         ensures none { IfNone result (IsBadRange text.now) }
     {
         let (first, rest) = number_before(text, b'.')?;
-        let last = number_from_digits(behind(rest, b".")?)?;
+        let last = number_from_digits(rest_after(rest, b".")?)?;
         if last < first {
             return None;
         }

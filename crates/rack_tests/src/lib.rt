@@ -1,5 +1,5 @@
 //! Tests of the book and its exchange, and of sessions and their words. Each has a folder of its
-//! own. `runs_tests` has the runs.
+//! own. `row_tests` has the runs.
 #![tactic(auto)]
 
 #[cfg(test)]

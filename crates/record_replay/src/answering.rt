@@ -19,7 +19,7 @@ use std::alloc::{AllocError, Global};
 use std::thread::Threads;
 
 /// A record that hasn't ended.
-#[derive(Clone, Copy, Debug, PartialEq, Eq)]
+#[derive(Clone, Copy)]
 pub struct Torn {
     /// The number of its whole entries.
     pub entries: usize,

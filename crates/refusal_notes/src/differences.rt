@@ -17,12 +17,12 @@ const PORT_WORDS: [usize; 3] = [5, 8, 9];
 
 /// The first thing by which a line differs from what is wanted.
 #[derive(Clone, Copy)]
-pub(crate) enum Difference<'a> {
+pub(crate) enum Difference {
     /// It begins a text of moves, in the place of a batch.
     Moves,
     /// At this byte, counted from 1, it stops being of the form: what has to stand there, and what
-    /// does from there on.
-    Stops(usize, Due, &'a [u8]),
+    /// does.
+    Stops(usize, Due, Due),
     /// It is that of a module of this number, which no board has.
     NoModule(usize),
     /// It is that of a module of this number, which isn't above that of the line before, the second.
@@ -59,10 +59,10 @@ fn taken_by(wiring: &[u8], number: usize) -> Option<(usize, usize)> {
     None
 }
 
-impl<'a> Difference<'a> {
+impl Difference {
     /// The first by which the line of this number differs from what is wanted there: none where it
     /// has the form, or none is told of.
-    pub(crate) fn of(text: &'a [u8], number: usize, wanted: Wanted<'_>) -> Option<Difference<'a>> {
+    pub(crate) fn of(text: &[u8], number: usize, wanted: Wanted<'_>) -> Option<Difference> {
         let line = line_at(text, number);
         match (last_stop(line, wanted.forms()), wanted) {
             (Some(_), Wanted::Head(Listing::Transfers)) if line.starts_with(b"moves ") => {
@@ -70,7 +70,7 @@ impl<'a> Difference<'a> {
             }
             (Some((due, rest)), _) => {
                 let before = line.len().saturating_sub(rest.len());
-                Some(Difference::Stops(before.saturating_add(1), due, rest))
+                Some(Difference::Stops(before.saturating_add(1), due, Due::first_of(rest)))
             }
             (None, Wanted::Entry(Listing::Modules)) => Difference::of_module(text, number),
             (None, _) => None,
@@ -78,7 +78,7 @@ impl<'a> Difference<'a> {
     }
 
     /// The first rule of a wiring that a module's line breaks whose form is right.
-    fn of_module(wiring: &[u8], number: usize) -> Option<Difference<'a>> {
+    fn of_module(wiring: &[u8], number: usize) -> Option<Difference> {
         let line = line_at(wiring, number);
         let module = number_at(line, 1)?;
         let last = number_at(line_at(wiring, number.saturating_sub(1)), 1)?;
@@ -96,17 +96,14 @@ impl<'a> Difference<'a> {
     }
 }
 
-impl<'a> Display for Difference<'a> {
+impl Display for Difference {
     #[rattlefmt::skip]
     fn fmt<W: Write>(&self, f: &mut Formatter<W>) -> fmt::Result {
         match *self {
             Difference::Moves =>
                 f.write_str("a text of moves begins like this; \"direct\" makes a batch of it"),
-            Difference::Stops(1, _, []) => f.write_str("the line is empty"),
-            Difference::Stops(at, due, rest) => {
-                write!(f, "at byte {at} ")?;
-                write_stop(f, due, rest)
-            }
+            Difference::Stops(1, _, Due::End) => f.write_str("the line is empty"),
+            Difference::Stops(at, due, is) => write_stop(f, at, due, is),
             Difference::NoModule(module) => write!(f, "module {module} is above 15"),
             Difference::Falls(module, last) =>
                 write!(f, "module {module} isn't above module {last} of the line before"),
@@ -117,15 +114,15 @@ impl<'a> Display for Difference<'a> {
     }
 }
 
-/// Writes what these bytes begin with, where something else has to stand.
-fn write_stop<W: Write>(f: &mut Formatter<W>, due: Due, rest: &[u8]) -> fmt::Result {
-    match (due, rest) {
-        (Due::Number, [b'0', ..]) => f.write_str("a number has a leading zero"),
-        (Due::Number, [b'1'..=b'9', ..]) => f.write_str("a number has more than nine digits"),
-        (_, [b'\r']) => f.write_str("there is a carriage return before the end of the line"),
-        (Due::Hex8, [_, ..]) => f.write_str("eight digits 0 to 9 or a to f are expected"),
-        (_, []) => write!(f, "there is {} instead of {due}", Due::End),
-        (_, [0xef, 0xbb, 0xbf, ..]) => write!(f, "there is a byte order mark instead of {due}"),
-        (_, [byte, ..]) => write!(f, "there is {} instead of {due}", Due::Byte(*byte)),
-    }
+/// Writes what stands at this byte of a line, where something else has to.
+#[rattlefmt::skip]
+fn write_stop<W: Write>(f: &mut Formatter<W>, at: usize, due: Due, is: Due) -> fmt::Result {
+    write!(f, "at byte {at} ")?;
+    f.write_str(match (due, is) {
+        (Due::Number, Due::Byte(b'0')) => "a number has a leading zero",
+        (Due::Number, Due::Byte(b'1'..=b'9')) => "a number has more than nine digits",
+        (_, Due::Return) => "there is a carriage return before the end of the line",
+        (Due::Hex8, Due::Byte(_) | Due::Mark) => "eight digits 0 to 9 or a to f are expected",
+        _ => return write!(f, "there is {is} instead of {due}"),
+    })
 }

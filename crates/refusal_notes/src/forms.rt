@@ -18,22 +18,39 @@ pub(crate) enum Due {
     Number,
     /// Eight hexadecimal digits.
     Hex8,
+    /// The three bytes of a byte order mark.
+    Mark,
+    /// A carriage return at the end of the line.
+    Return,
     /// The line's end.
     End,
 }
 
+impl Due {
+    /// What these bytes begin with.
+    pub(crate) fn first_of(bytes: &[u8]) -> Due {
+        match bytes {
+            [] => Due::End,
+            [b'\r'] => Due::Return,
+            [0xef, 0xbb, 0xbf, ..] => Due::Mark,
+            [byte, ..] => Due::Byte(*byte),
+        }
+    }
+}
+
 impl Display for Due {
     fn fmt<W: Write>(&self, f: &mut Formatter<W>) -> fmt::Result {
-        match *self {
-            Due::Byte(b' ') => f.write_str("a space"),
-            Due::Byte(b'\t') => f.write_str("a tab"),
-            Due::Byte(b'\r') => f.write_str("a carriage return"),
-            Due::Byte(b'#') => f.write_str("a comment"),
-            Due::Byte(byte) => Quote(&[byte]).fmt(f),
-            Due::Number => f.write_str("a number"),
-            Due::Hex8 => f.write_str("eight digits"),
-            Due::End => f.write_str("the end of the line"),
-        }
+        f.write_str(match *self {
+            Due::Byte(b' ') => "a space",
+            Due::Byte(b'\t') => "a tab",
+            Due::Byte(b'\r') | Due::Return => "a carriage return",
+            Due::Byte(b'#') => "a comment",
+            Due::Byte(byte) => return Quote(&[byte]).fmt(f),
+            Due::Number => "a number",
+            Due::Hex8 => "eight digits",
+            Due::Mark => "a byte order mark",
+            Due::End => "the end of the line",
+        })
     }
 }
 
@@ -45,7 +62,7 @@ fn after_words<'a>(line: &'a [u8], words: &[u8]) -> Result<&'a [u8], Stop<'a>> {
     let mut rest = line;
     for byte in words {
         match rest {
-            [first, behind @ ..] if first == byte => rest = behind,
+            [first, after @ ..] if first == byte => rest = after,
             _ => return Err((Due::Byte(*byte), rest)),
         }
     }
@@ -55,9 +72,9 @@ fn after_words<'a>(line: &'a [u8], words: &[u8]) -> Result<&'a [u8], Stop<'a>> {
 /// What stands after a number.
 fn after_number(line: &[u8]) -> Result<&[u8], Stop<'_>> {
     let end = line.iter().position(|b| !b.is_ascii_digit());
-    let (digits, behind) = line.split_at(end.unwrap_or(line.len()));
+    let (digits, after) = line.split_at(end.unwrap_or(line.len()));
     match number_from_digits(digits) {
-        Some(_) => Ok(behind),
+        Some(_) => Ok(after),
         None => Err((Due::Number, line)),
     }
 }
@@ -68,7 +85,7 @@ fn after_hex8(line: &[u8]) -> Result<&[u8], Stop<'_>> {
         .iter()
         .position(|b| !b.is_ascii_digit() && !(*b >= b'a' && *b <= b'f'));
     match line.split_at(end.unwrap_or(line.len())) {
-        (digits, behind) if digits.len() == 8 => Ok(behind),
+        (digits, after) if digits.len() == 8 => Ok(after),
         _ => Err((Due::Hex8, line)),
     }
 }

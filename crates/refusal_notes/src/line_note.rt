@@ -23,29 +23,34 @@ pub(crate) struct LineNote<'a> {
 impl<'a> Display for LineNote<'a> {
     #[rattlefmt::skip]
     fn fmt<W: Write>(&self, f: &mut Formatter<W>) -> fmt::Result {
-        let (text, number, wanted) = (self.named.text, self.number, self.wanted);
-        let (line, is_ended) = (line_at(text, number), piece(text, b'\n', number).is_some());
-        let quote = Quote(line);
-        write!(f, "{}: ", TextLine(self.named, number.saturating_add(self.above)))?;
-        match (wanted, Difference::of(text, number, wanted)) {
-            _ if line.is_empty() && !is_ended && number <= 1 =>
-                write!(f, "the text is empty; expected {wanted}"),
-            _ if line.is_empty() && !is_ended =>
-                write!(f, "the text ends before this line; expected {wanted}"),
-            (Wanted::End, _) => write!(f, "{quote} comes after the last line; nothing may follow"),
-            (Wanted::RecordHead, _) =>
-                write!(f, "{quote} doesn't begin a record of this rack; expected {wanted}"),
-            (Wanted::HeadLine(Opening::Resumed, due), _) => write!(f,
-                "{quote}; this command's record has {due} there: --resume takes the record's shape, words and clients, in its order"),
-            (Wanted::HeadLine(Opening::Zeros, due), _) => write!(f,
-                "{quote}; this command's rack, whose words are 0, has {due} there: --image takes the record's words, and --shape its shape"),
-            (Wanted::HeadLine(Opening::Image, due), _) => write!(f,
-                "{quote}; this command's rack, with the words of --image, has {due} there: --image takes the record's words, and --shape its shape"),
-            (_, Some(difference)) => write!(f, "{quote}: {difference}; expected {wanted}"),
-            _ if is_ended => write!(f, "{quote} isn't {wanted}"),
-            _ if !wanted.forms().contains('`') =>
-                write!(f, "{quote} without a line feed isn't {wanted}"),
-            _ => write!(f, "{quote}: the last line has no line feed at its end"),
+        let line = line_at(self.named.text, self.number);
+        let is_ended = piece(self.named.text, b'\n', self.number).is_some();
+        let is_there = is_ended || !line.is_empty();
+        write!(f, "{}: ", TextLine(self.named, self.number.saturating_add(self.above)))?;
+        if is_there {
+            Quote(line).fmt(f)?;
         }
+        let between = match self.wanted {
+            _ if !is_there && self.number <= 1 => "the text is empty; expected ",
+            _ if !is_there => "the text ends before this line; expected ",
+            Wanted::End => return f.write_str(" comes after the last line; nothing may follow"),
+            Wanted::RecordHead => " doesn't begin a record of this rack; expected ",
+            Wanted::HeadLine(Opening::Resumed, due) => return write!(f,
+                "; this command's record has {due} there: --resume takes the record's shape, words and clients, in its order"),
+            Wanted::HeadLine(Opening::Zeros, due) => return write!(f,
+                "; this command's rack, whose words are 0, has {due} there: --image takes the record's words, and --shape its shape"),
+            Wanted::HeadLine(Opening::Image, due) => return write!(f,
+                "; this command's rack, with the words of --image, has {due} there: --image takes the record's words, and --shape its shape"),
+            wanted => match Difference::of(self.named.text, self.number, wanted) {
+                Some(difference) => {
+                    write!(f, ": {difference}")?;
+                    "; expected "
+                }
+                None if is_ended => " isn't ",
+                None if !wanted.forms().contains('`') => " without a line feed isn't ",
+                None => return f.write_str(": the last line has no line feed at its end"),
+            },
+        };
+        write!(f, "{between}{}", self.wanted)
     }
 }

@@ -35,18 +35,18 @@ fn write_byte<W: Write>(f: &mut Formatter<W>, byte: u8) -> fmt::Result {
 /// these are control characters, those of no width, those that turn the direction of a text, and
 /// those that break its lines.
 pub(crate) fn write_shown<W: Write>(f: &mut Formatter<W>, c: char) -> fmt::Result {
-    match c {
-        '"' => f.write_str("\\\""),
-        '\\' => f.write_str("\\\\"),
-        '\t' => f.write_str("\\t"),
-        '\r' => f.write_str("\\r"),
-        '\0'..='\x1f' | '\x7f' => write!(f, "\\x{:02x}", u32::from(c)),
+    f.write_str(match c {
+        '"' => "\\\"",
+        '\\' => "\\\\",
+        '\t' => "\\t",
+        '\r' => "\\r",
+        '\0'..='\x1f' | '\x7f' => return write!(f, "\\x{:02x}", u32::from(c)),
         '\u{80}'..='\u{9f}'
         | '\u{61c}'
         | '\u{200b}'..='\u{200f}'
         | '\u{2028}'..='\u{202e}'
         | '\u{2060}'..='\u{206f}'
-        | '\u{feff}' => write!(f, "\\u{{{:x}}}", u32::from(c)),
-        _ => f.write_char(c),
-    }
+        | '\u{feff}' => return write!(f, "\\u{{{:x}}}", u32::from(c)),
+        _ => return f.write_char(c),
+    })
 }

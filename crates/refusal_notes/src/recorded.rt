@@ -7,7 +7,7 @@ use crate::told::{Named, Note, Texts};
 use crate::wanted::Wanted;
 use batch::{Batch, BatchFault, Shape, number_before};
 use exchange_limits::MAX_SESSIONS;
-use line_words::{behind, hex8_and_rest};
+use line_words::{hex8_and_rest, rest_after};
 use refusals::Refusal;
 
 /// The line in which a record is wrong, where this is wanted.
@@ -23,7 +23,7 @@ pub(crate) fn line_wanting<'a>(texts: Texts<'a>, wanted: Wanted<'a>) -> LineNote
 
 /// How many clients the first line of a record names; none where the line is wrong.
 fn clients_in(text: &[u8]) -> Option<usize> {
-    let rest = behind(text, b"record-2 ")?;
+    let rest = rest_after(text, b"record-2 ")?;
     let (modules, rest) = number_before(rest, b'x')?;
     let (blocks, rest) = number_before(rest, b'x')?;
     let (words, rest) = number_before(rest, b' ')?;
@@ -38,7 +38,7 @@ fn clients_in(text: &[u8]) -> Option<usize> {
 /// Whether the line of this number is that of a client whose name no client above has.
 fn is_client(text: &[u8], number: usize) -> bool {
     let line = line_at(text, number);
-    matches!(behind(line, b"client "), Some([_, ..]))
+    matches!(rest_after(line, b"client "), Some([_, ..]))
         && piece(text, b'\n', number).is_some()
         && (2..number).all(|above| line_at(text, above) != line)
 }
@@ -84,12 +84,12 @@ fn call_after(text: &[u8], bytes: usize) -> Option<&[u8]> {
 pub(crate) fn note_of_call(note: Note<'_>) -> Option<Note<'_>> {
     let (recorded, offset) = (note.texts.recorded, note.texts.offset);
     let text = call_after(recorded.text, offset).unwrap_or(&[]);
-    let refusal = match Batch::read(note.alloc, text, Shape::WIDEST) {
-        Ok(_) | Err(BatchFault::Line(1)) => return Some(note),
-        Err(BatchFault::NoMemory) => return None,
+    let refusal = match Batch::read(note.alloc, text, Shape::WIDEST).err() {
+        None | Some(BatchFault::Line(1)) => return Some(note),
+        Some(BatchFault::NoMemory) => return None,
         // The record ends above the last line.
-        Err(BatchFault::Count) => Refusal::BatchLine(line_after(text, text.len())),
-        Err(fault) => Refusal::from(fault),
+        Some(BatchFault::Count) => Refusal::BatchLine(line_after(text, text.len())),
+        Some(fault) => Refusal::from(fault),
     };
     let list = Named {
         name: recorded.name,

@@ -5,6 +5,7 @@ use crate::told::{Named, Note, Numbered, TextLine};
 use batch::{Batch, BatchFault, Shape};
 use link_graph::{Certificate, CheckFault, End, Link, Schedule, check_schedule};
 use refusals::{Refusal, Validity};
+use std::alloc::Global;
 use std::fmt::{self, Display, Formatter, Write};
 
 /// What is told of a schedule besides, of which this is known.
@@ -17,12 +18,13 @@ impl<'a> Display for Known<'a> {
         let Validity::Valid(enough) = validity else {
             return Ok(());
         };
-        f.write_str("; the schedule is valid, and ")?;
-        match enough {
-            _ if enough >= announced(plan.text) => f.write_str("none has fewer settings"),
-            1 => f.write_str("1 setting is enough"),
-            n => write!(f, "{n} settings are enough"),
-        }
+        f.write_str(match enough {
+            _ if enough >= announced(plan.text) => {
+                "; the schedule is valid, and none has fewer settings"
+            }
+            1 => "; the schedule is valid, and 1 setting is enough",
+            n => return write!(f, "; the schedule is valid, and {n} settings are enough"),
+        })
     }
 }
 
@@ -35,62 +37,80 @@ fn uses(batch: &Batch, t: usize, link: Link) -> bool {
     }
 }
 
-/// What is told of the first fault of the settings, in place of that of the certificate. None where
+/// The refusal of the first fault of the settings, in place of that of the certificate. None where
 /// there is no memory to find it.
-pub(crate) fn note_of_settings(note: Note<'_>) -> Option<Note<'_>> {
-    let batch = Batch::read(note.alloc, note.texts.list.text, Shape::WIDEST).ok()?;
-    let (schedule, _) = Schedule::read(note.alloc, note.texts.other.text).ok()?;
-    match check_schedule(note.alloc, &batch, &schedule, &Certificate::none()) {
-        Ok(_) | Err(CheckFault::NoMemory) => None,
-        Err(fault) => Some(Note {
-            refusal: Refusal::from(fault),
-            ..note
-        }),
+pub(crate) fn refusal_of_settings(alloc: Global, list: &[u8], plan: &[u8]) -> Option<Refusal> {
+    let batch = Batch::read(alloc, list, Shape::WIDEST).ok()?;
+    let (schedule, _) = Schedule::read(alloc, plan).ok()?;
+    match check_schedule(alloc, &batch, &schedule, &Certificate::none()).err() {
+        None | Some(CheckFault::NoMemory) => None,
+        Some(fault) => Some(Refusal::from(fault)),
     }
 }
 
 impl<'a> Note<'a> {
-    /// The settings of the schedule that hold a transfer, each as often as it holds it.
-    fn holding(&self, t: usize) -> Result<Vec<usize>, fmt::Error> {
+    /// How often the settings of the schedule hold a transfer, and the two settings in which they
+    /// do so first. An error where they hold it less often than this.
+    fn holding(&self, t: usize, least: usize) -> Result<(usize, usize, usize), fmt::Error> {
         let (schedule, _) = Schedule::read(self.alloc, self.texts.other.text).or(Err(fmt::Error))?;
-        let mut holding = Vec::new(self.alloc);
+        let (mut times, mut first, mut second) = (0usize, 0, 0);
         for (k, setting) in schedule.iter().enumerate() {
             for u in setting {
-                if *u == t {
-                    holding.push(k).or(Err(fmt::Error))?;
+                match times {
+                    _ if *u != t => continue,
+                    0 => first = k,
+                    1 => second = k,
+                    _ => {}
                 }
+                times = times.saturating_add(1);
             }
         }
-        Ok(holding)
+        match times >= least {
+            true => Ok((times, first, second)),
+            false => Err(fmt::Error),
+        }
     }
 
     /// Writes that the batch has no such transfer, which a setting holds.
     #[rattlefmt::skip]
     pub(crate) fn write_unknown<W: Write>(&self, f: &mut Formatter<W>, t: usize) -> fmt::Result {
-        let (list, settings) = (self.texts.list, self.holding(t)?);
-        let first = settings.first().ok_or(fmt::Error)?;
-        write!(f, "{}: transfer {t}; {list} has {}", TextLine(self.texts.other, entry_line(*first)),
-            Numbered(announced(list.text), "transfer"))
+        let (_, first, _) = self.holding(t, 1)?;
+        write!(f, "{}: transfer {t}; {} has {}", TextLine(self.texts.other, entry_line(first)),
+            self.texts.list, Numbered(announced(self.texts.list.text), "transfer"))
     }
 
     /// Writes that the schedule holds this transfer twice or more, and where.
     #[rattlefmt::skip]
     pub(crate) fn write_repeated<W: Write>(&self, f: &mut Formatter<W>, t: usize) -> fmt::Result {
-        let settings = self.holding(t)?;
-        let [first, second, more @ ..] = settings.as_slice() else {
-            return Err(fmt::Error);
-        };
-        write!(f, "{}: transfer {t} occurs ", TextLine(self.texts.other, entry_line(*second)))?;
-        match more {
-            [] if first == second => f.write_str("twice ")?,
-            [] => {}
-            _ => write!(f, "{} times, the first two ", settings.len())?,
+        let (times, first, second) = self.holding(t, 2)?;
+        write!(f, "{}: transfer {t} occurs ", TextLine(self.texts.other, entry_line(second)))?;
+        match times {
+            2 if first == second => f.write_str("twice ")?,
+            2 => {}
+            _ => write!(f, "{times} times, the first two ")?,
         }
         match first == second {
             true => write!(f, "in setting {first} ")?,
             false => write!(f, "in settings {first} and {second} ")?,
         }
         write!(f, "(line {} of {})", entry_line(t), self.texts.list)
+    }
+
+    /// The first two transfers of this setting that use a link.
+    fn users(&self, k: usize, link: Link) -> Result<(usize, usize), fmt::Error> {
+        let (schedule, _) = Schedule::read(self.alloc, self.texts.other.text).or(Err(fmt::Error))?;
+        let list = self.texts.list.text;
+        let batch = Batch::read(self.alloc, list, Shape::WIDEST).or(Err(fmt::Error))?;
+        let setting = schedule.setting(k).ok_or(fmt::Error)?;
+        let mut first = None;
+        for t in setting {
+            match first {
+                _ if !uses(&batch, *t, link) => {}
+                None => first = Some(*t),
+                Some(first) => return Ok((first, *t)),
+            }
+        }
+        Err(fmt::Error)
     }
 
     /// Writes which two transfers of this setting use one link.
@@ -101,18 +121,11 @@ impl<'a> Note<'a> {
         k: usize,
         link: Link,
     ) -> fmt::Result {
-        let (list, plan) = (self.texts.list, self.texts.other);
-        let (schedule, _) = Schedule::read(self.alloc, plan.text).or(Err(fmt::Error))?;
-        let batch = Batch::read(self.alloc, list.text, Shape::WIDEST).or(Err(fmt::Error))?;
-        let setting = schedule.setting(k).ok_or(fmt::Error)?;
-        let mut users = setting.iter().filter(|t| uses(&batch, **t, link));
-        let (Some(t), Some(u)) = (users.next(), users.next()) else {
-            return Err(fmt::Error);
-        };
+        let (t, u) = self.users(k, link)?;
         write!(f,
-            "{}: transfers {t} and {u} both use link {} of module {} (lines {} and {} of {list})",
-            TextLine(plan, entry_line(k)), link.end.number(), link.module, entry_line(*t),
-            entry_line(*u))
+            "{}: transfers {t} and {u} both use link {} of module {} (lines {} and {} of {})",
+            TextLine(self.texts.other, entry_line(k)), link.end.number(), link.module,
+            entry_line(t), entry_line(u), self.texts.list)
     }
 
     /// Writes that two transfers of the batch write one block, and which, unless the text is none.

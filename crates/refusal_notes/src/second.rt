@@ -4,7 +4,7 @@ ghost use Rattle.std.specs.Prelude.{◌≢◌, IfSome, string_bytes};
 ghost use Rattle.refusal_notes.specs.Told.{IsWholeLine};
 
 use crate::recorded::note_of_call;
-use crate::schedules::note_of_settings;
+use crate::schedules::refusal_of_settings;
 use crate::told::{Named, Note, Texts};
 use batch::Shape;
 use refusals::{Refusal, Validity};
@@ -31,7 +31,8 @@ pub fn second_line(alloc: Global, refusal: Refusal, texts: Texts<'_>) -> Option<
         (Refusal::NoMemory | Refusal::File | Refusal::Port(_), _) => None,
         (Refusal::RecordCall(_), _) => told(alloc, &note_of_call(note)?),
         (Refusal::NoCertificate, Validity::Invalid) => {
-            let settings = note_of_settings(note)?;
+            let refusal = refusal_of_settings(alloc, texts.list.text, texts.other.text)?;
+            let settings = Note { refusal, ..note };
             let words = format!(in alloc; "{note}; {settings}").ok()?;
             told(alloc, &words)
         }

@@ -21,80 +21,82 @@ const _: () = prove!(MAX_TRANSFERS == 4096 && WINDOW_START == 0x8000_0800);
 impl<'a> Display for Note<'a> {
     #[rattlefmt::skip]
     fn fmt<W: Write>(&self, f: &mut Formatter<W>) -> fmt::Result {
-        let texts = self.texts;
-        let (list, other, rack) = (texts.list, texts.other, texts.rack());
-        let known = Known(other, texts.validity);
-        match self.refusal {
+        let sent = match self.refusal {
             Refusal::BatchLine(n) | Refusal::MovesLine(n) =>
-                self.line(list, texts.listing, n).fmt(f),
-            Refusal::ScheduleLine(n) => self.write_listed(f, other, Listing::Settings, n),
-            Refusal::WiringLine(n) => self.line(texts.wiring, Listing::Modules, n).fmt(f),
-            Refusal::Count =>
-                self.write_listed(f, list, texts.listing, entry_line(announced(list.text))),
-            Refusal::TooMany => self.write_too_many(f),
-            Refusal::NoModule(t) if texts.wiring.text.is_empty() => self.write_above(f, t, &[1, 3],
-                Numbered(rack.modules(), "module"), ["rack", " of "]),
-            Refusal::NoBlock(t) => self.write_above(f, t, &[2, 4],
-                Numbered(rack.blocks(), "block"), ["module", " in a rack of "]),
-            Refusal::NoModule(t) | Refusal::NoLink(t) => self.write_missing(f, t),
-            Refusal::Shape => write!(f,
+                return self.line(self.texts.list, self.texts.listing, n).fmt(f),
+            Refusal::ScheduleLine(n) =>
+                return self.write_listed(f, self.texts.other, Listing::Settings, n),
+            Refusal::WiringLine(n) =>
+                return self.line(self.texts.wiring, Listing::Modules, n).fmt(f),
+            Refusal::Count => return self.write_listed(f, self.texts.list, self.texts.listing,
+                entry_line(announced(self.texts.list.text))),
+            Refusal::TooMany => return self.write_too_many(f),
+            Refusal::NoModule(t) if self.texts.wiring.text.is_empty() => return self.write_above(f,
+                t, &[1, 3], Numbered(self.texts.rack().modules(), "module"), ["rack", " of "]),
+            Refusal::NoBlock(t) => return self.write_above(f, t, &[2, 4],
+                Numbered(self.texts.rack().blocks(), "block"), ["module", " in a rack of "]),
+            Refusal::NoModule(t) | Refusal::NoLink(t) => return self.write_missing(f, t),
+            Refusal::Shape => return write!(f,
                 "{} isn't \"MxKxW\": 1 to 32 modules, 1 to 64 blocks each, 1 to 256 words each",
-                Quote(texts.shape.as_bytes())),
-            Refusal::Settings => write!(f,
+                Quote(self.texts.shape.as_bytes())),
+            Refusal::Settings => return write!(f,
                 "{} isn't \"A..B\": two settings, counted from 0, of which the second isn't below the first",
-                Quote(texts.range.as_bytes())),
-            Refusal::NoSetting(k) => self.write_no_setting(f, k),
-            Refusal::Image { is, wanted } => write!(f,
-                "{other}: {}; an image of {} has {wanted}", Many(is, "byte"), texts.shape),
-            Refusal::Overlap(t, u) => self.write_overlap(f, t, u),
-            Refusal::Ports(1) => f.write_str("a board has one switch: name PORT alone"),
-            Refusal::Ports(_) => write!(f,
-                "{list}: a module above 15 is named, so there are two switches: name PORT and PORT_B"),
+                Quote(self.texts.range.as_bytes())),
+            Refusal::NoSetting(k) => return self.write_no_setting(f, k),
+            Refusal::Image { is, wanted } => return write!(f,
+                "{}: {}; an image of {} has {wanted}", self.texts.other, Many(is, "byte"),
+                self.texts.shape),
+            Refusal::Overlap(t, u) => return self.write_overlap(f, t, u),
+            Refusal::Ports(1) => return f.write_str("a board has one switch: name PORT alone"),
+            Refusal::Ports(_) => return write!(f,
+                "{}: a module above 15 is named, so there are two switches: name PORT and PORT_B",
+                self.texts.list),
             Refusal::Threads =>
-                f.write_str("the system has no thread for each client; try fewer clients"),
-            Refusal::CheckUnknown(t) => self.write_unknown(f, t),
-            Refusal::CheckRepeated(t) => self.write_repeated(f, t),
-            Refusal::CheckClash(k, link) => self.write_clash(f, k, link),
-            Refusal::CheckMissing(t) => write!(f,
-                "{other}: transfer {t} occurs in no setting (line {} of {list})", entry_line(t)),
-            Refusal::NoCertificate => write!(f,
-                "{other}: no certificate: \"busiest link E module M\" and \"named T U ..\"{known}"),
-            Refusal::CheckWrongLink(t) if t < announced(list.text) =>
-                self.write_named(f, t, "and doesn't use the link"),
-            Refusal::CheckWrongLink(t) => write!(f,
-                "{}: transfer {t} is named; {list} has {}{known}", self.certificate_line(),
-                Numbered(announced(list.text), "transfer")),
-            Refusal::CheckCertificateRepeats(t) => self.write_named(f, t, "twice"),
-            Refusal::CheckNotTight { settings, named } => write!(f,
-                "{other}: {}, and the certificate names {}{known}", Many(settings, "setting"),
-                Many(named, "transfer")),
-            Refusal::Memory(MemoryFault::NoModule) => write!(f,
+                return f.write_str("the system has no thread for each client; try fewer clients"),
+            Refusal::CheckUnknown(t) => return self.write_unknown(f, t),
+            Refusal::CheckRepeated(t) => return self.write_repeated(f, t),
+            Refusal::CheckClash(k, link) => return self.write_clash(f, k, link),
+            Refusal::CheckMissing(t) => return write!(f,
+                "{}: transfer {t} occurs in no setting (line {} of {})", self.texts.other,
+                entry_line(t), self.texts.list),
+            Refusal::NoCertificate => return write!(f,
+                "{}: no certificate: \"busiest link E module M\" and \"named T U ..\"{}",
+                self.texts.other, self.known()),
+            Refusal::CheckWrongLink(t) if t < announced(self.texts.list.text) =>
+                return self.write_named(f, t, "and doesn't use the link"),
+            Refusal::CheckWrongLink(t) => return write!(f,
+                "{}: transfer {t} is named; {} has {}{}", self.certificate_line(), self.texts.list,
+                Numbered(announced(self.texts.list.text), "transfer"), self.known()),
+            Refusal::CheckCertificateRepeats(t) => return self.write_named(f, t, "twice"),
+            Refusal::CheckNotTight { settings, named } => return write!(f,
+                "{}: {}, and the certificate names {}{}", self.texts.other,
+                Many(settings, "setting"), Many(named, "transfer"), self.known()),
+            Refusal::Memory(MemoryFault::NoModule) => return write!(f,
                 "{} names a module that the rack doesn't have; it has {}", self.sent(),
-                Numbered(rack.modules(), "module")),
-            Refusal::Memory(MemoryFault::Misaligned) => self.write_sent(f,
-                "names an address that isn't a multiple of four; its last digit has to be 0, 4, 8 or c"),
-            Refusal::Memory(MemoryFault::Outside) => self.write_outside(f),
-            Refusal::Unknown => self.write_sent(f,
-                "names no batch of this session; \"accepted ID\" gives the ID of each that it hands in"),
-            Refusal::Unplanned =>
-                self.write_sent(f, "names a batch that has no plan yet; send \"plan ID\" first"),
-            Refusal::Already => self.write_sent(f,
-                "names a batch that was already planned or run; hand it in again to run it again"),
-            Refusal::Stranger =>
-                self.write_sent(f, "was given the plan of another batch; send it again"),
-            Refusal::BookFull => self.write_sent(f,
-                "is one batch too many for the exchange; send \"drop ID\" for one that isn't needed"),
-            Refusal::HistoryFull => self.write_sent(f,
-                "is one call too many for the exchange; end the session, and start the program anew"),
-            Refusal::Line => self.write_no_command(f),
-            Refusal::RecordHead => line_of_head(texts).fmt(f),
-            Refusal::RecordSum(e) => line_wanting(texts, Wanted::Sum(e)).fmt(f),
-            Refusal::RecordCall(e) => line_wanting(texts, Wanted::Call(e)).fmt(f),
-            Refusal::RecordReply(e) =>
-                line_wanting(texts, Wanted::Reply(e, Quote(line_at(texts.due, 1)))).fmt(f),
-            Refusal::RecordMore => line_wanting(texts, Wanted::End).fmt(f),
-            Refusal::File | Refusal::Port(_) | Refusal::NoMemory => Ok(()),
-        }
+                Numbered(self.texts.rack().modules(), "module")),
+            Refusal::Memory(MemoryFault::Misaligned) =>
+                "names an address that isn't a multiple of four; its last digit has to be 0, 4, 8 or c",
+            Refusal::Memory(MemoryFault::Outside) => return self.write_outside(f),
+            Refusal::Unknown =>
+                "names no batch of this session; \"accepted ID\" gives the ID of each that it hands in",
+            Refusal::Unplanned => "names a batch that has no plan yet; send \"plan ID\" first",
+            Refusal::Already =>
+                "names a batch that was already planned or run; hand it in again to run it again",
+            Refusal::Stranger => "was given the plan of another batch; send it again",
+            Refusal::BookFull =>
+                "is one batch too many for the exchange; send \"drop ID\" for one that isn't needed",
+            Refusal::HistoryFull =>
+                "is one call too many for the exchange; end the session, and start the program anew",
+            Refusal::Line => return self.write_no_command(f),
+            Refusal::RecordHead => return line_of_head(self.texts).fmt(f),
+            Refusal::RecordSum(e) => return line_wanting(self.texts, Wanted::Sum(e)).fmt(f),
+            Refusal::RecordCall(e) => return line_wanting(self.texts, Wanted::Call(e)).fmt(f),
+            Refusal::RecordReply(e) => return line_wanting(self.texts,
+                Wanted::Reply(e, Quote(line_at(self.texts.due, 1)))).fmt(f),
+            Refusal::RecordMore => return line_wanting(self.texts, Wanted::End).fmt(f),
+            Refusal::File | Refusal::Port(_) | Refusal::NoMemory => return Ok(()),
+        };
+        self.write_sent(f, sent)
     }
 }
 
@@ -113,6 +115,11 @@ impl<'a> Note<'a> {
     /// The line that a session sent.
     fn sent(&self) -> Quote<'a> {
         Quote(line_at(self.texts.list.text, 1))
+    }
+
+    /// What is known of the schedule.
+    fn known(&self) -> Known<'a> {
+        Known(self.texts.other, self.texts.validity)
     }
 
     /// A line of a text that lists these.
@@ -165,6 +172,7 @@ impl<'a> Note<'a> {
     }
 
     /// Writes which of these words of a transfer's line isn't below its limit, and what has fewer.
+    #[rattlefmt::skip]
     fn write_above<W: Write>(
         &self,
         f: &mut Formatter<W>,
@@ -173,33 +181,29 @@ impl<'a> Note<'a> {
         what: Numbered,
         owner: [&'static str; 2],
     ) -> fmt::Result {
-        let Numbered(limit, name) = what;
         let line = line_at(self.texts.list.text, entry_line(t));
-        let n = first_from(line, places, limit).ok_or(fmt::Error)?;
-        write!(f, "{}: {name} {n}; a {}", self.line_of(t), owner[0])?;
-        if !self.texts.shape.is_empty() {
-            write!(f, "{}{}", owner[1], self.texts.shape)?;
-        }
-        write!(f, " has {what}")
+        let n = first_from(line, places, what.0).ok_or(fmt::Error)?;
+        let of = if self.texts.shape.is_empty() { "" } else { owner[1] };
+        write!(f, "{}: {} {n}; a {}{of}{} has {what}", self.line_of(t), what.1, owner[0],
+            self.texts.shape)
     }
 
     /// Writes that there is no such setting.
     #[rattlefmt::skip]
     fn write_no_setting<W: Write>(&self, f: &mut Formatter<W>, k: usize) -> fmt::Result {
-        let (other, settings) = (self.texts.other, |count| Numbered(count, "setting"));
-        match (self.texts.validity, other.name) {
-            (Validity::Valid(count), "") =>
-                write!(f, "setting {k}; the plan has {}", settings(count)),
-            _ => write!(f, "setting {k}; {other} has {}", settings(announced(other.text))),
+        match self.texts.validity {
+            Validity::Valid(count) if self.texts.other.name.is_empty() =>
+                write!(f, "setting {k}; the plan has {}", Numbered(count, "setting")),
+            _ => write!(f, "setting {k}; {} has {}", self.texts.other,
+                Numbered(announced(self.texts.other.text), "setting")),
         }
     }
 
     /// Writes what is wrong with a transfer that the certificate names.
     #[rattlefmt::skip]
     fn write_named<W: Write>(&self, f: &mut Formatter<W>, t: usize, what: &str) -> fmt::Result {
-        let (place, list) = (self.certificate_line(), self.texts.list);
-        let (number, known) = (entry_line(t), Known(self.texts.other, self.texts.validity));
-        write!(f, "{place}: transfer {t} is named {what} (line {number} of {list}){known}")
+        write!(f, "{}: transfer {t} is named {what} (line {} of {}){}", self.certificate_line(),
+            entry_line(t), self.texts.list, self.known())
     }
 
     /// Writes what is wrong with a line that a session sent.
@@ -208,24 +212,27 @@ impl<'a> Note<'a> {
     }
 
     /// Writes that a module has no word at an address, and where it has words.
+    #[rattlefmt::skip]
     fn write_outside<W: Write>(&self, f: &mut Formatter<W>) -> fmt::Result {
         let words = (self.texts.rack().blocks() * self.texts.rack().words()) as u32;
         let last = WINDOW_START + WORD_BYTES * (words - 1);
-        self.write_sent(f, "names an address where there is no word; ")?;
-        write!(f, "a module has its words at 80000800 to {last:08x}")
+        write!(f,
+            "{} names an address where there is no word; a module has its words at 80000800 to {last:08x}",
+            self.sent())
     }
 
     /// Writes that what was sent is no line of a session.
     #[rattlefmt::skip]
     fn write_no_command<W: Write>(&self, f: &mut Formatter<W>) -> fmt::Result {
-        let (text, wanted) = (self.texts.list.text, Wanted::Sent);
-        write!(f, "{} isn't a line of a session", self.sent())?;
-        match (line_at(text, 1), Difference::of(text, 1, wanted)) {
-            (b"help", _) => f.write_str("; \"exchange talk --help\" lists them"),
-            (b"quit", _) => f.write_str("; \"bye\" ends it"),
-            (_, Some(Difference::Stops(1, ..)) | None) =>
-                write!(f, ": {wanted}; see \"exchange talk --help\""),
-            (_, Some(difference)) =>
+        self.write_sent(f, "isn't a line of a session")?;
+        let line = line_at(self.texts.list.text, 1);
+        match Difference::of(self.texts.list.text, 1, Wanted::Sent) {
+            _ if line == b"help".as_slice() =>
+                f.write_str("; \"exchange talk --help\" lists them"),
+            _ if line == b"quit".as_slice() => f.write_str("; \"bye\" ends it"),
+            Some(Difference::Stops(1, ..)) | None =>
+                write!(f, ": {}; see \"exchange talk --help\"", Wanted::Sent),
+            Some(difference) =>
                 write!(f, ": {difference}; \"exchange talk --help\" lists the lines"),
         }
     }

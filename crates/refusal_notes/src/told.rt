@@ -139,10 +139,8 @@ pub(crate) struct Many(pub usize, pub &'static str);
 
 impl Display for Many {
     fn fmt<W: Write>(&self, f: &mut Formatter<W>) -> fmt::Result {
-        match *self {
-            Many(1, what) => write!(f, "1 {what}"),
-            Many(n, what) => write!(f, "{n} {what}s"),
-        }
+        let Many(n, what) = *self;
+        write!(f, "{n} {what}{}", if n == 1 { "" } else { "s" })
     }
 }
 

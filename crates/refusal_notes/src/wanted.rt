@@ -19,13 +19,9 @@ const _: () = prove!(MAX_SESSIONS == 16);
 const RECORD_HEAD: &str =
     "\"record-2 MxKxW SUM N\", where MxKxW is its shape, SUM the sum of its image, of eight digits, and N, at most 16, counts the lines \"client NAME\" after it, and then \"=SUM\", the sum of these lines";
 
-/// The call of an entry of a record.
+/// The call of an entry of a record, what names in calls stand for, and how lines are written.
 const CALL: &str =
-    "\"S CALL\", where S is the number of a session, below the number of clients if the head names any, CALL is \"batch N\" and the batch's lines, \"fetch ID\", \"settle ID\", \"run ID\", \"show ID\", \"drop ID\", \"peek M A\" or \"poke M A D\"";
-
-/// What names in calls stand for, and how lines are written.
-const RULES: &str =
-    "ID is the number of a batch, M a module, A an address and D a word, of eight digits 0 to 9 and a to f each: small letters, single spaces, numbers of at most nine digits and no leading zero";
+    "\"S CALL\", where S is the number of a session, below the number of clients if the head names any, CALL is \"batch N\" and the batch's lines, \"fetch ID\", \"settle ID\", \"run ID\", \"show ID\", \"drop ID\", \"peek M A\" or \"poke M A D\", ID is the number of a batch, M a module, A an address and D a word, of eight digits 0 to 9 and a to f each: small letters, single spaces, numbers of at most nine digits and no leading zero, a line feed at its end";
 
 /// What is wanted in a line.
 #[derive(Clone, Copy)]
@@ -61,9 +57,9 @@ pub(crate) enum Wanted<'a> {
 impl<'a> Wanted<'a> {
     /// What is wanted in the line of this number, counted from 1.
     pub(crate) fn at(listing: Listing, text: &[u8], number: usize) -> Wanted<'a> {
-        let behind = number.saturating_sub(announced(text).saturating_add(1));
+        let after = number.saturating_sub(announced(text).saturating_add(1));
         let last = line_at(text, number.saturating_sub(1));
-        match (listing, behind) {
+        match (listing, after) {
             _ if number <= 1 => Wanted::Head(listing),
             (_, 0) => Wanted::Entry(listing),
             (Listing::Settings, 1) => Wanted::BusiestLink,
@@ -109,8 +105,7 @@ impl<'a> Display for Wanted<'a> {
             Wanted::HeadLine(_, due) => due.fmt(f),
             Wanted::Sum(e) => write!(f,
                 "the start of entry {e}, or of the end, with a right sum: a byte was changed, or lines were left out, added or moved"),
-            Wanted::Call(e) =>
-                write!(f, "the call of entry {e}, {CALL}, {RULES}, a line feed at its end"),
+            Wanted::Call(e) => write!(f, "the call of entry {e}, {CALL}"),
             Wanted::Reply(e, due) => write!(f, "the reply of entry {e}, {due}"),
             _ => write_forms(f, self.forms()),
         }

@@ -14,7 +14,7 @@ pub const REFUSAL_ROOM: usize = 100;
 /// docs/SESSIONS.md, and which of them comes first, are this project's choice.
 ///
 /// A line of a text is counted from 1, a transfer, a setting and an entry from 0.
-#[derive(Clone, Copy, Debug, PartialEq, Eq)]
+#[derive(Clone, Copy)]
 pub enum Refusal {
     /// `batch line N`: this line of the batch is wrong, or has no line feed.
     BatchLine(usize),
@@ -106,7 +106,7 @@ pub enum Refusal {
 }
 
 /// Which of the ports to switches.
-#[derive(Clone, Copy, Debug, PartialEq, Eq)]
+#[derive(Clone, Copy)]
 pub enum PortName {
     /// The port that is named first: that to the only switch, or to switch A.
     A,

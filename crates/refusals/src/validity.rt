@@ -1,7 +1,7 @@
 //! What is known of a schedule that is refused.
 
 /// What is known of a schedule: whether it is one of the batch, whatever certificate it has.
-#[derive(Clone, Copy, Debug, PartialEq, Eq)]
+#[derive(Clone, Copy, PartialEq, Eq)]
 pub enum Validity {
     /// Nothing is known.
     Unknown,

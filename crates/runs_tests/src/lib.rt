@@ -1,11 +1,8 @@
-//! Tests of runs: what goes to the switches and over wires, who carries it and when, and ports and
-//! wires that fail or lie. Outside `tests` stands what tests of books and sessions use too. What
-//! runs over ports and wires that never fail leave in the blocks is shown by rows of `run`.
+//! What tests of runs, books and sessions use: plans and racks of texts, ports and wires that fail
+//! or lie, and gates at which threads meet. It has no tests of its own.
 #![tactic(auto)]
 
 pub mod common;
 pub mod faults;
 pub mod meeting;
 pub mod running;
-#[cfg(test)]
-mod tests;

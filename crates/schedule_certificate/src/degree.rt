@@ -11,7 +11,7 @@ use link_graph::{End, LINKS, Link, LinkGraph};
 use step_count::Steps;
 
 /// What is known of a part's degree before its transfers are counted.
-#[derive(Clone, Copy, Debug)]
+#[derive(Clone, Copy)]
 pub(crate) enum Known {
     /// The degree.
     Is(usize),

@@ -6,7 +6,7 @@ pub trait Gate: Sync {
 }
 
 /// The gate that lets every worker through at once.
-#[derive(Clone, Copy, Debug)]
+#[derive(Clone, Copy)]
 pub struct OpenGate;
 
 impl Gate for OpenGate {

@@ -43,7 +43,7 @@ impl<R: Threads + Sync> Planner for R {
 }
 
 /// What never has a thread. It plans as one worker does, however many may take part.
-#[derive(Clone, Copy, Debug)]
+#[derive(Clone, Copy)]
 pub struct NoThreads;
 
 impl Planner for NoThreads {

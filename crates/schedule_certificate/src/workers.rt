@@ -5,7 +5,7 @@ use exchange_limits::{MAX_WORKERS, WorkerCount};
 
 /// The workers who may take part in some work: a range of their numbers, which begin at 1 and end
 /// at [`MAX_WORKERS`].
-#[derive(Clone, Copy, Debug)]
+#[derive(Clone, Copy)]
 pub struct Workers {
     /// The least of the numbers.
     pub least: usize,

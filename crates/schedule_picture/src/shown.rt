@@ -1,7 +1,7 @@
 //! Which settings a picture has columns for.
 
 /// The settings that have columns in a picture, one after the other.
-#[derive(Clone, Copy, Debug, PartialEq, Eq)]
+#[derive(Clone, Copy)]
 pub struct Shown {
     /// The first of them, counted from 0.
     pub first: usize,

@@ -16,7 +16,7 @@ use std::alloc::{AllocError, Global};
 use steady_schedule::{count_changes, most_partners, most_shown};
 
 /// Whether a schedule has a certificate, and whether that shows that no schedule is shorter.
-#[derive(Clone, Copy, Debug, PartialEq, Eq)]
+#[derive(Clone, Copy)]
 pub enum Standing {
     /// It has one, which shows it.
     Certified,
@@ -27,7 +27,7 @@ pub enum Standing {
 }
 
 /// What is known of how many settings a schedule has, and of how often it changes the switch.
-#[derive(Clone, Copy, Debug, PartialEq, Eq)]
+#[derive(Clone, Copy)]
 pub struct Verdict {
     /// How many transfers the busiest link has. No schedule of the batch has fewer settings.
     pub fewest: usize,

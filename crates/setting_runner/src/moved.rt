@@ -12,7 +12,7 @@ use switch_settings::ShortList;
 /// The transfers of a setting in its order, at most one of each module, each with the number of
 /// words that it has moved, from none to those of a block. Contracts see the list. It has 136
 /// bytes, since a reply may be one of these.
-#[derive(Clone, Copy, Debug)]
+#[derive(Clone, Copy)]
 pub struct Moved {
     entries: ShortList<(u16, u16)>,
 }

@@ -19,7 +19,7 @@ pub enum RunRefusal {
 }
 
 /// Why a run stopped. Where the cause isn't a wire, no word of the stopped setting has moved.
-#[derive(Clone, Copy, Debug, PartialEq, Eq)]
+#[derive(Clone, Copy, PartialEq, Eq)]
 pub enum StopCause {
     /// The port to the switches failed, as the setting was sent or as the outputs were asked.
     Port,
@@ -48,7 +48,7 @@ impl From<SettingFault> for StopCause {
 }
 
 /// How a run ended.
-#[derive(Clone, Copy, Debug, PartialEq, Eq)]
+#[derive(Clone, Copy, PartialEq, Eq)]
 pub enum Outcome {
     /// All settings were run. The words are those of all blocks that were moved, each of four
     /// bytes.

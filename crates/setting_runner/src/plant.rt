@@ -1,7 +1,7 @@
 use exchange_limits::WorkerCount;
 
 /// What a run works with. It may be used for one run after another.
-#[derive(Debug, Drop)]
+#[derive(Drop)]
 pub struct Plant<P, W, G> {
     /// The port to the switches.
     pub port: P,

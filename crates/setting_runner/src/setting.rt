@@ -22,7 +22,7 @@ use std::thread::Threads;
 use switch_settings::{PairList, configure_switches};
 
 /// Why a setting stopped, and how many words its transfers have moved.
-#[derive(Clone, Copy, Debug)]
+#[derive(Clone, Copy)]
 pub struct Stop {
     pub cause: StopCause,
     pub moved: Moved,

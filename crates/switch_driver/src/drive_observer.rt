@@ -5,7 +5,7 @@ ghost use Rattle.batch.specs.declared.limits.TheConstants.{MAX_MODULES};
 ghost use Rattle.switch_driver.specs.Hearings.{Hearing};
 
 /// Why no setting comes after one that stands.
-#[derive(Clone, Copy, Debug, PartialEq, Eq)]
+#[derive(Clone, Copy)]
 pub enum Halt {
     /// No setting is wanted any more.
     Left,

@@ -15,7 +15,7 @@ use link_graph::Schedule;
 use switch_settings::{PairList, RackWiring, SettingFault, numbers_of_setting};
 
 /// How the settings of a schedule were put on the switches. Settings are counted from 0.
-#[derive(Clone, Copy, Debug, PartialEq, Eq)]
+#[derive(Clone, Copy)]
 pub enum Driven {
     /// All settings stood, one after another.
     Completed { settings: usize },

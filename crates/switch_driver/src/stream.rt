@@ -25,7 +25,7 @@ pub struct SwitchStream<I, O> {
 }
 
 /// Why a stream to a switch failed.
-#[derive(Debug, Drop)]
+#[derive(Drop)]
 pub struct StreamFault {
     /// The switch.
     pub chip: Chip,

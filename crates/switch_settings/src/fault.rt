@@ -7,7 +7,7 @@ use c004_commands::{PORTS, PortNo};
 use crossbar::{Chip, PortFault};
 
 /// Why a setting couldn't be put on the switches of a rack.
-#[derive(Clone, Copy, Debug, PartialEq, Eq)]
+#[derive(Clone, Copy)]
 pub enum SettingFault {
     /// The port to the switches failed, as the setting was sent or as the outputs were asked.
     Port,
@@ -17,7 +17,7 @@ pub enum SettingFault {
 
 /// The first output that doesn't reply what a setting calls for. A reply that a switch never gives
 /// is no such reply.
-#[derive(Clone, Copy, Debug, PartialEq, Eq)]
+#[derive(Clone, Copy)]
 pub struct Disagreement {
     /// The output's switch.
     pub chip: Chip,

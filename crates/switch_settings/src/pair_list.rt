@@ -31,7 +31,7 @@ impl Blank for Pair {
 
 /// The pairs of a setting by ascending initiators, at most one of each module. Contracts see the
 /// list.
-#[derive(Clone, Copy, Debug)]
+#[derive(Clone, Copy)]
 pub struct PairList {
     pairs: ShortList<Pair>,
 }

@@ -3,7 +3,7 @@
 use crossbar::BoardWiring;
 
 /// How the modules of a rack are wired to its switches.
-#[derive(Clone, Copy, Debug, PartialEq, Eq)]
+#[derive(Clone, Copy)]
 pub enum RackWiring {
     /// As usual, so many modules: to one switch, or to two where there are more than
     /// [`JOINED_MODULES`](crossbar::JOINED_MODULES).

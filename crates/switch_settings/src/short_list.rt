@@ -25,7 +25,7 @@ impl Blank for (u16, u16) {
 }
 
 /// A list of at most one entry for each module. Contracts see the list.
-#[derive(Copy, Debug)]
+#[derive(Copy)]
 pub struct ShortList<T: Blank> {
     entries: [T; MAX_MODULES],
     count: usize,

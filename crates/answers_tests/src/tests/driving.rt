@@ -85,7 +85,7 @@ const BOARD: Rack<'static> = Rack {
 };
 
 /// What happens at the switch's end of the stream, and at the stage.
-#[derive(Clone, Copy, Debug, PartialEq, Eq)]
+#[derive(Clone, Copy, PartialEq, Eq)]
 enum Step {
     /// This byte comes.
     Sent(u8),

@@ -2,12 +2,12 @@
 
 ghost use Rattle.batch_book.specs.History.{new_account};
 ghost use Rattle.batch_book.specs.Naming.{IsNamed};
-ghost use Rattle.std.specs.Prelude.{◌≡◌, IfSome, Some};
+ghost use Rattle.std.specs.Prelude.{◌≡◌, All, IfSome, Some};
 ghost use Rattle.progress_word.specs.declared.limits.TheConstants.{ALL_PARTS};
 
 use batch_book::{
     BatchState, BookRefusal, Call, Closed, ExchangeBlank, ExchangeName, History, Reply, Seat,
-    Shared,
+    SeatMissing, Shared,
 };
 use crossbar::{ConfigPort, MemoryPort};
 use module_memory::Rack;
@@ -155,6 +155,31 @@ pub fn open_pair<L: ExchangeName, W: WireMaker + Drop, G: Drop>(
     })
 }
 
+/// What an exchange leaves that is closed with these seats. Nothing where one is missing.
+pub fn closed<
+    L: ExchangeName,
+    P: ConfigPort + Drop,
+    W: WireMaker + Drop,
+    G: Drop,
+    H: History + Drop,
+>(shared: Shared<L, P, W, G, H>, seats: Vec<Seat<L>>) -> Option<Closed<P, W, G, H>>
+where
+    H::Recorder: Drop,
+    H::Pending: Drop,
+    requires parts { L.parts ≡ ALL_PARTS }
+    requires seats { All (λ s. s.exchange ≡ Some shared.word) seats.items }
+{
+    match shared.close(seats) {
+        Ok(closed) => Some(closed),
+        Err(
+            SeatMissing {
+                exchange: _shared,
+                seats: _seats,
+            },
+        ) => None,
+    }
+}
+
 /// Closes the exchange with both seats, the second one first.
 pub fn close<L: ExchangeName, W: WireMaker + Drop, G: Drop>(
     alloc: Global,
@@ -168,7 +193,7 @@ pub fn close<L: ExchangeName, W: WireMaker + Drop, G: Drop>(
         second,
     } = pair;
     match Vec::from_array(alloc, [second, first]) {
-        Ok(seats) => shared.close(seats).ok(),
+        Ok(seats) => closed(shared, seats),
         Err(_) => None,
     }
 }
@@ -196,15 +221,6 @@ impl Calls {
 }
 
 impl<L: ExchangeName, W: WireMaker + Sync, G: Gate + Sync> Pair<L, W, G> {
-    /// What the first seat asks, and is answered.
-    pub fn ask<R: AllocGlobal + Clock + Threads + Wait + Sync>(
-        &mut self,
-        rt: &R,
-        ask: Ask,
-    ) -> Said {
-        answer(rt, &self.shared, &mut self.first, ask)
-    }
-
     /// What the second seat asks, and is answered.
     pub fn ask_second<R: AllocGlobal + Clock + Threads + Wait + Sync>(
         &mut self,
@@ -214,19 +230,18 @@ impl<L: ExchangeName, W: WireMaker + Sync, G: Gate + Sync> Pair<L, W, G> {
         answer(rt, &self.shared, &mut self.second, ask)
     }
 
-    /// The first of these rows in which the first seat is answered otherwise. Those after it
-    /// aren't asked.
-    pub fn first_wrong<R: AllocGlobal + Clock + Threads + Wait + Sync>(
+    /// Whether the first seat is answered so. Rows after one in which it isn't aren't asked.
+    pub fn is_answered<R: AllocGlobal + Clock + Threads + Wait + Sync>(
         &mut self,
         rt: &R,
         rows: &[Row],
-    ) -> Option<usize> {
-        for (place, (ask, said)) in rows.iter().enumerate() {
+    ) -> bool {
+        for (ask, said) in rows {
             if answer(rt, &self.shared, &mut self.first, *ask) != *said {
-                return Some(place);
+                return false;
             }
         }
-        None
+        true
     }
 
     /// How many of these calls are answered rightly, of which each has its number, from one to

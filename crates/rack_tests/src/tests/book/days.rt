@@ -4,7 +4,7 @@ ghost use Rattle.batch_book.specs.History.{new_account};
 ghost use Rattle.batch_book.specs.Naming.{IsNamed};
 ghost use Rattle.std.specs.Prelude.{◌≡◌, Some};
 
-use crate::tests::office::{Ask, FIRST, answer};
+use crate::tests::office::{Ask, FIRST, answer, closed};
 use batch_book::{ExchangeBlank, ExchangeName, Seat, Shared};
 use crossbar::MemoryPort;
 use module_memory::Rack;
@@ -62,10 +62,8 @@ fn day<L: ExchangeName + Send + Sync, R: AllocGlobal + Clock + Threads + Wait + 
     let Ok(seats) = thread::map_vec(rt, seats, &one) else {
         return None;
     };
-    match shared.close(seats) {
-        Ok(closed) => Some(closed.book.history().len()),
-        Err(_) => None,
-    }
+    let closed = closed(shared, seats)?;
+    Some(closed.book.history().len())
 }
 
 /// How many entries they leave on a marked rack.

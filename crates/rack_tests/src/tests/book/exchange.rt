@@ -94,6 +94,15 @@ const LIMITS: [Row; 3] = [
     (Ask::Settle(1, PUSH), Said::Settled(1)),
 ];
 
+/// A poke where the history is full.
+const HISTORY_FULL: Row = (
+    Ask::Poke(0, FIRST, 1),
+    Said::Refused(BookRefusal::HistoryFull),
+);
+
+/// A batch where the book is full.
+const BOOK_FULL: Row = (Ask::Submit(PUSH), Said::Refused(BookRefusal::BookFull));
+
 /// Whether an exchange is closed, with as many entries in its history as there may be, and its first
 /// word is still 0.
 fn is_full(closed: Option<Closed<MemoryPort, PlainWires, OpenGate>>) -> bool {
@@ -115,8 +124,7 @@ fn fills<L: ExchangeName, R: AllocGlobal + Clock + Threads + Wait + Sync>(
 {
     let mut pair = pair;
     let zeros = pair.rightly(rt, Calls::Peeks, 0, peeks);
-    let poked = pair.ask(rt, Ask::Poke(0, FIRST, 1));
-    let is_refused = poked == Said::Refused(BookRefusal::HistoryFull);
+    let is_refused = pair.is_answered(rt, &[HISTORY_FULL]);
     let is_full = is_full(close(rt.alloc(), pair));
     zeros == peeks && is_refused && is_full
 }
@@ -128,8 +136,7 @@ fn fills_book<L: ExchangeName, R: AllocGlobal + Clock + Threads + Wait + Sync>(
     pair: &mut Two<L>,
 ) -> bool {
     let accepted = pair.rightly(rt, Calls::Pushes, 2, 257);
-    let said = pair.ask(rt, Ask::Submit(PUSH));
-    accepted == 255 && said == Said::Refused(BookRefusal::BookFull)
+    pair.is_answered(rt, &[BOOK_FULL]) && accepted == 255
 }
 
 /// Whether that is so after the first rows, which leaves 259 entries, so that 65,277 more peeks
@@ -141,7 +148,7 @@ fn meets_limits<L: ExchangeName, R: AllocGlobal + Clock + Threads + Wait + Sync>
     requires { L.parts ≡ ALL_PARTS }
 {
     let mut pair = pair;
-    let is_begun = pair.first_wrong(rt, &LIMITS).is_none();
+    let is_begun = pair.is_answered(rt, &LIMITS);
     let is_full = fills_book(rt, &mut pair);
     let fills = fills(rt, pair, 65277);
     is_begun && is_full && fills
@@ -239,7 +246,7 @@ fn holds<L: ExchangeName, R: AllocGlobal + Clock + Threads + Wait + Sync>(
         return false;
     };
     match case {
-        Case::Rows(rows) => pair.first_wrong(rt, rows).is_none(),
+        Case::Rows(rows) => pair.is_answered(rt, rows),
         Case::Full => fills(rt, pair, MAX_ENTRIES),
         Case::Limits => meets_limits(rt, pair),
         Case::SeatMissing => goes_on(rt, pair),

@@ -126,30 +126,30 @@ fn look<L: ExchangeName, P: ConfigPort, W: WireMaker, G>(
     hold.gave_up.store(true, Ordering::SeqCst);
 }
 
-/// Runs the batch of a text, and says whether it came to its end, and what is read then.
+/// Runs a batch, and says whether it came to its end, and what is to be read then is.
 fn run_one<
     L: ExchangeName,
     P: ConfigPort,
     W: WireMaker + Sync,
     G: Gate + Sync,
     R: AllocGlobal + Clock + Threads + Wait + Sync,
->(rt: &R, shared: &Shared<L, P, W, G>, seat: Seat<L>, text: &'static str) -> (bool, Reading)
+>(rt: &R, shared: &Shared<L, P, W, G>, seat: Seat<L>, run: Watched) -> bool
     requires { seat.exchange ≡ Some shared.now.word }
 {
     let mut seat = seat;
-    answer(rt, shared, &mut seat, Ask::Submit(text));
-    answer(rt, shared, &mut seat, Ask::Settle(1, text));
+    answer(rt, shared, &mut seat, Ask::Submit(run.text));
+    answer(rt, shared, &mut seat, Ask::Settle(1, run.text));
     let said = answer(rt, shared, &mut seat, Ask::Run(1));
     let read = shared.progress(&mut seat);
-    (matches!(said, Said::Ran(1, _, _)), read)
+    matches!(said, Said::Ran(1, _, _)) && read == run.last
 }
 
-/// Runs a batch in one thread while another reads.
+/// Runs a batch in one thread while another reads, and says the same.
 fn run_and_look<
     L: ExchangeName + Send + Sync,
     W: WireMaker + Send + Sync + Drop,
     R: AllocGlobal + Clock + Threads + Wait + Sync,
->(rt: &R, pair: Pair<L, W, OpenGate>, hold: &Hold, run: Watched) -> (bool, Reading) {
+>(rt: &R, pair: Pair<L, W, OpenGate>, hold: &Hold, run: Watched) -> bool {
     let Pair {
         shared,
         first,
@@ -158,9 +158,9 @@ fn run_and_look<
     let lent = &shared;
     let (ran, _) = join(
         rt,
-        move || -> (bool, Reading)
+        move || -> bool
             requires { first.exchange ≡ Some lent.now.word }
-        { run_one(rt, lent, first, run.text) },
+        { run_one(rt, lent, first, run) },
         move ||
             requires { second.exchange ≡ Some lent.now.word }
         { look(lent, second, hold, run.awaited) },
@@ -183,13 +183,10 @@ fn is_read<L: ExchangeName + Send + Sync, R: AllocGlobal + Clock + Threads + Wai
         hold: &hold,
         transfer: run.transfer,
     };
-    let opened = open_pair::<L, HeldLines, OpenGate>(rt.alloc(), blank, rack, with_wires(lines));
-    let Some(pair) = opened else {
-        return false;
-    };
-    let (has_run, read) = run_and_look(rt, pair, &hold, run);
-    let is_kept = hold.is_kept();
-    has_run && read == run.last && is_kept
+    match open_pair::<L, HeldLines, OpenGate>(rt.alloc(), blank, rack, with_wires(lines)) {
+        Some(pair) => run_and_look(rt, pair, &hold, run) && hold.is_kept(),
+        None => false,
+    }
 }
 
 /// The same on a marked rack of three modules.

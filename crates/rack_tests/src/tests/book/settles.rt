@@ -5,7 +5,7 @@ ghost use Rattle.std.specs.Prelude.{◌≡◌, [], Some};
 ghost use Rattle.progress_word.specs.declared.limits.TheConstants.{ALL_PARTS};
 
 use super::readings::{HeldLines, Hold};
-use crate::tests::office::{Ask, FIRST, PUSH, Said, answer};
+use crate::tests::office::{Ask, FIRST, PUSH, Said, answer, closed};
 use batch_book::{Book, Call, ExchangeBlank, ExchangeName, History, Reading, Seat, Shared, Silent};
 use book_record::{Streamed, stream_on};
 use crossbar::MemoryPort;
@@ -218,28 +218,43 @@ where
         second,
     } = two;
     match Vec::from_array(alloc, [first, second]) {
-        Ok(seats) => shared.close(seats).is_ok(),
+        Ok(seats) => closed(shared, seats).is_some(),
         Err(_) => false,
     }
 }
 
-/// Whether a step of a seat goes well.
-fn goes_well<
-    L: ExchangeName,
-    W: WireMaker + Sync,
-    H: History,
-    R: AllocGlobal + Clock + Threads + Wait + Sync,
->(rt: &R, shared: &Exchange<L, W, H>, seat: &mut Seat<L>, step: Step) -> bool
-    requires { seat.old.exchange ≡ Some shared.now.word }
-    ensures { seat.new.exchange ≡ seat.old.exchange }
-{
-    match step {
-        Peek(_) => answer(rt, shared, seat, Ask::Peek(0, FIRST)) == Said::Word(0),
-        Settle(_) => shared.settle(rt, seat).is_ok(),
-    }
-}
-
 impl<L: ExchangeName, W: WireMaker + Sync, H: History> Two<L, W, H> {
+    /// Whether a step goes well.
+    fn goes_well<R: AllocGlobal + Clock + Threads + Wait + Sync>(
+        &mut self,
+        rt: &R,
+        step: Step,
+    ) -> bool {
+        let ask = Ask::Peek(0, FIRST);
+        match step {
+            Peek(0) => answer(rt, &self.shared, &mut self.first, ask) == Said::Word(0),
+            Peek(_) => answer(rt, &self.shared, &mut self.second, ask) == Said::Word(0),
+            Settle(0) => self.shared.settle(rt, &mut self.first).is_ok(),
+            Settle(_) => self.shared.settle(rt, &mut self.second).is_ok(),
+        }
+    }
+
+    /// What the seats do before the first one is held: the second one peeks a word.
+    fn prepare<R: AllocGlobal + Clock + Threads + Wait + Sync>(&mut self, rt: &R, held: Held) {
+        self.goes_well(rt, Peek(1));
+        match held {
+            Held::Running => {
+                answer(rt, &self.shared, &mut self.first, Ask::Submit(PUSH));
+                answer(rt, &self.shared, &mut self.first, Ask::Settle(1, PUSH));
+            }
+            Held::Writing => {
+                self.goes_well(rt, Peek(0));
+                self.goes_well(rt, Settle(0));
+                self.goes_well(rt, Peek(0));
+            }
+        }
+    }
+
     /// Whether all steps of a row go as it says.
     fn go_so<R: AllocGlobal + Clock + Threads + Wait + Sync>(
         &mut self,
@@ -248,12 +263,8 @@ impl<L: ExchangeName, W: WireMaker + Sync, H: History> Two<L, W, H> {
         writes: &AtomicUsize,
     ) -> bool {
         for (step, is_well, count) in row.steps {
-            let well = match *step {
-                Peek(0) | Settle(0) => goes_well(rt, &self.shared, &mut self.first, *step),
-                _ => goes_well(rt, &self.shared, &mut self.second, *step),
-            };
-            let written = writes.load(Ordering::SeqCst);
-            if well != *is_well || written != *count {
+            let well = self.goes_well(rt, *step);
+            if (well, writes.load(Ordering::SeqCst)) != (*is_well, *count) {
                 return false;
             }
         }
@@ -280,45 +291,8 @@ where
     goes_so && is_closed && written == row.closed
 }
 
-/// Whether the seat's batch is run, and the seat is settled then.
-fn is_run<
-    L: ExchangeName,
-    W: WireMaker + Sync,
-    H: History,
-    R: AllocGlobal + Clock + Threads + Wait + Sync,
->(rt: &R, shared: &Exchange<L, W, H>, seat: Seat<L>) -> bool
-    requires { seat.exchange ≡ Some shared.now.word }
-{
-    let mut seat = seat;
-    let said = answer(rt, shared, &mut seat, Ask::Run(1));
-    let is_settled = shared.settle(rt, &mut seat).is_ok();
-    is_settled && said == Said::Ran(1, 1, 1)
-}
-
-/// What the seat does before the step in which it is held.
-fn prepare<
-    L: ExchangeName,
-    W: WireMaker + Sync,
-    H: History,
-    R: AllocGlobal + Clock + Threads + Wait + Sync,
->(rt: &R, shared: &Exchange<L, W, H>, seat: &mut Seat<L>, held: Held)
-    requires { seat.old.exchange ≡ Some shared.now.word }
-    ensures { seat.new.exchange ≡ seat.old.exchange }
-{
-    match held {
-        Held::Running => {
-            answer(rt, shared, seat, Ask::Submit(PUSH));
-            answer(rt, shared, seat, Ask::Settle(1, PUSH));
-        }
-        Held::Writing => {
-            goes_well(rt, shared, seat, Peek(0));
-            goes_well(rt, shared, seat, Settle(0));
-            goes_well(rt, shared, seat, Peek(0));
-        }
-    }
-}
-
-/// Whether the seat does that in which it is held.
+/// Whether the seat does that in which it is held: its batch is run where it is held in a run, and
+/// the seat is settled then.
 fn is_done<
     L: ExchangeName,
     W: WireMaker + Sync,
@@ -327,13 +301,12 @@ fn is_done<
 >(rt: &R, shared: &Exchange<L, W, H>, seat: Seat<L>, held: Held) -> bool
     requires { seat.exchange ≡ Some shared.now.word }
 {
-    match held {
-        Held::Running => is_run(rt, shared, seat),
-        Held::Writing => {
-            let mut seat = seat;
-            shared.settle(rt, &mut seat).is_ok()
-        }
-    }
+    let mut seat = seat;
+    let has_run = match held {
+        Held::Running => answer(rt, shared, &mut seat, Ask::Run(1)) == Said::Ran(1, 1, 1),
+        Held::Writing => true,
+    };
+    shared.settle(rt, &mut seat).is_ok() && has_run
 }
 
 /// Whether the other seat is held.
@@ -352,8 +325,8 @@ fn is_held<L: ExchangeName, W: WireMaker + Sync, H: History>(
     }
 }
 
-/// Whether a call comes back while the other seat writes.
-fn is_answered<L: ExchangeName, W: WireMaker + Sync, H: History, R: Clock + Threads + Wait + Sync>(
+/// Whether the seat is settled, and a call comes back while the other seat writes.
+fn goes_on<L: ExchangeName, W: WireMaker + Sync, H: History, R: Clock + Threads + Wait + Sync>(
     rt: &R,
     shared: &Exchange<L, W, H>,
     seat: &mut Seat<L>,
@@ -362,10 +335,12 @@ fn is_answered<L: ExchangeName, W: WireMaker + Sync, H: History, R: Clock + Thre
     requires { seat.old.exchange ≡ Some shared.now.word }
     ensures { seat.new.exchange ≡ seat.old.exchange }
 {
-    match held {
+    let is_settled = shared.settle(rt, seat).is_ok();
+    let is_answered = match held {
         Held::Running => true,
         Held::Writing => shared.try_call(rt, seat, Call::Peek(0, FIRST)).is_ok(),
-    }
+    };
+    is_settled && is_answered
 }
 
 /// Whether a seat is settled once the other one is held. Then that one goes on.
@@ -387,11 +362,10 @@ fn is_settled_then<
     let mut seat = seat;
     for _ in 0..TURNS {
         if is_held(shared, &mut seat, held, writes) {
-            let is_settled = shared.settle(rt, &mut seat).is_ok();
-            let is_answered = is_answered(rt, shared, &mut seat, held);
+            let goes_on = goes_on(rt, shared, &mut seat, held);
             let written = writes.load(Ordering::SeqCst);
             hold.seen.store(true, Ordering::SeqCst);
-            return is_settled && is_answered && written == held.writes();
+            return goes_on && written == held.writes();
         }
         yield_now();
     }
@@ -400,7 +374,7 @@ fn is_settled_then<
 
 /// The second seat peeks a word. The first one hands its batch in, and runs it; or it peeks, is
 /// settled, peeks, and is settled again. In the last step it is held. The second one is settled
-/// meanwhile, and peeks while the first one writes. Whether all goes well, by two writings.
+/// meanwhile, and peeks while the first one writes. Whether all goes well.
 fn is_settled_beside<
     L: ExchangeName + Send + Sync,
     W: WireMaker + Send + Sync + Drop,
@@ -411,13 +385,13 @@ where
     H::Recorder: Drop,
     H::Pending: Drop,
 {
+    let mut two = two;
+    two.prepare(rt, held);
     let Two {
         shared,
-        mut first,
-        mut second,
+        first,
+        second,
     } = two;
-    answer(rt, &shared, &mut second, Ask::Peek(0, FIRST));
-    prepare(rt, &shared, &mut first, held);
     let lent = &shared;
     let (is_done, is_settled) = join(
         rt,
@@ -428,9 +402,7 @@ where
             requires { second.exchange ≡ Some lent.now.word }
         { is_settled_then(rt, lent, second, held, hold, writes) },
     );
-    let is_kept = hold.is_kept();
-    let written = writes.load(Ordering::SeqCst);
-    is_done && is_settled && is_kept && written == 2
+    is_done && is_settled
 }
 
 /// Whether a case is so of a new exchange over this book.
@@ -457,7 +429,10 @@ fn holds<L: ExchangeName + Send + Sync, R: AllocGlobal + Clock + Threads + Wait 
     };
     match case {
         Case::Row(row) => is_so(rt, two, &row, writes),
-        Case::Beside(held) => is_settled_beside(rt, two, held, hold, writes),
+        Case::Beside(held) => {
+            let is_settled = is_settled_beside(rt, two, held, hold, writes);
+            is_settled && hold.is_kept() && writes.load(Ordering::SeqCst) == 2
+        }
     }
 }
 

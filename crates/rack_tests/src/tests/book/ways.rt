@@ -48,12 +48,9 @@ fn runs_by_two<L: ExchangeName, R: AllocGlobal + Clock + Threads + Wait + Sync>(
     let Some(mut pair) = opened else {
         return false;
     };
-    let wrong = pair.first_wrong(rt, &ROWS);
+    let is_answered = pair.is_answered(rt, &ROWS);
     match close(rt.alloc(), pair) {
-        Some(closed) => {
-            let has_two = has_two(closed.plant);
-            has_two && wrong.is_none()
-        }
+        Some(closed) => has_two(closed.plant) && is_answered,
         None => false,
     }
 }

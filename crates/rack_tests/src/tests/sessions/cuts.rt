@@ -6,6 +6,7 @@ ghost use Rattle.std.specs.Prelude.{◌≡◌, Some};
 ghost use Rattle.progress_word.specs.declared.limits.TheConstants.{ALL_PARTS};
 
 use super::served::back;
+use crate::tests::office::closed;
 use batch_book::{Closed, ExchangeBlank, ExchangeName, Seat, Shared};
 use client_session::{NoListener, serve};
 use exchange_limits::WorkerCount;
@@ -160,12 +161,9 @@ fn is_right<L: ExchangeName, R: AllocGlobal + Clock + Threads + Wait + Sync>(
     let Ok(seats) = Vec::from_array(rt.alloc(), [seat]) else {
         return false;
     };
-    match exchange.close(seats) {
-        Ok(closed) => {
-            let is_left = is_left(closed, fault);
-            is_told && is_left
-        }
-        Err(_) => false,
+    match closed(exchange, seats) {
+        Some(closed) => is_left(closed, fault) && is_told,
+        None => false,
     }
 }
 

@@ -1,15 +1,16 @@
 //! How sessions end whose reader or writer fails once, and then works: neither is tried again.
 
 use super::served::is_served;
-use super::streams::{ALL, AT_ONCE, Full, Reading, Script, Writing};
+use super::streams::{ALL, AT_ONCE, Full, Script};
 use client_session::ServeFault;
 
-/// A reader that hands out at most so many bytes a call, and fails once after so many calls.
-fn failing_at(fails_at: usize, step: usize) -> Reading {
+/// The same over a reader that hands out at most so many bytes a call, and fails once after so many
+/// calls.
+fn failing_at(script: Script, fails_at: usize, step: usize) -> Script {
     let mut reading = AT_ONCE;
     reading.step = step;
     reading.fails_at = fails_at;
-    reading
+    script.reading(reading)
 }
 
 const TWO_LINES: &str = "peek 0 80000800\nhello\n";
@@ -32,23 +33,24 @@ const MUTE: [(&str, usize, &str, usize); 6] = [
 #[test]
 fn session_ends_by_its_reader(rt: HostRuntime) {
     for (says, fails_at, hears, entries) in MUTE {
-        let script = Script::of(says, hears, entries)
-            .ending(ServeFault::Read)
-            .reading(failing_at(fails_at, 1));
-        assert!(rt; is_served(&rt, &script), "behind {fails_at}");
+        let script = Script::of(says, hears, entries).ending(ServeFault::Read);
+        assert!(rt;
+            is_served(&rt, &failing_at(script, fails_at, 1)),
+            "behind {fails_at}"
+        );
     }
     let whole = Script::of(TWO_LINES, TWO_REPLIES, 1);
-    assert!(rt; is_served(&rt, &whole.reading(failing_at(23, 1))));
+    assert!(rt; is_served(&rt, &failing_at(whole, 23, 1)));
     let bye = Script::of("bye\n", "bye\n", 0);
-    assert!(rt; is_served(&rt, &bye.reading(failing_at(1, 4))));
+    assert!(rt; is_served(&rt, &failing_at(bye, 1, 4)));
 }
 
-/// A writer that has room for so many bytes, then does this once, and has room again.
-fn with_room(room: usize, full: Full) -> Writing {
+/// The same over a writer that has room for so many bytes, then does this once, and has room again.
+fn with_room(script: Script, room: usize, full: Full) -> Script {
     let mut writing = ALL;
     writing.room = room;
     writing.full = full;
-    writing
+    script.writing(writing)
 }
 
 /// After how many bytes the writer has no room, what it does then, and what was heard.
@@ -64,13 +66,14 @@ const DEAF: [(usize, Full, &str); 5] = [
 #[test]
 fn session_ends_by_its_writer(rt: HostRuntime) {
     for (room, full, hears) in DEAF {
-        let script = Script::of(TWO_LINES, hears, 1)
-            .ending(ServeFault::Write)
-            .writing(with_room(room, full));
-        assert!(rt; is_served(&rt, &script), "behind {room}");
+        let script = Script::of(TWO_LINES, hears, 1).ending(ServeFault::Write);
+        assert!(rt;
+            is_served(&rt, &with_room(script, room, full)),
+            "behind {room}"
+        );
     }
     let whole = Script::of(TWO_LINES, TWO_REPLIES, 1);
-    assert!(rt; is_served(&rt, &whole.writing(with_room(27, Full::Fails))));
+    assert!(rt; is_served(&rt, &with_room(whole, 27, Full::Fails)));
     let mut writing = ALL;
     writing.flush_fails = true;
     let script = Script::of(TWO_LINES, "word 00000000\n", 1).ending(ServeFault::Write);

@@ -2,9 +2,10 @@
 //! their entries are written before.
 
 ghost use Rattle.batch_book.specs.Naming.{IsNamed};
-ghost use Rattle.std.specs.Prelude.{◌≡◌, []};
+ghost use Rattle.std.specs.Prelude.{◌≡◌, [], Some};
 
-use batch_book::{Book, ExchangeBlank, ExchangeName, History, Shared, Silent};
+use super::served::back;
+use batch_book::{Book, ExchangeBlank, ExchangeName, History, Seat, Shared, Silent};
 use book_record::{Streamed, stream_on};
 use client_session::{Listener, ServeFault, serve};
 use crossbar::MemoryPort;
@@ -186,8 +187,41 @@ struct Row<'a> {
 /// The exchange of the tests.
 type Exchange<L, H> = Shared<L, MemoryPort, PlainWires, OpenGate, H>;
 
-/// Whether the client of a row hears what it is to hear, at a new exchange over this book, and its
-/// session ends so.
+/// Whether the client of a row hears what it is to hear, from this seat, and its session ends so.
+fn is_heard<'a, L: ExchangeName, H: History, R: AllocGlobal + Clock + Threads + Wait + Sync>(
+    rt: &R,
+    shared: &Exchange<L, H>,
+    seat: Seat<L>,
+    row: &Row<'a>,
+    course: &'a Course<'a>,
+) -> bool
+    requires exchange { seat.exchange ≡ Some shared.now.word }
+    requires told { seat.log ≡ seat.asked }
+{
+    let mut speaker = Speaker {
+        says: row.says,
+        course,
+    };
+    let mut hearer = Hearer {
+        rest: row.hears.as_bytes(),
+        is_wrong: false,
+        course,
+    };
+    let (_, fault) = back(serve(
+        rt,
+        rt.alloc(),
+        shared,
+        seat,
+        &mut speaker,
+        &mut hearer,
+        &mut Beside { course },
+        WorkerCount::ONE,
+    ));
+    let has_ended = fault == row.fault;
+    has_ended && !hearer.is_wrong && hearer.rest.is_empty()
+}
+
+/// The same at a new exchange over this book.
 fn hears<'a, L: ExchangeName, H: History + Drop, R: AllocGlobal + Clock + Threads + Wait + Sync>(
     rt: &R,
     blank: ExchangeBlank,
@@ -202,36 +236,13 @@ where
     requires empty { book.history ≡ [] }
 {
     let plant = with_wires(PlainWires);
-    let made = Exchange::<L, H>::of_book(rt.alloc(), blank, book, plant, 1);
-    let Ok((shared, mut seats)) = made else {
-        return false;
-    };
-    prove!(seats.len() == 1);
-    let mut speaker = Speaker {
-        says: row.says,
-        course,
-    };
-    let mut hearer = Hearer {
-        rest: row.hears.as_bytes(),
-        is_wrong: false,
-        course,
-    };
-    let ended = serve(
-        rt,
-        rt.alloc(),
-        &shared,
-        seats.remove(0),
-        &mut speaker,
-        &mut hearer,
-        &mut Beside { course },
-        WorkerCount::ONE,
-    );
-    let fault = match ended {
-        Ok(_) => None,
-        Err((_, fault)) => Some(fault),
-    };
-    let has_ended = fault == row.fault;
-    has_ended && !hearer.is_wrong && hearer.rest.is_empty()
+    match Exchange::<L, H>::of_book(rt.alloc(), blank, book, plant, 1) {
+        Ok((shared, mut seats)) => {
+            prove!(seats.len() == 1);
+            is_heard(rt, &shared, seats.remove(0), row, course)
+        }
+        Err(_) => false,
+    }
 }
 
 /// Whether a row is so on a rack of two modules of one word.

@@ -76,10 +76,11 @@ fn play<L: ExchangeName, R: AllocGlobal + Clock + Threads + Wait + Sync>(
         &mut beside,
         WorkerCount::ONE,
     ));
-    let is_read = speaker.is_right();
     let is_heard = is_heard(&listener, script, fault);
-    let is_beside = beside.is_right(fault);
-    (seat, is_read && is_heard && is_beside)
+    (
+        seat,
+        is_heard && speaker.is_right() && beside.is_right(fault),
+    )
 }
 
 /// Whether a client has heard what its script says, and its session has ended so, by this fault.
@@ -210,9 +211,9 @@ pub struct Day {
     pub scripts: [Script; 2],
 }
 
-/// How many entries a closed exchange has in its history.
-fn entries_of(closed: Closed<MemoryPort, FuseWires, OpenGate>) -> usize {
-    closed.book.history().len()
+/// How many entries an exchange has in its history, if it is closed.
+fn entries_of(closed: Option<Closed<MemoryPort, FuseWires, OpenGate>>) -> Option<usize> {
+    Some(closed?.book.history().len())
 }
 
 /// Plays both scripts at an exchange that is closed then. Whether all is as they say, and the
@@ -229,13 +230,7 @@ fn is_played<L: ExchangeName, R: AllocGlobal + Clock + Threads + Wait + Sync>(
     let [one, other] = &day.scripts;
     let entries = one.entries.saturating_add(other.entries);
     let (office, is_right) = play_both(rt, office, day);
-    match close(rt.alloc(), office) {
-        Some(closed) => {
-            let count = entries_of(closed);
-            is_right && count == entries
-        }
-        None => false,
-    }
+    entries_of(close(rt.alloc(), office)) == Some(entries) && is_right
 }
 
 /// The same at an exchange on this rack.

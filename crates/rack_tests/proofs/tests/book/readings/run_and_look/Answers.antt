@@ -9,8 +9,8 @@ use Rattle.rack_tests.proofs.tests.book.readings.run_and_look.Goals as goal
 use denote.Param.{param}
 use denote.Param.Send.{sendable}
 
-pub join-requires-send-F : goal.join-requires-send-F
-join-requires-send-F g c κs within =
+pub join-ran-requires-send-F : goal.join-ran-requires-send-F
+join-ran-requires-send-F g c κs within =
     let r = c.type_bounds.sync-R in
     let x = shared_sync (param 0 g.row.L) g.L.ExchangeName g.L.HistoryName g.L.Ledger
     MemoryPort.the_row (param 1 g.row.W) OpenGate.the_row (param 3 g.row.W-Line)

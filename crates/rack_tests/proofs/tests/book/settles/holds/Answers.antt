@@ -9,8 +9,8 @@ open-opened-requires-send-H-Pending g c κs within = let w = waiting_send in sea
 pub is_so-requires-send-H-Pending : goal.is_so-requires-send-H-Pending
 is_so-requires-send-H-Pending g c κs within = let w = waiting_send in search sendable depth 20
 
-pub is_settled_beside-requires-send-H : goal.is_settled_beside-requires-send-H
-is_settled_beside-requires-send-H g c κs within = let w = waiting_send in search (crosses, sendable) depth 60 fits 20000
+pub is_settled_beside-is_settled-requires-send-H : goal.is_settled_beside-is_settled-requires-send-H
+is_settled_beside-is_settled-requires-send-H g c κs within = let w = waiting_send in search (crosses, sendable) depth 60 fits 20000
 
-pub is_settled_beside-requires-send-H-Pending : goal.is_settled_beside-requires-send-H-Pending
-is_settled_beside-requires-send-H-Pending g c κs within = let w = waiting_send in search sendable depth 20
+pub is_settled_beside-is_settled-requires-send-H-Pending : goal.is_settled_beside-is_settled-requires-send-H-Pending
+is_settled_beside-is_settled-requires-send-H-Pending g c κs within = let w = waiting_send in search sendable depth 20

@@ -1,5 +1,0 @@
-use Rattle.link_graph.proofs.Users.{counted}
-use Rattle.planning_tests.proofs.tests.link_graph_rows.the_definitions_count_users.Goals as goal
-
-pub returns : goal.returns
-returns c = counted

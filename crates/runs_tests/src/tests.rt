@@ -1,9 +1,0 @@
-//! The bytes that go to the switch, runs over ports and wires that record, fail or answer wrongly,
-//! and when and by whom wires are made.
-
-mod bytes;
-mod carried;
-mod cuts;
-mod ports;
-mod wires;
-mod workers;
