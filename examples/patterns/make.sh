@@ -130,22 +130,16 @@ pattern() {
     counted batch "$@"
 }
 
-# Makes the picture of a schedule of a batch, where the program accepts it: draw_schedule BATCH SCHEDULE PICTURE
-draw_schedule() {
-    "$exchange" check "$1" "$2" >/dev/null
-    "$exchange" draw "$1" "$2" >"$3"
-}
-
 # Makes the plan of a batch and its picture: draw NAME
 draw() {
     "$exchange" plan "$1.txt" >"$1.plan.txt"
-    draw_schedule "$1.txt" "$1.plan.txt" "$1.svg"
+    "$exchange" draw "$1.txt" "$1.plan.txt" >"$1.svg"
 }
 
 # Makes the steady plan of a batch and its picture: draw_steady NAME
 draw_steady() {
     "$exchange" plan "$1.txt" --steady >"$1.steady.txt"
-    draw_schedule "$1.txt" "$1.steady.txt" "$1.steady.svg"
+    "$exchange" draw "$1.txt" "$1.steady.txt" >"$1.steady.svg"
 }
 
 # Makes all files, in the folder of the examples or a copy of it.

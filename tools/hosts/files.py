@@ -179,6 +179,14 @@ def cannot_lock():
     yield sorted(os.listdir(".")), ["amy.in", "amy.out", "left", "record"]
 
 
+def cannot_open():
+    """Where a client's file can't be opened, the reason is printed, unless it is that there is no memory."""
+    write("amy.in")
+    for name in "amy.in", "amy.out":
+        for error, why in (errno.EMFILE, f"exchange: {name}: {os.strerror(errno.EMFILE)}\n"), (errno.ENOMEM, ""):
+            yield ended_so("host 1x1x1 amy", **fails((f"open:{name}:1", error))), ("session 0 amy\nended open\n", why, 1)
+
+
 def is_cut_without_threads():
     """Where the system has no threads, a torn entry is cut off all the same, and that is said."""
     write("amy.in")
@@ -309,7 +317,7 @@ def others_go_on():
 
 
 CASES = [
-    orders_of_scripts, orders_of_sessions, orders_of_readers, cannot_lock, is_cut_without_threads, is_moved_before_the_lock, new_files_of_others,
+    orders_of_scripts, orders_of_sessions, orders_of_readers, cannot_lock, cannot_open, is_cut_without_threads, is_moved_before_the_lock, new_files_of_others,
     image_that_fails, record_that_fails, twins, others_go_on,
 ]  # fmt: skip
 
