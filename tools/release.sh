@@ -40,7 +40,7 @@ make() {
     name=carawaybrick-$("$all/new/bin/exchange" --version | cut -d' ' -f2)-x86_64-linux
     mv "$all/new" "$all/$name"
     mkdir "$all/$name/share/exchange"
-    git -C "$top" describe --always --dirty --abbrev=40 --exclude='*' >"$all/$name/share/exchange/commit"
+    git -C "$top" rev-parse HEAD >"$all/$name/share/exchange/commit"
     verdicts "${@:2}" >"$all/$name/share/exchange/verdicts"
     (cd "$all/$name" && find . -type f -printf '%P\0' | LC_ALL=C sort -z | xargs -0 sha256sum >"$all/sums")
     mv "$all/sums" "$all/$name/share/exchange/sums"
@@ -58,7 +58,7 @@ use() {
     cut -d' ' -f3- "$all/share/exchange/sums" | LC_ALL=C sort -c || fail 1 "WRONG: the order of its sums"
     [ "$(find "$all" -type f | wc -l)" -eq $(($(wc -l <"$all/share/exchange/sums") + 1)) ] || fail 1 "WRONG: a file has no sum"
     grep -qE '^[[:alnum:]_]+: logic=proved functions=[0-9]+ ' "$all/share/exchange/verdicts" || fail 1 "WRONG: its verdicts"
-    [[ $(<"$all/share/exchange/commit") == "$(git -C "$top" rev-parse HEAD)"?(-dirty) ]] || fail 1 "WRONG: its commit"
+    [ "$(<"$all/share/exchange/commit")" = "$(git -C "$top" rev-parse HEAD)" ] || fail 1 "WRONG: its commit"
     ! grep -rlF -e "$top/crates" -e "$work" "$all" || fail 1 "WRONG: these files say where it was made"
 
     export PATH=$all/bin:$PATH PKG_CONFIG_PATH=$all/lib/pkgconfig PYTHONPATH=$all/lib/$modules PYTHONDONTWRITEBYTECODE=1
@@ -96,6 +96,8 @@ case ${1-} in
     rm "$work/clone/changed"
     printf '#!/bin/sh\n[ "$1" = check ] && echo logic=proved functions=1\n' >"$work/rt"
     ! PATH=$work:$PATH "$work/clone/tools/release.sh" "$work/first" >/dev/null 2>&1 || fail 1 "WRONG: what isn't built is released"
+    ! PATH=$work:$PATH "$work/clone/tools/release.sh" "$work/none" 2>"$work/said" && grep -q "no folder" "$work/said" ||
+        fail 1 "WRONG: a folder that isn't there"
     # What is built has the verdict on each crate.
     (cd "$top" && tar -cf - crates/exchange/out/exchange crates/exchange_c/out/libexchange_c.a) | tar -C "$work/clone" -xmf -
     printf '#!/bin/sh\ncase $1 in check) echo logic=proved functions=1 ;; doc) echo "%s" ;; *) exit 1 ;; esac\n' "$(rt doc)" >"$work/rt"

@@ -613,20 +613,21 @@ def finds_the_program(room):
 
 
 def is_ended(room, by):
-    """Notes whether a rack, and a host, that a signal ends leave no folder and no process."""
+    """Notes whether a rack, and a host, that a signal ends leave no folder and no process. The rack itself has no end of a link."""
     room.write(*CASES[0][1:])
     room.pipes("cable")
     run, paused = room.rack("--cable", "cable", stderr=subprocess.PIPE), room.host("--pause", **PAUSED)
     numbers = re.findall(r" (\d+)[,\n]", run.stderr.readline().decode())
     told, made = paused.stdout.readline(), folders(room)
     numbers += Path(f"/proc/{paused.pid}/task/{paused.pid}/children").read_text().split()
+    links = [it for it in Path(f"/proc/{run.pid}/fd").iterdir() if int(it.name) > 2 and os.readlink(it).startswith("socket:")]
     for it in run, paused:
         it.send_signal(by)
     texts = [it.communicate(timeout=LIMIT)[0] for it in (run, paused)]
     # This one takes over the processes whose own are gone, and waits for none of these. So what wasn't waited for is still there.
     left = [number for number in numbers if os.path.exists(f"/proc/{number}")]
-    found = told, len(made), folders(room), [run.returncode, paused.returncode], len(numbers), left
-    room.expect(found == (b"setting 0 0 2\n", 2, set(), [128 + by] * 2, 6, []), f"{found} {texts}")
+    found = told, len(made), folders(room), [run.returncode, paused.returncode], len(numbers), links, left
+    room.expect(found == (b"setting 0 0 2\n", 2, set(), [128 + by] * 2, 6, [], []), f"{found} {texts}")
 
 
 def hears_all(room):
