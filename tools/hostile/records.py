@@ -285,23 +285,16 @@ class Replay:
         self.entries.append((session, lines[begin:end].decode(), reply))
 
 
-def answer_replay(text, shape=None, image=None):
-    """What `replay` prints, and its status."""
-    try:
-        return Replay(text, shape and plain.read_shape(shape), image).exchange.image(), 0
-    except Refused as why:
-        return f"refused {why}\n".encode(), 1
-
-
-def note(name, text):
-    """What is told on standard error of a record in a file of this name: nothing where it can be replayed, and has its end."""
+def answer_replay(text, name):
+    """What `replay` prints of a record in a file of this name, what is told on standard error, and the status. Nothing is told where the record can
+    be replayed, and has its end."""
     try:
         replay = Replay(text)
     except Misrecorded as why:
-        return f"exchange: {name}:{why.line}: {why.told}\n".encode()
+        return f"refused {why}\n".encode(), f"exchange: {name}:{why.line}: {why.told}\n".encode(), 1
     count = len(replay.entries)
     told = f"exchange: {name}: not ended: {count} whole {'entry' if count == 1 else 'entries'} in {replay.ends[-1]} bytes\n"
-    return b"" if replay.ended else told.encode()
+    return replay.exchange.image(), b"" if replay.ended else told.encode(), 0
 
 
 def call_by(draw, shape, number):

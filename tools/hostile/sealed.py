@@ -5,12 +5,14 @@ TEXT is a record without the lines of its sums, whose last line is `end`, if it 
 entry: a call, with its batch's lines if it is `batch N` of at most 4096, and the line of its reply. What follows the last of them, or `end`, stays as it is.
 """
 
+import functools
 import re
 import sys
 
 COUNT = re.compile(rb"\d+ batch (0|[1-9]\d*)\n")
 
 
+@functools.lru_cache(1 << 16)
 def sum_line(number, lines):
     """The line of the sum of these lines, which are those of the entry of this number, counted from 0. A head has the number 0, an end that of the
     entry that would come."""

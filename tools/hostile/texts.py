@@ -31,7 +31,7 @@ import sessions
 import spoil
 import steady
 import switching
-from program import TOP, ask
+from program import ROOMS, TOP, ask
 
 sys.path.append(f"{TOP}/examples")
 import check_prices
@@ -524,9 +524,8 @@ def try_record(draw):
     shape = (draw.randint(1, 4), draw.randint(1, 4), draw.randint(1, 3))
     text = records.spoilt(draw, shape, records.made(draw, shape, draw.randint(1, 3), draw.randint(1, 40)))
     answer = ask_of(draw, ["replay"], [keep("record", text)])
-    wanted, status = records.answer_replay(text)
-    told = b"" if answer.is_quiet else records.note(named(answer, "record", text)[0], text)
-    well = (answer.out, answer.status, answer.err) == (wanted, status, told)
+    wanted, told, status = records.answer_replay(text, named(answer, "record", text)[0])
+    well = (answer.out, answer.err, answer.status) == (wanted, b"" if answer.is_quiet else told, status)
     return well, b"an image" if status == 0 else wanted, [text], answer
 
 
@@ -565,7 +564,7 @@ def try_some(share):
     """Tries texts of a kind by their numbers: how often each class of answer came, and what went wrong."""
     kind, numbers = share
     classes, wrong = Counter(), []
-    with tempfile.TemporaryDirectory() as room:
+    with tempfile.TemporaryDirectory(dir=ROOMS) as room:
         os.chdir(room)
         for number in numbers:
             well, wanted, texts, answer = KINDS[kind](random.Random(f"{kind} {number}"))

@@ -2,26 +2,25 @@
 """Records in which something is wrong: flips.py [self] [COUNT [STEP]]
 
 COUNT records, 3 where it isn't said, have 60 entries each, with all kinds of calls. In turn each bit is wrong, or each so manieth, and each digit; each line
-and each entry is left out, doubled, and exchanged with the next; and each number of last entries is left out before the end. `replay` is asked about
-each, and a live session with --resume; plain Python (tools/hostile/records.py) judges. By the rule each is refused, and its file stays as it was; or it
-was torn off within its last lines. None has another meaning. With `self` the judge alone is tried, without the program.
+and each entry is left out, doubled, and exchanged with the next; and each number of last entries is left out before the end. Plain Python
+(tools/hostile/records.py) judges. By the rule each is refused, and its file stays as it was; or it was torn off within its last lines. None has another
+meaning. `replay` and a live session with --resume are asked in turn about what is refused, and both about the others. With `self` the judge alone is
+tried, without the program.
 """
 
 import multiprocessing
 import os
 import random
 import re
-import subprocess
 import sys
 import tempfile
 
 import kept  # noqa: F401 (tools/hostile is on its path)
 from plain import Refused
-from records import Misrecorded, Replay, answer_replay, call_at, end_of, note, spelled, summed
+from program import ROOMS, ask
+from records import Misrecorded, Replay, answer_replay, call_at, end_of, spelled, summed
 from sessions import Exchange
 
-TOP = os.path.dirname(os.path.dirname(os.path.dirname(os.path.abspath(__file__))))
-EXCHANGE = os.path.abspath(os.environ.get("EXCHANGE") or f"{TOP}/crates/exchange/out/exchange")
 SHAPE, SESSIONS = (2, 2, 1), 3
 ENTRIES = 60
 
@@ -82,34 +81,32 @@ def spoilt_records(text, step):
 
 
 def judged(text, whole):
-    """What `replay` has to print of a spoilt record, its status, and what it has to tell; and what its file has to be once a session has gone on with
+    """What `replay` has to print of a spoilt record, what it has to tell, and its status; and what its file has to be once a session has gone on with
     it. Wrong where it has another meaning than the whole one, or lost more than its last lines."""
-    printed, status = answer_replay(text)
-    if status != 0:
-        return (printed, status, note("record", text)), text
+    answer = answer_replay(text, "record")
+    if answer[2] != 0:
+        return answer, text
     replay = Replay(text)
     least = ENTRIES if whole.ended else ENTRIES - 1
     if replay.ended or len(replay.entries) < least or replay.entries != whole.entries[: len(replay.entries)]:
         raise AssertionError(f"{len(replay.entries)} entries are left, of {len(whole.entries)}")
-    return (printed, status, note("record", text)), text[: replay.ends[-1]] + end_of(len(replay.entries))
+    return answer, text[: replay.ends[-1]] + end_of(len(replay.entries))
 
 
-def ended(words, room):
-    return subprocess.run([EXCHANGE, *words], capture_output=True, stdin=subprocess.DEVNULL, cwd=room, timeout=300)
-
-
-def tried(text, wanted, left, names, room):
-    """What is wrong with what the program answers of a spoilt record, if anything is."""
-    with open(f"{room}/record", "wb") as file:
+def tried(text, wanted, left, names, number):
+    """What is wrong with what the program answers of spoilt record NUMBER, if anything is."""
+    with open("record", "wb") as file:
         file.write(text)
-    told = ended(["replay", "record"], room)
-    if (told.stdout, told.returncode, told.stderr) != wanted:
-        return f"{told} where it has to be {wanted}"
-    on = ended([*(["host", "2x2x1", *names] if names else ["talk", "2x2x1"]), "--record", "record", "--resume", "--quiet"], room)
-    with open(f"{room}/record", "rb") as file:
-        found = file.read()
-    if on.returncode != wanted[1] or wanted[1] and on.stdout != wanted[0] or found != left:
-        return f"{on}, and {found!r} where it has to be {left!r}"
+    if wanted[2] == 0 or number % 2:
+        told = ask("replay", "record")
+        if told != wanted:
+            return f"{told} where it has to be {wanted}"
+    if wanted[2] == 0 or number % 2 == 0:
+        on = ask(*(["host", "2x2x1", *names] if names else ["talk", "2x2x1"]), "--record", "record", "--resume", "--quiet")
+        with open("record", "rb") as file:
+            found = file.read()
+        if on.status != wanted[2] or wanted[2] and on.out != wanted[0] or found != left:
+            return f"{on}, and {found!r} where it has to be {left!r}"
     return None
 
 
@@ -118,20 +115,22 @@ def try_records(turn, first, step, workers, asks):
     text, wrong, looked = made_record(turn), [], 0
     whole = Replay(text)
     names = [name.decode() for name in whole.names]
-    with tempfile.TemporaryDirectory() as room:
+    with tempfile.TemporaryDirectory(dir=ROOMS) as room:
+        os.chdir(room)
         for name in names:
-            open(f"{room}/{name}.in", "wb").close()
+            open(f"{name}.in", "wb").close()
         for number, (what, spoilt) in enumerate(spoilt_records(text, step)):
             if number % workers != first or spoilt == text:
                 continue
             looked += 1
             try:
                 wanted, left = judged(spoilt, whole)
-                why = tried(spoilt, wanted, left, names, room) if asks else None
+                why = tried(spoilt, wanted, left, names, number // workers) if asks else None
             except (AssertionError, Misrecorded) as it:
                 why = it
             if why:
                 wrong.append(f"{what} of record {turn}: {why}")
+        os.chdir("/")
     return looked, wrong
 
 
@@ -143,12 +142,15 @@ def main(words):
     with multiprocessing.Pool(workers) as pool:
         found = pool.starmap(try_records, [(turn, first, step, workers, asks) for turn in range(count) for first in range(workers)])
     wrong = [line for _, lines in found for line in lines]
-    with tempfile.TemporaryDirectory() as room:
-        text = made_record(0)[:-1]
-        wanted, left = judged(text, Replay(made_record(0)))
-        for it in [(wanted[0], wanted[1], b"x"), left], [wanted, b"x"]:
-            if asks and not tried(text, *it, [], room):
-                wrong.append("what is told of a record, or left of it, isn't compared")
+    with tempfile.TemporaryDirectory(dir=ROOMS) as room:
+        os.chdir(room)
+        whole = made_record(0)
+        for text in whole[:-1], whole[1:]:
+            (printed, told, status), left = judged(text, Replay(whole))
+            for number, *it in (1, (printed, b"x", status), left), (0, (printed, told, status), b"x"):
+                if asks and not tried(text, *it, [], number):
+                    wrong.append("what is told of a record, or left of it, isn't compared")
+        os.chdir("/")
     for line in wrong[:20]:
         print(f"flips: WRONG: {line}")
     print(f"flips: {sum(looked for looked, _ in found)} spoilt records of {count}, {len(wrong)} wrong")

@@ -58,7 +58,10 @@ class Record:
         self.exchange, self.entries, self.ends = Exchange(self.shape, image, math.inf), [], [at + len(sum_line(0, b""))]
         if zlib.adler32(self.exchange.image()) != self.sum:
             raise Wrong("the sum is another")
-        self.ended = False
+        self.go_on(text)
+
+    def go_on(self, text):
+        """Takes what there is now, where the text begins with what was taken."""
         while self.take_entry(text):
             pass
         self.rest = text[self.ends[-1] :]

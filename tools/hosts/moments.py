@@ -9,8 +9,8 @@ record's file is taken away or moved.
 `moments.py self` tries the judges alone, by records that are made up, and needs no program.
 """
 
-import errno
 import itertools
+import math
 import os
 import random
 import resource
@@ -23,6 +23,7 @@ import time
 from concurrent.futures import ProcessPoolExecutor
 
 from kept import CHECKS, Record, Wrong, end_of, head_of, judge_client, must
+from program import ROOMS
 from records import made, summed
 
 TOP = os.path.dirname(os.path.dirname(os.path.dirname(os.path.abspath(__file__))))
@@ -31,8 +32,10 @@ EXCHANGE = os.path.abspath(os.environ.get("EXCHANGE") or f"{TOP}/crates/exchange
 CLIENTS = 16
 # Seconds that one host has. Most take far less than one, but machines differ.
 LIMIT = 300
-# Seconds after which a host is killed, at most.
-LIFE = 0.2
+# Seconds after which a host is killed, and how many replies come before that, at most.
+LIFE, REPLIES = 0.2, 3000
+# Folders are made there.
+tempfile.tempdir = ROOMS
 # How many commands a client says together at most, in half of the rounds and in the others.
 MOST = (1, 64)
 SIGNALS = [signal.SIGKILL, signal.SIGTERM, signal.SIGINT]
@@ -187,11 +190,14 @@ class Host:
         ends = {"stdin": subprocess.DEVNULL, "stdout": subprocess.PIPE, "stderr": subprocess.PIPE}
         self.process = start(words, bytes_at_most, **ends)
 
-    def go_on(self, seconds):
-        """Lets the clients work for so long, or until all have said their last command and heard its reply, or the host is gone."""
+    def go_on(self, seconds, replies=math.inf):
+        """Lets the clients work for so long, or until so many replies came, or all have said their last command and heard its reply, or the host is
+        gone."""
         until = time.monotonic() + seconds
         hearing = {client.told: client for client in self.clients}
         while hearing and self.process.poll() is None and (left := until - time.monotonic()) > 0:
+            if sum(len(client.replies) for client in self.clients) >= replies:
+                break
             for ready in select.select(list(hearing), [], [], min(left, 0.05))[0]:
                 hearing[ready].hear()
             hearing = {end: client for end, client in hearing.items() if not client.is_done()}
@@ -226,15 +232,18 @@ def judge_replay(room, record):
     must((out, status) == (record.exchange.image(), 0), f"`replay` has status {status}, and tells {err[:300]!r}")
 
 
-def judge(room, shape, names, said):
-    """Judges a record by what all clients said and were told in all their lives: the record. A file that has a front of the head is one of no
-    entries, and then nobody was told anything that is one."""
+def judge(room, shape, names, said, record=None):
+    """Judges a record by what all clients said and were told in all their lives: the record. One that was judged before goes on. A file that has
+    a front of the head is one of no entries, and then nobody was told anything that is one."""
     text, head = recorded(room), head_of(shape, bytes(4 * shape[0] * shape[1] * shape[2]), names)
     if len(text) < len(head) and head.startswith(text):
         for sayings in said:
             judge_client([], sayings)
         return None
-    record = Record(text)
+    if record and record.entries:
+        record.go_on(text)
+    else:
+        record = Record(text)
     must(text.startswith(head), "the head is another")
     for session, sayings in enumerate(said):
         judge_client(record.of(session), sayings)
@@ -252,21 +261,21 @@ def try_kills(number):
     """A round of hosts on one record, all of which are killed but the last: how often one was killed, how many entries there are, what is
     wrong, and the lines that looked."""
     draw, shape, kills = begun(number)
-    said, before = [[] for _ in range(CLIENTS)], b""
+    said, before, record = [[] for _ in range(CLIENTS)], b"", None
     with tempfile.TemporaryDirectory(prefix="moments-") as room:
         try:
             for turn in range(kills + 1):
                 options = (["--resume"] if turn else []) + (["--sync"] if draw.random() < 0.25 else [])
                 last = draw.randint(1, 20) if turn == kills else None
                 host = Host(room, shape, draw, turn + 1, last, *options, "--image-out", f"{room}/left", most=MOST[number % 2])
-                host.go_on(LIMIT if last else draw.uniform(0, LIFE))
+                host.go_on(LIMIT) if last else host.go_on(draw.uniform(0, LIFE), draw.randrange(REPLIES))
                 out, err, status, parts = host.end(None if last else draw.choice(SIGNALS))
                 for sayings, (more, extra) in zip(said, parts):
                     sayings.extend([None, *more])
                     must(not extra, f"a client was told {extra}")
-                record = judge(room, shape, host.names, said)
                 text = recorded(room)
                 must(text.startswith(before), "an entry that was there is gone, or another")
+                record = judge(room, shape, host.names, said, record)
                 # A head without entries is written anew, so a host that is killed then may leave none.
                 before = text[: record.ends[-1]] if record and record.entries else b""
             well = status == 0 and record.ended and read(f"{room}/left") == record.exchange.image()
@@ -408,14 +417,9 @@ def try_taken_away():
         draw, shape = random.Random(f"away {turn}"), (4, 2, 1)
         with tempfile.TemporaryDirectory(prefix="moments-") as room:
             host = Host(room, shape, draw, 1, 60, "--image-out", f"{room}/left")
-            host.go_on(draw.uniform(0.05, 0.1))
-            try:
-                os.rename(f"{room}/record", f"{room}/moved") if is_moved else os.unlink(f"{room}/record")
-            except OSError as error:
-                if error.errno != errno.ENOENT:
-                    raise
-                host.end(signal.SIGKILL)
-                continue
+            while not recorded(room) and host.process.poll() is None:
+                host.go_on(0.005)
+            os.rename(f"{room}/record", f"{room}/moved") if is_moved else os.unlink(f"{room}/record")
             host.go_on(LIMIT)
             out, err, status, parts = host.end()
             told = f"exchange: {room}/record: its name leads to another file now, or to none\n"
@@ -499,6 +503,9 @@ def try_reader():
             part = Record(text[:cut])
             well = part.entries == record.entries[: len(part.entries)] and part.ends[-1] == max(end for end in record.ends if end <= cut)
             must(well, f"turn {turn}: cut at {cut} it has other entries")
+            if cut in record.ends:
+                part.go_on(text)
+                must((part.entries, part.ended, part.rest) == (record.entries, True, record.rest), f"turn {turn}: from {cut} on it has other entries")
             looked += 1
         last = record.ends[-1]
         spoilt = [text + b"\n", text + b"0 show 1\n", text[:last] + bytes(1), text[:last] + summed(12, b"0 progress\n"), text[:last] + end_of(11)]

@@ -40,6 +40,7 @@ import threading
 import time
 import traceback
 import tty
+import venv
 from concurrent.futures import ThreadPoolExecutor
 from pathlib import Path
 
@@ -1050,6 +1051,9 @@ def main():
         installed = os.path.abspath(os.environ.get("RACK") or f"{path}/rack")
         if not os.environ.get("RACK"):
             subprocess.run([f"{TOP}/tools/install/install.sh", installed], stdout=subprocess.DEVNULL, check=True)
+        # Their Python has no packages: so each starts in a fourth of the time, where this one has many.
+        venv.create(f"{path}/python", symlinks=True)
+        sys.executable = f"{path}/python/bin/python3"
         os.chdir(path)
         try_all(installed, count, " ".join(words))
         os.chdir("/")
