@@ -5,6 +5,8 @@ use Rattle.client_session.specs.declared.fault.ServeFault.{ServeFault}
 use Rattle.client_session.specs.declared.fault.ServeFault.TheVariants as fault
 use Rattle.client_session.specs.declared.input.InputFault.{InputFault}
 use Rattle.client_session.specs.declared.input.InputFault.TheVariants.{Cut}
+use Rattle.std.specs.Result.{result_and}
+use Rattle.client_session.specs.Sessions.{fault_in}
 use Rattle.client_session.specs.Asking.{RisesBy, IsWithinLimit, AsksWithinLimit, StopsAsking, GivesEachTime}
 use Rattle.client_session.specs.Bytes.{PendingInput}
 use Rattle.client_session.specs.Seats.{SeatView}
@@ -76,3 +78,7 @@ asks_no_more e old new w v lines is s = record { asks = s.asks; counted = s.coun
 
 pub asks_still : {a b : Option ℕ} (end : Option ServeFault) (e : ServeFault) (old new : SeatView) (w v : Option (List ℕ)) (lines : List ℕ) → AreUntold e old new w v lines → AsksWithinLimit a b end → AsksWithinLimit a b (Some e)
 asks_still end e old new w v lines is s = record { asks = s.asks; counted = s.counted; within = within_untold e old new w v lines s.asks is (few_reads end s.asks s.within) }
+
+pub asks_or : {T U : Type 0} (r : Result T ServeFault) (ended : Result U ServeFault) {a b : Option ℕ} (old new : SeatView) (w v : Option (List ℕ)) (lines : List ℕ) → IfErr r (λ e. AreUntold e old new w v lines) → AsksWithinLimit a b (fault_in ended) → AsksWithinLimit a b (fault_in (result_and r ended))
+asks_or (Ok x) ended old new w v lines err s = s
+asks_or (Err e) ended old new w v lines err s = asks_still (fault_in ended) e old new w v lines err s

@@ -1,9 +1,10 @@
 -- A session so far, and its ends.
-use Rattle.std.proofs.Common.{◌≡◌, ℕ, ◌+◌, ◌<◌, ◌≤◌, List, [], ◌∷◌, ◌++◌, length, flat_map, Option, Some, None, Bool, true, false, true≢false, sym, ap, ◌∙◌, append_assoc, append-nil, refl, subst, arith, inl, inr}
+use Rattle.std.proofs.Common.{◌≡◌, ℕ, ◌+◌, ◌<◌, ◌≤◌, List, [], ◌∷◌, ◌++◌, length, flat_map, Option, Some, None, Result, Ok, Err, IfErr, OnOk, Bool, true, false, true≢false, sym, ap, ◌∙◌, append_assoc, append-nil, refl, subst, arith, inl, inr}
 use Rattle.std.proofs.lemmas.Grind.{flat_map-append}
 use Rattle.std.proofs.lemmas.List.{append_cancel_left, length_push, length-append}
 use Rattle.std.specs.Io.KnownBytes.{IsAtEnd}
 use Rattle.std.specs.List.{AllByRecursion}
+use Rattle.std.specs.Result.{result_and}
 use Rattle.batch_book.specs.declared.entry.Entry.{Entry}
 use Rattle.byte_streams.proofs.Carrying.{appends_none, appends_then, consumes_none, consumes_then}
 use Rattle.client_session.specs.declared.input.InputFault.{InputFault}
@@ -18,7 +19,7 @@ use Rattle.client_session.specs.Bytes.{PendingInput, TakesIn}
 use Rattle.client_session.specs.Faults.{IsFaultAt}
 use Rattle.client_session.specs.Seats.{SeatView, GoesOnFrom, seat_view}
 use Rattle.client_session.specs.Turns.{Turn, IsTurn, LostTurn, IsLostTurn, SessionGoesOn, lost_text, turn_text}
-use Rattle.client_session.specs.Sessions.{IsSession, IsPartialCommand, IsAllRecorded, IsBroken, IsCutOff, IsEndOfLastLine, IsHolding, IsWholeSession, RestAt, GoOn, MayEnd, HasEnded, HoldsAtEnd, GoesThrough, cuts_off, lines_of, lost_entries, lost_texts}
+use Rattle.client_session.specs.Sessions.{IsSession, IsPartialCommand, IsAllRecorded, IsBroken, IsCutOff, IsEndOfLastLine, IsHolding, IsWholeSession, RestAt, GoOn, MayEnd, HasEnded, HoldsAtEnd, GoesThrough, cuts_off, fault_in, lines_of, lost_entries, lost_texts}
 use Rattle.client_session.specs.Steps.{AreTold, AreUntold, MayTell, TurnFails, TurnLost, TurnTaken, TurnStopped, of_input}
 use Rattle.client_session.proofs.Lists.{every-push}
 use Rattle.client_session.proofs.Doing.{stays, goes_on}
@@ -469,6 +470,16 @@ told_last fault a b w v u from to next held is was p t = subst (λ (q : SeatView
   appended = appends_then w v u p.written held p.appended t.appended;
   is_so = ended_so fault b from to held p.bytes p.entries p.written is was p.asked p.is_so;
 }
+
+-- the rest was told, or couldn't be
+pub told_or : {T U : Type 0} (r : Result T ServeFault) (ended : Result U ServeFault) (a b w v u : Option (List ℕ)) (from to next : SeatView) (held : List ℕ) → cuts_off (fault_in ended) ≡ false → IsAllRecorded from → Holds a b w v from to held (fault_in ended)
+    → OnOk r (AreTold to next v u held) → IfErr r (λ e. AreUntold e to next v u held) → Ends a b w u from next (fault_in (result_and r ended))
+told_or (Ok x) ended a b w v u from to next held is was p ok err = told_last (fault_in ended) a b w v u from to next held is was p ok
+told_or (Err e) ended a b w v u from to next held is was p ok err = untold_last (fault_in ended) e a b w v u from to next held is was p err
+
+pub lost_or : {T U P : Type 0} (r : Result T ServeFault) (ended : Result U ServeFault) → IfErr r (λ e. e ≡ Record → P) → (fault_in ended ≡ Some Record → P) → fault_in (result_and r ended) ≡ Some Record → P
+lost_or (Ok x) ended lost before is = before is
+lost_or (Err e) ended lost before is = lost (the_fault e Record is)
 
 -- ---- the seat that comes back
 

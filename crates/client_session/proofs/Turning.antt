@@ -1,5 +1,5 @@
 -- One command taken from the input, and what a fault leaves.
-use Rattle.std.proofs.Common.{◌≡◌, ℕ, ◌+◌, ◌<◌, ◌≤◌, List, [], ◌∷◌, ◌++◌, length, take, drop, flat_map, Option, Some, Bool, false, MatchBool, sym, ap, ◌∙◌, append_assoc, append-nil, refl, subst, arith, inr}
+use Rattle.std.proofs.Common.{◌≡◌, ℕ, ◌+◌, ◌<◌, ◌≤◌, List, [], ◌∷◌, ◌++◌, length, take, drop, flat_map, Option, Some, Result, Ok, Err, IfErr, OnOk, Bool, false, MatchBool, sym, ap, ◌∙◌, append_assoc, append-nil, refl, subst, arith, inr}
 use Rattle.std.proofs.lemmas.List.{take-append-drop, length-append, length-drop}
 use Rattle.std.proofs.lemmas.Bool.{lt-ltb, le-ltb}
 use Rattle.batch.specs.declared.limits.TheConstants.{MAX_TRANSFERS}
@@ -14,9 +14,11 @@ use Rattle.client_session.specs.Commands.{Means}
 use Rattle.client_session.specs.Seats.{SeatView}
 use Rattle.client_session.specs.Replies.{with_feed}
 use Rattle.batch_book.specs.declared.entry.Entry.{Entry}
-use Rattle.client_session.specs.Turns.{Submits, DoesCommand, IsBegun, SessionGoesOn, lines_after}
+use Rattle.client_session.specs.Turns.{Answer, Submits, DoesCommand, IsBegun, SessionGoesOn, lines_after}
 use Rattle.client_session.specs.Sessions.{BeginsBatch, IsPartialCommand, RestAt}
-use Rattle.client_session.specs.Steps.{Acts, Breaks, LinesTaken, LinesStopped, PendingAt, StandsAlone, TurnFails, TurnLost, TurnTaken, TurnStopped}
+use Rattle.client_session.specs.Steps.{Acts, Breaks, Does, LinesTaken, LinesStopped, PendingAt, StandsAlone, TurnFails, TurnLost, TurnTaken, TurnStopped}
+use Rattle.client_session.specs.Asking.{GivesEachTime, GivesOrStops}
+use Rattle.client_session.proofs.Asking.{stops_here}
 use Rattle.client_session.proofs.Taken.{line_front, line_is}
 
 pub fuel_skip : (old new : PendingInput) (k : ℕ) → new.pending ≡ drop (k + 1) old.pending → new.reads ≡ old.reads → k < length old.pending → fuel new < fuel old
@@ -153,6 +155,18 @@ batch_lost e a b old mid new from to n count before after has short begins rest 
   goes_on = broken.goes_on;
   asked = broken.asked;
 }
+
+-- either, by what came of it
+pub batch_done : {T : Type 0} (r : Result T ServeFault) (a b : Option (List ℕ)) (old mid new : PendingInput) (from to : SeatView) (n count : ℕ) (before after all line : List ℕ) → HasLine old.pending n → n ≤ LINE_BYTES
+    → BeginsBatch (take n old.pending) count → mid.pending ≡ drop (n + 1) old.pending → before ≡ take (n + 1) old.pending → LinesTaken a b mid new before after count
+    → mid.reads ≡ old.reads → all ≡ after → Does from to (Submits from.shape from.session all) (λ (es : List Entry). es ≡ []) line r → OnOk r (TurnTaken a b old new from to line false) × IfErr r (λ e. TurnFails e a b old from to)
+batch_done (Ok x) a b old mid new from to n count before after all line has short begins rest first t reads same acts = (batch_taken a b old mid new from to n count before after all line has short begins rest first t reads same acts, tt)
+batch_done (Err e) a b old mid new from to n count before after all line has short begins rest first t reads same broken = (tt, batch_lost e a b old mid new from to n count before after has short begins rest t broken)
+
+-- the reader isn't asked by what is done then
+pub asked_then : {T : Type 0} (r : Result T ServeFault) {a b : Option ℕ} {k l : ℕ} (from to : SeatView) (IsSo : Answer → Type 0) (HasBegun : List Entry → Type 0) (line : List ℕ) → GivesEachTime a b k l → Does from to IsSo HasBegun line r → GivesOrStops a b k l r
+asked_then (Ok x) from to IsSo HasBegun line gives acts = gives
+asked_then (Err e) from to IsSo HasBegun line gives broken = rw broken.fault_is (stops_here (Some Record) gives (λ few. few))
 
 none_after : (command : Option SessionCommand) → StandsAlone command → lines_after command ≡ 0
 none_after (Some (Batch count)) h = many_after count h

@@ -111,36 +111,29 @@ pub(crate) fn answer<R: Threads + Wait + Sync, X: Setup>(
         (IsBegun seat.old.session command) line.new result }
     ensures loses { OnErr result (X.Entries.loses ≡ true) }
 {
-    match command {
+    let (id, asked) = match command {
         None => {
             line.refuse(Refusal::Line);
-            Ok(())
+            return Ok(());
         }
         Some(SessionCommand::Batch(_)) => {
             line.refuse(Refusal::TooMany);
-            Ok(())
-        }
-        Some(SessionCommand::Plan(id)) => plan(rt, alloc, seat, line, id, workers),
-        Some(SessionCommand::Run(id)) => call(rt, seat, line, id, Call::Run(id)),
-        Some(SessionCommand::Show(id)) => call(rt, seat, line, id, Call::Show(id)),
-        Some(SessionCommand::Drop(id)) => call(rt, seat, line, id, Call::Discard(id)),
-        Some(SessionCommand::Peek(module, address)) => call(
-            rt,
-            seat,
-            line,
-            0,
-            Call::Peek(module, address),
-        ),
-        Some(SessionCommand::Poke(module, address, word)) => {
-            call(rt, seat, line, 0, Call::Poke(module, address, word))
+            return Ok(());
         }
         Some(SessionCommand::Progress) => {
             line.tell_progress(seat.progress());
-            Ok(())
+            return Ok(());
         }
         Some(SessionCommand::Bye) => {
             line.tell_bye();
-            Ok(())
+            return Ok(());
         }
-    }
+        Some(SessionCommand::Plan(id)) => return plan(rt, alloc, seat, line, id, workers),
+        Some(SessionCommand::Run(id)) => (id, Call::Run(id)),
+        Some(SessionCommand::Show(id)) => (id, Call::Show(id)),
+        Some(SessionCommand::Drop(id)) => (id, Call::Discard(id)),
+        Some(SessionCommand::Peek(module, address)) => (0, Call::Peek(module, address)),
+        Some(SessionCommand::Poke(module, address, word)) => (0, Call::Poke(module, address, word)),
+    };
+    call(rt, seat, line, id, asked)
 }

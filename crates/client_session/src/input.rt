@@ -13,7 +13,6 @@ use crate::limits::{INPUT_BYTES, LINE_BYTES, MAX_READS};
 use std::marker::Model;
 
 /// Why no line came.
-#[derive(Clone, Copy)]
 pub(crate) enum InputFault {
     /// The reader failed.
     Read,

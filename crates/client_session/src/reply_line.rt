@@ -35,14 +35,8 @@ fn put_cause(line: &mut Line, cause: StopCause)
 {
     match cause {
         StopCause::Port => line.put(b"port"),
-        StopCause::SwitchDisagrees(output) => {
-            line.put(b"switch ");
-            line.put_number(u64::from(output));
-        }
-        StopCause::Wire(transfer) => {
-            line.put(b"wire ");
-            line.put_number(transfer as u64);
-        }
+        StopCause::SwitchDisagrees(output) => line.put_numbered(b"switch ", usize::from(output)),
+        StopCause::Wire(transfer) => line.put_numbered(b"wire ", transfer),
     }
 }
 
@@ -54,10 +48,8 @@ fn put_moved(line: &mut Line, moved: &[(u16, u16)])
     ensures room { length line.new ≤ length line.old + 1344 }
 {
     for (transfer, words) in moved {
-        line.put(b" ");
-        line.put_number(u64::from(*transfer));
-        line.put(b":");
-        line.put_number(u64::from(*words));
+        line.put_numbered(b" ", usize::from(*transfer));
+        line.put_numbered(b":", usize::from(*words));
     }
 }
 
@@ -75,12 +67,9 @@ pub fn put_stopped(
     ensures text { line.new ≡ line.old ++ stopped_words id run setting cause moved.now }
     ensures room { length line.new < LINE_ROOM }
 {
-    line.put(b"stopped ");
-    line.put_number(id as u64);
-    line.put(b" run ");
-    line.put_number(run as u64);
-    line.put(b" setting ");
-    line.put_number(setting as u64);
+    line.put_numbered(b"stopped ", id);
+    line.put_numbered(b" run ", run);
+    line.put_numbered(b" setting ", setting);
     line.put(b" ");
     put_cause(line, cause);
     line.put(b" moved");
@@ -94,14 +83,10 @@ fn put_ran(line: &mut Line, id: usize, run: usize, settings: usize, words: usize
     ensures text { line.new ≡ line.old ++ ran_words id run settings words }
     ensures room { length line.new < LINE_ROOM }
 {
-    line.put(b"ran ");
-    line.put_number(id as u64);
-    line.put(b" run ");
-    line.put_number(run as u64);
-    line.put(b" settings ");
-    line.put_number(settings as u64);
-    line.put(b" words ");
-    line.put_number(words as u64);
+    line.put_numbered(b"ran ", id);
+    line.put_numbered(b" run ", run);
+    line.put_numbered(b" settings ", settings);
+    line.put_numbered(b" words ", words);
     line.put(b" bits ");
     line.put_number(line_bits(words as u64));
 }
@@ -162,16 +147,11 @@ impl ReplyLine {
     {
         let line = &mut self.line;
         match reply {
-            Reply::Accepted(new) => {
-                line.put(b"accepted ");
-                line.put_number(*new as u64);
-            }
+            Reply::Accepted(new) => line.put_numbered(b"accepted ", *new),
             Reply::Fetched(_) => unreachable!(),
             Reply::Settled { settings } => {
-                line.put(b"planned ");
-                line.put_number(id as u64);
-                line.put(b" settings ");
-                line.put_number(*settings as u64);
+                line.put_numbered(b"planned ", id);
+                line.put_numbered(b" settings ", *settings);
             }
             Reply::Ran {
                 run,
@@ -193,10 +173,7 @@ impl ReplyLine {
                 line.put(b" ");
                 line.put(state_text(*state));
             }
-            Reply::Discarded => {
-                line.put(b"dropped ");
-                line.put_number(id as u64);
-            }
+            Reply::Discarded => line.put_numbered(b"dropped ", id),
             Reply::Word(word) => {
                 line.put(b"word ");
                 line.put_hex8(*word);

@@ -228,8 +228,7 @@ fn serve_seat<R: Clock + Threads + Wait + Sync, X: Setup, I: CountedRead, O: Wri
     if is_cut_off(&ended) {
         return ended;
     }
-    tell(rt, seat, writer, listener, &mut held)?;
-    ended
+    tell(rt, seat, writer, listener, &mut held).and(ended)
 }
 
 /// Serves the session of one client from a seat: reads its commands, and writes a reply line to

@@ -82,8 +82,7 @@ fn batch<R: Threads + Wait + Sync, X: Setup, I: CountedRead, H: Listener>(
     take_lines(input, reader, &mut text, count)?;
     let text = text.as_slice();
     listener.heard(text);
-    submit(rt, alloc, seat, line, text)?;
-    Ok(())
+    submit(rt, alloc, seat, line, text)
 }
 
 /// How many lines belong to a batch that isn't too long.

@@ -92,6 +92,31 @@ pub(crate) enum Argument {
     Quiet,
 }
 
+use Argument::{
+    Batch, Clients, Entries, File, First, GoOn, Image, ImageIn, ImageOut, Module, Moves, Port,
+    PortB, Prices, Quiet, Record, RecordOut, Resume, Schedule, Scheduled, Scripts, Settings, Shape,
+    Shaped, Steady, Switches, Sync, Wiring, Workers,
+};
+
+/// The word that calls each command, and what it takes, in the order of [`CommandName`].
+#[rattlefmt::skip]
+static SHEETS: [(&str, &[Argument]); 14] = [
+    ("plan", &[File, Steady, Workers, Quiet]),
+    ("check", &[Batch, Schedule, Quiet]),
+    ("draw", &[Batch, Schedule, Settings, Prices, Quiet]),
+    ("switch", &[Batch, Scheduled, Steady, Workers, Wiring, Switches, Quiet]),
+    ("orders", &[Batch, Scheduled, Steady, Workers, Module, Quiet]),
+    ("drive", &[Batch, Port, PortB, Scheduled, Steady, Workers, Wiring, First, GoOn, Quiet]),
+    ("c004", &[Quiet]),
+    ("direct", &[Moves, Quiet]),
+    ("apply", &[Shape, Batch, Image, Workers, Quiet]),
+    ("run", &[Shape, Batch, ImageIn, Scheduled, Steady, Workers, Quiet]),
+    ("serve", &[Shape, Scripts, ImageIn, RecordOut, ImageOut, Workers, Quiet]),
+    ("host", &[Shape, Clients, ImageIn, RecordOut, Resume, Sync, ImageOut, Workers, Quiet]),
+    ("talk", &[Shape, ImageIn, RecordOut, Resume, Sync, ImageOut, Quiet]),
+    ("replay", &[Record, Shaped, ImageIn, Entries, Quiet]),
+];
+
 impl CommandName {
     /// All commands, in the order in which the program's help lists them.
     pub(crate) const ALL: [CommandName; 14] = [
@@ -124,40 +149,31 @@ impl CommandName {
         None
     }
 
-    /// The word that calls it, what it takes, in this order, and its help.
-    #[rattlefmt::skip]
-    pub(crate) fn sheet(self) -> (&'static str, &'static [Argument], &'static CommandHelp)
+    /// The word that calls it, and what it takes, in this order.
+    pub(crate) fn sheet(self) -> (&'static str, &'static [Argument])
         ensures word { result.0.now ≡ command_word self }
         ensures arguments { result.1.now ≡ arguments_of self }
     {
-        use Argument::{
-            Batch, Clients, Entries, File, First, GoOn, Image, ImageIn, ImageOut, Module, Moves,
-            Port, PortB, Prices, Quiet, Record, RecordOut, Resume, Schedule, Scheduled, Scripts,
-            Settings, Shape, Shaped, Steady, Switches, Sync, Wiring, Workers,
-        };
+        SHEETS[self as usize]
+    }
+
+    /// What its help says.
+    pub(crate) fn help(self) -> &'static CommandHelp {
         match self {
-            Self::Plan => ("plan", &[File, Steady, Workers, Quiet], &PLAN),
-            Self::Check => ("check", &[Batch, Schedule, Quiet], &CHECK),
-            Self::Draw => ("draw", &[Batch, Schedule, Settings, Prices, Quiet], &DRAW),
-            Self::Switch => ("switch",
-                &[Batch, Scheduled, Steady, Workers, Wiring, Switches, Quiet], &SWITCH),
-            Self::Orders => ("orders",
-                &[Batch, Scheduled, Steady, Workers, Module, Quiet], &ORDERS),
-            Self::Drive => ("drive",
-                &[Batch, Port, PortB, Scheduled, Steady, Workers, Wiring, First, GoOn, Quiet],
-                &DRIVE),
-            Self::C004 => ("c004", &[Quiet], &C004),
-            Self::Direct => ("direct", &[Moves, Quiet], &DIRECT),
-            Self::Apply => ("apply", &[Shape, Batch, Image, Workers, Quiet], &APPLY),
-            Self::Run => ("run", &[Shape, Batch, ImageIn, Scheduled, Steady, Workers, Quiet], &RUN),
-            Self::Serve => ("serve",
-                &[Shape, Scripts, ImageIn, RecordOut, ImageOut, Workers, Quiet], &SERVE),
-            Self::Host => ("host",
-                &[Shape, Clients, ImageIn, RecordOut, Resume, Sync, ImageOut, Workers, Quiet],
-                &HOST),
-            Self::Talk => ("talk",
-                &[Shape, ImageIn, RecordOut, Resume, Sync, ImageOut, Quiet], &TALK),
-            Self::Replay => ("replay", &[Record, Shaped, ImageIn, Entries, Quiet], &REPLAY),
+            Self::Plan => &PLAN,
+            Self::Check => &CHECK,
+            Self::Draw => &DRAW,
+            Self::Switch => &SWITCH,
+            Self::Orders => &ORDERS,
+            Self::Drive => &DRIVE,
+            Self::C004 => &C004,
+            Self::Direct => &DIRECT,
+            Self::Apply => &APPLY,
+            Self::Run => &RUN,
+            Self::Serve => &SERVE,
+            Self::Host => &HOST,
+            Self::Talk => &TALK,
+            Self::Replay => &REPLAY,
         }
     }
 }

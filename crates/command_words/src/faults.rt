@@ -65,10 +65,11 @@ impl UsageError {
 
 /// The command that the arguments name, as its usage shows it, or else the program.
 fn asked<'a>(alloc: Global, arguments: &[String]) -> Result<Command<'a>, AllocError> {
-    let Some(name) = arguments
-        .get(1)
-        .and_then(|word| CommandName::of(word.as_str()))
-    else {
+    let name = match arguments.get(1) {
+        Some(word) => CommandName::of(word.as_str()),
+        None => None,
+    };
+    let Some(name) = name else {
         return program(alloc);
     };
     let usage_name = format!(in alloc; "exchange {}", name.sheet().0)?;

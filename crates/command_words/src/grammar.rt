@@ -44,69 +44,66 @@ fn flag<'a>(alloc: Global, id: &'a str, help: &'a str) -> Arg<'a>
         .help(help)
 }
 
+/// What clap calls each argument, and what help says of it, in the order of [`Argument`].
+#[rattlefmt::skip]
+static WORDS: [(&str, &str); 29] = [
+    ("SHAPE", "The shape of the rack, as 3x2x2"),
+    ("FILE", "The file of the batch, or - for standard input"),
+    ("BATCH", "The file of the batch, or - for standard input"),
+    ("SCHEDULE", "The file of the schedule, or - for standard input"),
+    ("PORT", "The device of the switch, or the pipes PORT.in and PORT.out"),
+    ("PORT_B", "That of switch b, where there are two"),
+    ("MOVES", "The file of the moves, or - for standard input"),
+    ("IMAGE", "The file of the words before, or - for standard input"),
+    ("RECORD", "The file of the record, or - for standard input"),
+    ("SCRIPT", "A file of session lines, or - for standard input"),
+    ("CLIENT", "The name of a client, whose files are CLIENT.in and CLIENT.out"),
+    ("shape", "The shape that the record has to have"),
+    ("image", "The file of the words before, an image as `exchange apply --help` shows"),
+    ("record", "The file for the record of all sessions' calls"),
+    ("resume", "Go on where that file ends, if it has a record already"),
+    ("sync", "Send a reply only once its entry is on the disk"),
+    ("image-out", "The file for the image of the words after all sessions"),
+    ("settings", "The settings to draw, A to B, counted from 0"),
+    ("prices", "Print prices that show how many changes are needed, and no picture"),
+    ("schedule", "The file of its schedule, or - for standard input"),
+    ("wiring", "The file of the board's wiring, or - for standard input"),
+    ("switches", "There are two switches, whatever modules BATCH names"),
+    ("from", "The setting of the schedule to begin with, counted from 0"),
+    ("first", "How many of its entries to replay"),
+    ("module", "The module whose orders to print, from 0 to 31"),
+    ("steady", "Plan so that the switch changes seldom"),
+    ("go-on", "Wait for no line of standard input after a setting"),
+    ("workers", "How many workers there may be; one is usually quickest"),
+    ("quiet", "Print nothing on standard error beside a refusal"),
+];
+
 /// An argument as clap has it, with what help says of it.
 #[rattlefmt::skip]
 fn arg_of<'a>(alloc: Global, argument: Argument) -> Arg<'a>
     ensures { IsArgument (rule_for argument) result }
 {
+    use Argument::*;
+    let (id, help) = WORDS[argument as usize];
     match argument {
-        Argument::Shape => one_argument(alloc, "SHAPE", "The shape of the rack, as 3x2x2"),
-        Argument::File => one_argument(alloc, "FILE",
-            "The file of the batch, or - for standard input"),
-        Argument::Batch => one_argument(alloc, "BATCH",
-            "The file of the batch, or - for standard input"),
-        Argument::Schedule => one_argument(alloc, "SCHEDULE",
-            "The file of the schedule, or - for standard input"),
-        Argument::Port => one_argument(alloc, "PORT",
-            "The device of the switch, or the pipes PORT.in and PORT.out"),
-        Argument::PortB => Arg::new(alloc, "PORT_B").help("That of switch b, where there are two"),
-        Argument::Moves => one_argument(alloc, "MOVES",
-            "The file of the moves, or - for standard input"),
-        Argument::Image => one_argument(alloc, "IMAGE",
-            "The file of the words before, or - for standard input"),
-        Argument::Record => one_argument(alloc, "RECORD",
-            "The file of the record, or - for standard input"),
-        Argument::Scripts => client_arguments(alloc, "SCRIPT",
-            "A file of session lines, or - for standard input"),
-        Argument::Clients => client_arguments(alloc, "CLIENT",
-            "The name of a client, whose files are CLIENT.in and CLIENT.out"),
-        Argument::Shaped => option(alloc, "shape", "SHAPE",
-            "The shape that the record has to have"),
-        Argument::ImageIn => option(alloc, "image", "FILE",
-            "The file of the words before, an image as `exchange apply --help` shows"),
-        Argument::RecordOut => option(alloc, "record", "FILE",
-            "The file for the record of all sessions' calls"),
-        Argument::Resume => flag(alloc, "resume",
-            "Go on where that file ends, if it has a record already"),
-        Argument::Sync => flag(alloc, "sync", "Send a reply only once its entry is on the disk"),
-        Argument::ImageOut => option(alloc, "image-out", "FILE",
-            "The file for the image of the words after all sessions"),
-        Argument::Settings => option(alloc, "settings", "A..B",
-            "The settings to draw, A to B, counted from 0"),
-        Argument::Prices => flag(alloc, "prices",
-            "Print prices that show how many changes are needed, and no picture"),
-        Argument::Scheduled => option(alloc, "schedule", "FILE",
-            "The file of its schedule, or - for standard input"),
-        Argument::Wiring => option(alloc, "wiring", "FILE",
-            "The file of the board's wiring, or - for standard input"),
-        Argument::Switches => option(alloc, "switches", "2",
-            "There are two switches, whatever modules BATCH names")
+        Shape | File | Batch | Schedule | Port | Moves | Image | Record =>
+            one_argument(alloc, id, help),
+        PortB => Arg::new(alloc, id).help(help),
+        Scripts | Clients => client_arguments(alloc, id, help),
+        Shaped => option(alloc, id, "SHAPE", help),
+        ImageIn | RecordOut | ImageOut | Scheduled | Wiring => option(alloc, id, "FILE", help),
+        Settings => option(alloc, id, "A..B", help),
+        Resume | Sync | Prices | Steady | GoOn | Quiet => flag(alloc, id, help),
+        Switches => option(alloc, id, "2", help)
             .value_parser(value_parser!(u8).range(2..=2)),
-        Argument::First => option(alloc, "from", "K",
-            "The setting of the schedule to begin with, counted from 0")
+        First => option(alloc, id, "K", help)
             .value_parser(value_parser!(u32).range(0..=MAX_NUMBER as i64)).default_value("0"),
-        Argument::Entries => option(alloc, "first", "E", "How many of its entries to replay")
+        Entries => option(alloc, id, "E", help)
             .value_parser(value_parser!(u32).range(0..=MAX_NUMBER as i64)),
-        Argument::Module => option(alloc, "module", "0..31",
-            "The module whose orders to print, from 0 to 31")
+        Module => option(alloc, id, "0..31", help)
             .value_parser(value_parser!(u8).range(0..=LAST_MODULE as i64)),
-        Argument::Steady => flag(alloc, "steady", "Plan so that the switch changes seldom"),
-        Argument::GoOn => flag(alloc, "go-on",
-            "Wait for no line of standard input after a setting"),
-        Argument::Workers => option(alloc, "workers", "1..64",
-            "How many workers there may be; one is usually quickest")
+        Workers => option(alloc, id, "1..64", help)
             .value_parser(value_parser!(u8).range(1..=MAX_WORKERS as i64)).default_value("1"),
-        Argument::Quiet => flag(alloc, "quiet", "Print nothing on standard error beside a refusal"),
     }
 }
 
@@ -140,8 +137,8 @@ fn with_arguments<'a>(
 pub(crate) fn command_of<'a>(alloc: Global, name: CommandName) -> Result<Command<'a>, AllocError>
     ensures { IfOk result (IsCommand (command_app name)) }
 {
-    let (word, arguments, help): (&'a str, &[Argument], &CommandHelp) = name.sheet();
-    let command = command(alloc, word, help);
+    let (word, arguments): (&'a str, &[Argument]) = name.sheet();
+    let command = command(alloc, word, name.help());
     with_arguments(alloc, command, arguments)
 }
 

@@ -221,7 +221,7 @@ pub struct Request {
 pub enum ArgumentsFault {
     /// They fit no command, or ask for help. The error has the text to print. It never tells of
     /// lack of memory.
-    #[error("{0}")]
+    #[error(transparent)]
     Clap(clap::Error),
     /// There was no memory to read them, and nothing is said about them.
     #[error("no memory")]

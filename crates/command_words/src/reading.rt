@@ -148,9 +148,9 @@ fn plan_of(alloc: Global, found: &ArgMatches<'_>) -> Result<Job, UsageError>
     ensures { IsReading (IsJob CommandName.Plan (rows_in found.now)) result }
 {
     Ok(Job::Texts(TextJob::Plan {
+        workers: workers_of(found)?,
         file: text_of(alloc, found, "FILE")?,
         planning: planning_of(found)?,
-        workers: workers_of(found)?,
     }))
 }
 
@@ -198,11 +198,11 @@ fn switch_of(alloc: Global, found: &ArgMatches<'_>) -> Result<Job, UsageError>
     ensures { IsReading (IsJob CommandName.Switch (rows_in found.now)) result }
 {
     Ok(Job::Texts(TextJob::Switch {
+        workers: workers_of(found)?,
         batch: text_of(alloc, found, "BATCH")?,
         source: source_of(alloc, found)?,
         wiring: option_of(alloc, found, "wiring")?,
         has_two: has_two(found)?,
-        workers: workers_of(found)?,
     }))
 }
 
@@ -211,10 +211,10 @@ fn orders_of(alloc: Global, found: &ArgMatches<'_>) -> Result<Job, UsageError>
     ensures { IsReading (IsJob CommandName.Orders (rows_in found.now)) result }
 {
     Ok(Job::Texts(TextJob::Orders {
+        workers: workers_of(found)?,
+        module: number_of(found, "module", LAST_MODULE)?,
         batch: text_of(alloc, found, "BATCH")?,
         source: source_of(alloc, found)?,
-        module: number_of(found, "module", LAST_MODULE)?,
-        workers: workers_of(found)?,
     }))
 }
 
@@ -223,14 +223,14 @@ fn drive_of(alloc: Global, found: &ArgMatches<'_>) -> Result<Job, UsageError>
     ensures { IsReading (IsJob CommandName.Drive (rows_in found.now)) result }
 {
     Ok(Job::Ports(PortJob::Drive {
+        workers: workers_of(found)?,
+        first: first_of(found)?,
+        goes_on: is_given(found, "go-on"),
         batch: text_of(alloc, found, "BATCH")?,
         port: text_of(alloc, found, "PORT")?,
         port_b: option_of(alloc, found, "PORT_B")?,
         source: source_of(alloc, found)?,
         wiring: option_of(alloc, found, "wiring")?,
-        first: first_of(found)?,
-        goes_on: is_given(found, "go-on"),
-        workers: workers_of(found)?,
     }))
 }
 
@@ -248,10 +248,10 @@ fn apply_of(alloc: Global, found: &ArgMatches<'_>) -> Result<Job, UsageError>
     ensures { IsReading (IsJob CommandName.Apply (rows_in found.now)) result }
 {
     Ok(Job::Texts(TextJob::Apply {
+        workers: workers_of(found)?,
         shape: text_of(alloc, found, "SHAPE")?,
         batch: text_of(alloc, found, "BATCH")?,
         image: text_of(alloc, found, "IMAGE")?,
-        workers: workers_of(found)?,
     }))
 }
 
@@ -260,11 +260,11 @@ fn run_of(alloc: Global, found: &ArgMatches<'_>) -> Result<Job, UsageError>
     ensures { IsReading (IsJob CommandName.Run (rows_in found.now)) result }
 {
     Ok(Job::Texts(TextJob::Run {
+        workers: workers_of(found)?,
         shape: text_of(alloc, found, "SHAPE")?,
         batch: text_of(alloc, found, "BATCH")?,
         source: source_of(alloc, found)?,
         image: option_of(alloc, found, "image")?,
-        workers: workers_of(found)?,
     }))
 }
 
@@ -309,10 +309,10 @@ fn replay_of(alloc: Global, found: &ArgMatches<'_>) -> Result<Job, UsageError>
     ensures { IsReading (IsJob CommandName.Replay (rows_in found.now)) result }
 {
     Ok(Job::Texts(TextJob::Replay {
+        first: number_of(found, "first", MAX_NUMBER)?,
         shape: option_of(alloc, found, "shape")?,
         recorded: text_of(alloc, found, "RECORD")?,
         image: option_of(alloc, found, "image")?,
-        first: number_of(found, "first", MAX_NUMBER)?,
     }))
 }
 

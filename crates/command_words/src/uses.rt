@@ -125,21 +125,27 @@ impl Gathered {
         self.add(Access::Write, Role::ImageLeft, rack.image_out.as_ref())
     }
 
+    /// A file of this name with an ending.
+    fn add_ended(
+        &mut self,
+        access: Access,
+        role: Role,
+        name: &Text,
+        ending: &str,
+    ) -> Result<(), AllocError>
+        ensures { OnOk result
+            (self.new ≡ self.old ++ file access (name.now ++ ending.now) ∷ []) }
+    {
+        self.push(access, role, name.with_ending(self.alloc, ending)?)
+    }
+
     /// The files of clients.
     fn add_clients(&mut self, clients: &[Text]) -> Result<(), AllocError>
         ensures { OnOk result (self.new ≡ self.old ++ flat_map client_files clients.now) }
     {
         for client in clients {
-            self.push(
-                Access::Read,
-                Role::Said,
-                client.with_ending(self.alloc, ".in")?,
-            )?;
-            self.push(
-                Access::Told,
-                Role::Told,
-                client.with_ending(self.alloc, ".out")?,
-            )?;
+            self.add_ended(Access::Read, Role::Said, client, ".in")?;
+            self.add_ended(Access::Told, Role::Told, client, ".out")?;
         }
         Ok(())
     }
@@ -153,16 +159,8 @@ impl Gathered {
             return Ok(());
         };
         self.add(Access::Port, Role::Port, Some(port))?;
-        self.push(
-            Access::Port,
-            Role::PortIn,
-            port.with_ending(self.alloc, ".in")?,
-        )?;
-        self.push(
-            Access::Read,
-            Role::PortOut,
-            port.with_ending(self.alloc, ".out")?,
-        )
+        self.add_ended(Access::Port, Role::PortIn, port, ".in")?;
+        self.add_ended(Access::Read, Role::PortOut, port, ".out")
     }
 
     /// The files that a job reads or writes beside.

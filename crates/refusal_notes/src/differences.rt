@@ -43,17 +43,19 @@ fn times_in(line: &[u8], port: usize) -> usize {
 
 /// The first link of the switch in the module's line of this number that a line above has, or that
 /// stands twice in it; and the number of the line that has it already.
-fn taken_by(wiring: &[u8], number: usize) -> Option<(usize, usize)> {
+fn taken_by(wiring: &[u8], number: usize) -> Option<Difference> {
     let line = line_at(wiring, number);
-    for port in PORT_WORDS
-        .iter()
-        .filter_map(|place| number_at(line, *place))
-    {
-        if let Some(above) = (2..number).find(|n| times_in(line_at(wiring, *n), port) > 0) {
-            return Some((port, above));
+    for place in &PORT_WORDS {
+        let Some(port) = number_at(line, *place) else {
+            continue;
+        };
+        for above in 2..number {
+            if times_in(line_at(wiring, above), port) > 0 {
+                return Some(Difference::Taken(port, above));
+            }
         }
         if times_in(line, port) > 1 {
-            return Some((port, number));
+            return Some(Difference::Taken(port, number));
         }
     }
     None
@@ -91,8 +93,7 @@ impl Difference {
         if let Some(port) = first_from(line, &PORT_WORDS, PORTS as usize) {
             return Some(Difference::NoPort(port));
         }
-        let (port, above) = taken_by(wiring, number)?;
-        Some(Difference::Taken(port, above))
+        taken_by(wiring, number)
     }
 }
 

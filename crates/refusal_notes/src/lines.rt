@@ -30,10 +30,13 @@ pub(crate) fn number_at(line: &[u8], place: usize) -> Option<usize> {
 
 /// The first of these words of the line that is a number of at least so much.
 pub(crate) fn first_from(line: &[u8], places: &[usize], least: usize) -> Option<usize> {
-    places
-        .iter()
-        .filter_map(|place| number_at(line, *place))
-        .find(|n| *n >= least)
+    for place in places {
+        match number_at(line, *place) {
+            Some(n) if n >= least => return Some(n),
+            _ => {}
+        }
+    }
+    None
 }
 
 /// How many entries the text's first line says that there are.

@@ -15,11 +15,8 @@ impl<'a> Display for Quote<'a> {
         for byte in self.0.iter().take(MAX_QUOTED) {
             write_byte(f, *byte)?;
         }
-        f.write_str(if self.0.len() > MAX_QUOTED {
-            "\".."
-        } else {
-            "\""
-        })
+        let is_cut = self.0.len() > MAX_QUOTED;
+        f.write_str(if is_cut { "\".." } else { "\"" })
     }
 }
 

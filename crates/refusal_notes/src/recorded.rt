@@ -3,7 +3,7 @@
 use crate::line_note::LineNote;
 use crate::lines::{line_after, line_at, number_at, piece};
 use crate::quote::Quote;
-use crate::told::{Named, Note, Texts};
+use crate::told::{Note, Texts};
 use crate::wanted::Wanted;
 use batch::{Batch, BatchFault, Shape, number_before};
 use exchange_limits::MAX_SESSIONS;
@@ -11,7 +11,7 @@ use line_words::{hex8_and_rest, rest_after};
 use refusals::Refusal;
 
 /// The line in which a record is wrong, where this is wanted.
-pub(crate) fn line_wanting<'a>(texts: Texts<'a>, wanted: Wanted<'a>) -> LineNote<'a> {
+pub(crate) fn line_wanting<'a>(texts: &Texts<'a>, wanted: Wanted<'a>) -> LineNote<'a> {
     let named = texts.recorded;
     LineNote {
         named,
@@ -49,14 +49,16 @@ fn wrong_in_head(text: &[u8]) -> (usize, Wanted<'static>) {
         return (1, Wanted::RecordHead);
     };
     let last = clients.saturating_add(2);
-    match (2..last).find(|number| !is_client(text, *number)) {
-        Some(number) => (number, Wanted::Client),
-        None => (last, Wanted::HeadSum),
+    for number in 2..last {
+        if !is_client(text, number) {
+            return (number, Wanted::Client);
+        }
     }
+    (last, Wanted::HeadSum)
 }
 
 /// The first wrong line of a record's head; where a head is due, that which differs from it.
-pub(crate) fn line_of_head<'a>(texts: Texts<'a>) -> LineNote<'a> {
+pub(crate) fn line_of_head<'a>(texts: &Texts<'a>) -> LineNote<'a> {
     let text = texts.recorded.text;
     if texts.due.is_empty() {
         let (number, wanted) = wrong_in_head(text);
@@ -91,16 +93,9 @@ pub(crate) fn note_of_call(note: Note<'_>) -> Option<Note<'_>> {
         Some(BatchFault::Count) => Refusal::BatchLine(line_after(text, text.len())),
         Some(fault) => Refusal::from(fault),
     };
-    let list = Named {
-        name: recorded.name,
-        text,
-    };
     Some(Note {
         refusal,
-        texts: Texts {
-            list,
-            ..Texts::NONE
-        },
+        texts: Texts::of(recorded.name, text, ""),
         above: line_after(recorded.text, offset).saturating_sub(1),
         alloc: note.alloc,
     })

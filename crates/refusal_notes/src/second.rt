@@ -51,16 +51,7 @@ pub fn session_line<'a>(
     ensures text { IfSome result (λ text. IsWholeLine (string_bytes text)) }
     ensures refusal { IfSome result (λ _. refusal ≢ Refusal.NoMemory) }
 {
-    let list = Named {
-        name: "",
-        text: sent,
-    };
-    let texts = Texts {
-        list,
-        shape,
-        ..Texts::NONE
-    };
-    second_line(alloc, refusal, texts)
+    second_line(alloc, refusal, Texts::of("", sent, shape))
 }
 
 /// The line that is told on standard error of a file that can't be read, or opened, for this

@@ -88,12 +88,12 @@ impl<'a> Display for Note<'a> {
             Refusal::HistoryFull =>
                 "is one call too many for the exchange; end the session, and start the program anew",
             Refusal::Line => return self.write_no_command(f),
-            Refusal::RecordHead => return line_of_head(self.texts).fmt(f),
-            Refusal::RecordSum(e) => return line_wanting(self.texts, Wanted::Sum(e)).fmt(f),
-            Refusal::RecordCall(e) => return line_wanting(self.texts, Wanted::Call(e)).fmt(f),
-            Refusal::RecordReply(e) => return line_wanting(self.texts,
+            Refusal::RecordHead => return line_of_head(&self.texts).fmt(f),
+            Refusal::RecordSum(e) => return line_wanting(&self.texts, Wanted::Sum(e)).fmt(f),
+            Refusal::RecordCall(e) => return line_wanting(&self.texts, Wanted::Call(e)).fmt(f),
+            Refusal::RecordReply(e) => return line_wanting(&self.texts,
                 Wanted::Reply(e, Quote(line_at(self.texts.due, 1)))).fmt(f),
-            Refusal::RecordMore => return line_wanting(self.texts, Wanted::End).fmt(f),
+            Refusal::RecordMore => return line_wanting(&self.texts, Wanted::End).fmt(f),
             Refusal::File | Refusal::Port(_) | Refusal::NoMemory => return Ok(()),
         };
         self.write_sent(f, sent)

@@ -85,11 +85,18 @@ impl<'a> Texts<'a> {
         validity: Validity::Unknown,
     };
 
+    /// A list of transfers, and the word of a shape.
+    pub(crate) fn of(name: &'a str, text: &'a [u8], shape: &'a str) -> Texts<'a> {
+        Texts {
+            list: Named { name, text },
+            shape,
+            ..Texts::NONE
+        }
+    }
+
     /// The shape of the rack: the widest where no shape is asked for.
     pub(crate) fn rack(&self) -> Shape {
-        Shape::read(self.shape.as_bytes())
-            .ok()
-            .unwrap_or(Shape::WIDEST)
+        Shape::read(self.shape.as_bytes()).unwrap_or(Shape::WIDEST)
     }
 }
 

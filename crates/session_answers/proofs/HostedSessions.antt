@@ -55,6 +55,10 @@ each_first {A} {B} P rest ys more y each is = each_split P rest y more (subst (�
 pub each_begin : {A B : Type 0} (P : A → B → Type 0) (xs : List A) (ys zs : List B) → zs ≡ ys → AreEach P xs ys → AreEach P xs zs
 each_begin {A} {B} P xs ys zs is each = subst (λ (vs : List B). AreEach P xs vs) (sym is) each
 
+-- from none to all
+pub each_from_none : {A B : Type 0} (P : A → B → Type 0) (xs left : List A) (none ys : List B) → none ≡ [] → left ≡ xs → ((done : List A) → AreEach P done none → AreEach P (done ++ left) ys) → AreEach P xs ys
+each_from_none P xs left none ys empty all each = rw all at each [] (rw empty tt)
+
 -- none is left
 pub all_done : {A : Type 0} (all done rest : List A) → length rest ≡ 0 → done ++ rest ≡ all → done ≡ all
 all_done all done [] none was = sym (append-nil done) ∙ was

@@ -7,7 +7,7 @@ ghost use Rattle.batch_book.specs.Seats.{SeatState};
 ghost use Rattle.batch_book.specs.Values.{greatest};
 ghost use Rattle.session_answers.specs.Hosting.{IsFresh};
 ghost use Rattle.session_answers.specs.HostAnswers.{IsUnhosted};
-ghost use Rattle.session_answers.specs.HostedSessions.{AreEach, IsOfSeat, IsThreadOf, IsReturned, HasReturned, HaveReturned, IsRoomFor, AreAllHosted, begins, is_refused};
+ghost use Rattle.session_answers.specs.HostedSessions.{AreEach, IsOfSeat, IsThreadOf, IsReturned, HasReturned, HaveReturned, IsRoomFor, AreAllHosted, begins};
 
 use crate::client_streams::ClientStreams;
 use crate::ended_session::Ending;
@@ -69,18 +69,6 @@ pub enum SeatThread<'a, L: ExchangeName, D: ClientStreams, K: History> {
     Started(PromisedHandle<Returned<'a, L, D::Receipt>, OfSeat<L, D, K>>),
     /// It couldn't be had. This is what it would give back.
     Refused(Returned<'a, L, D::Receipt>),
-}
-
-/// Whether a seat's thread couldn't be had.
-pub fn is_refused<L: ExchangeName, D: ClientStreams, K: History>(
-    thread: &SeatThread<'_, L, D, K>,
-) -> bool
-    ensures { result ≡ is_refused thread.now }
-{
-    match thread {
-        SeatThread::Started(_) => false,
-        SeatThread::Refused(_) => true,
-    }
 }
 
 /// What is kept of sessions as they end.
@@ -225,22 +213,6 @@ fn start_rest<
     start_rest(scope, context, left, threads)
 }
 
-/// Gives each of these seats a thread, for which there is room.
-fn start_all<'s, E, L: ExchangeName + Send + Sync, R: Runtime, D: ClientStreams, K: History + Send>(
-    scope: &Scope<'s, E>,
-    context: &'s HostContext<'s, L, R, D, K>,
-    seats: Vec<Seat<L>>,
-    threads: Vec<SeatThread<'s, L, D, K>>,
-) -> Vec<SeatThread<'s, L, D, K>>
-    requires empty { threads.items ≡ [] }
-    requires room { length seats.items ≤ vec_capacity threads }
-    requires seats { All (IsFresh context.now.exchange.now) seats.items }
-    ensures { AreEach (IsThreadOf K.loses D.known D.received context.now.exchange.now
-        (D.known context.now.streams.now) context.now.latch.now.id) seats.items result.items }
-{
-    start_rest(scope, context, seats.into_iter(), threads)
-}
-
 /// What comes back from a seat's thread, once it has ended: its session, where this is what was
 /// decided.
 fn join<'s, L: ExchangeName, R: Runtime, D: ClientStreams, K: History>(
@@ -325,7 +297,7 @@ fn host_all<'s, E, L: ExchangeName + Send + Sync, R: Runtime, D: ClientStreams, 
     let Ok(threads) = Vec::with_capacity(context.alloc, seats.len()) else {
         return Err((Refusal::NoMemory, seats));
     };
-    let threads = start_all(scope, context, seats, threads);
+    let threads = start_rest(scope, context, seats.into_iter(), threads);
     let shown = ThreadsStarted::of(threads.as_slice());
     let decided = context.latch.init(context.rt, move || shown);
     let back = join_all(context, threads, &decided, back);

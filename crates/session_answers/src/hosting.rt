@@ -126,7 +126,7 @@ fn has_failed<C>(ending: &Ending<C>) -> bool
 fn any_failed<C>(endings: &[Ending<C>]) -> bool
     ensures { result ≡ list_any has_failed endings.now }
 {
-    endings.iter().any(|ending| has_failed(ending))
+    endings.iter().any(has_failed)
 }
 
 /// Room for how so many sessions end.

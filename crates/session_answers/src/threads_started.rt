@@ -3,7 +3,7 @@ ghost use Rattle.std.specs.List.{list_any};
 ghost use Rattle.session_answers.specs.HostedSessions.{is_refused};
 
 use crate::client_streams::ClientStreams;
-use crate::host_threads::{SeatThread, is_refused};
+use crate::host_threads::SeatThread;
 use batch_book::{ExchangeName, History};
 
 /// Shows that so many threads are there: it is made of them alone.
@@ -20,8 +20,10 @@ impl ThreadsStarted {
         ensures threads { IfSome result (λ there. there.threads ≡ length started.now) }
         ensures all { IfSome result (λ _. list_any is_refused started.now ≡ false) }
     {
-        if started.iter().any(|one| is_refused(one)) {
-            return None;
+        for one in started {
+            if let SeatThread::Refused(_) = one {
+                return None;
+            }
         }
         Some(ThreadsStarted {
             threads: started.len(),

@@ -34,12 +34,14 @@ fn longest(remaining: &Remaining, settings: usize) -> Option<(Link, usize)>
     ensures longest { IfSome result (λ found.
         LimitsSteps remaining.now.counts settings found.0 found.1) }
 {
-    let mut longest: Option<(Link, usize)> = None;
+    let mut longest = None;
+    let mut least = usize::MAX;
     for index in 0..LINKS {
         let link = link_at(index);
         if remaining.side(link.end).uses[link.module] as usize == settings {
             let most = most_with(remaining, link.end, link.module, u32::MAX);
-            if longest.is_none_or(|(_, before)| most < before) {
+            if most < least {
+                least = most;
                 longest = Some((link, most));
             }
         }

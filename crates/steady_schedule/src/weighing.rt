@@ -111,26 +111,12 @@ fn worth(reach: &Reach, full: (u32, u32), before: &Matching, zero: usize, three:
     requires zero { zero < MAX_MODULES }
     requires three { three < MAX_MODULES }
 {
-    let mut worth = JOINED;
-    if has(reach.zero.just[zero], three) {
-        worth += USED_UP;
-    }
-    if before.zero[zero] == Some(three as u8) {
-        worth += STAYS;
-    }
-    if has(reach.zero.needed, zero) {
-        worth += NEEDED;
-    }
-    if has(reach.three.needed, three) {
-        worth += NEEDED;
-    }
-    if has(full.0, zero) {
-        worth = worth.saturating_sub(USED_UP);
-    }
-    if has(full.1, three) {
-        worth = worth.saturating_sub(USED_UP);
-    }
-    worth
+    let used_up = has(reach.zero.just[zero], three) as u32;
+    let stays = (before.zero[zero] == Some(three as u8)) as u32;
+    let needed = has(reach.zero.needed, zero) as u32 + has(reach.three.needed, three) as u32;
+    let idle = has(full.0, zero) as u32 + has(full.1, three) as u32;
+    let worth = JOINED + USED_UP * used_up + STAYS * stays + NEEDED * needed;
+    worth.saturating_sub(USED_UP * idle)
 }
 
 /// Puts in what the pairs of a link 0 are worth.

@@ -6,7 +6,7 @@ ghost use Rattle.link_graph.specs.Uses.{AreApart};
 ghost use Rattle.alternating_path.specs.Counts.{placed_uses};
 ghost use Rattle.row_tests.specs.Counts.{placed_transfers};
 
-use super::prints::prints;
+use super::prints::are_printed;
 use super::texts::{FIRST_FIT_LOSES, THREE_TRANSFERS, graph};
 use alternating_path::{Coloured, InsertFault, Table};
 use link_graph::{LINKS, LinkGraph};
@@ -205,12 +205,16 @@ fn is_refused(alloc: Global, colours: usize) -> bool {
 
 #[test]
 fn more_colours_than_memory(rt: HostRuntime) {
-    assert!(rt; is_refused(rt.alloc(), usize::MAX));
-    assert!(rt; is_refused(rt.alloc(), usize::MAX / LINKS));
+    let alloc = rt.alloc();
+    assert!(rt; is_refused(alloc, usize::MAX) && is_refused(alloc, usize::MAX / LINKS));
 }
+
+const FAULTS: &[(InsertFault, &str)] = &[
+    (InsertFault::NoRoom, "no room"),
+    (InsertFault::Already, "already"),
+];
 
 #[test]
 fn faults_are_printed(rt: HostRuntime) {
-    assert!(rt; prints(rt.alloc(), &InsertFault::NoRoom, "no room"));
-    assert!(rt; prints(rt.alloc(), &InsertFault::Already, "already"));
+    assert!(rt; are_printed(rt.alloc(), FAULTS));
 }

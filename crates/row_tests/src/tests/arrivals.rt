@@ -14,13 +14,13 @@ const APART: &str = "batch 2\npush 0 0 1 0\npush 1 0 0 0\n";
 
 /// A gate that counts how often each worker has come.
 #[derive(Drop)]
-struct CountingGate {
+pub struct CountingGate {
     /// A count for each number, and for 0, which no worker has.
     counts: Vec<AtomicUsize>,
 }
 
 impl CountingGate {
-    fn new(alloc: Global) -> Result<CountingGate, AllocError> {
+    pub fn new(alloc: Global) -> Result<CountingGate, AllocError> {
         let mut counts = Vec::new(alloc);
         for _ in 0..=MAX_WORKERS {
             counts.push(AtomicUsize::new(0))?;
@@ -29,13 +29,21 @@ impl CountingGate {
     }
 
     /// Whether those of the list have come, each as often as it stands there, and nobody else.
-    fn has_seen(&self, arrivals: &[usize]) -> bool {
+    pub fn has_seen(&self, arrivals: &[usize]) -> bool {
         for (place, count) in self.counts.iter().enumerate() {
             if count.load(SeqCst) != count_of(arrivals, place) {
                 return false;
             }
         }
         true
+    }
+
+    /// Whether a worker has come.
+    pub fn has_come(&self, worker: usize) -> bool {
+        match self.counts.get(worker) {
+            Some(count) => count.load(SeqCst) > 0,
+            None => false,
+        }
     }
 }
 
@@ -121,10 +129,11 @@ const NO_LEVEL: &[Arrivals] = &[(64, &[])];
 
 #[test]
 fn arrivals_of_parts(rt: HostRuntime) {
-    assert!(rt; all_come(&rt, FOUR_BY_FOUR, TWO_LEVELS));
-    assert!(rt; all_come(&rt, THREE_TRANSFERS, ONE_LEVEL));
-    assert!(rt; all_come(&rt, "batch 0\n", NO_LEVEL));
-    assert!(rt; all_come(&rt, APART, NO_LEVEL));
+    let come = all_come(&rt, FOUR_BY_FOUR, TWO_LEVELS)
+        && all_come(&rt, THREE_TRANSFERS, ONE_LEVEL)
+        && all_come(&rt, "batch 0\n", NO_LEVEL)
+        && all_come(&rt, APART, NO_LEVEL);
+    assert!(rt; come);
 }
 
 /// Eight uses of a link by as many transfers: three levels of halves, of four transfers, two and
@@ -159,7 +168,8 @@ const SIX_LEVELS: &[Arrivals] = &[(
 
 #[test]
 fn arrivals_of_equal_transfers(rt: HostRuntime) {
-    assert!(rt; all_come_to_equal(&rt, 2, ONE_LEVEL));
-    assert!(rt; all_come_to_equal(&rt, 8, THREE_LEVELS));
-    assert!(rt; all_come_to_equal(&rt, 64, SIX_LEVELS));
+    let come = all_come_to_equal(&rt, 2, ONE_LEVEL)
+        && all_come_to_equal(&rt, 8, THREE_LEVELS)
+        && all_come_to_equal(&rt, 64, SIX_LEVELS);
+    assert!(rt; come);
 }

@@ -4,7 +4,7 @@ ghost use Rattle.batch.specs.Extent.{extent, widest};
 ghost use Rattle.batch.specs.ShapeText.{shape_text};
 ghost use Rattle.batch.specs.Rows.{pull, three_transfers, three_transfers_text};
 
-use super::prints::prints;
+use super::prints::{are_printed, prints};
 use super::texts::{THREE_TRANSFERS, read};
 use batch::{
     BatchFault, MAX_BLOCKS, MAX_DIGITS, MAX_MODULES, MAX_TRANSFERS, MAX_WORDS, ShapeFault,
@@ -42,24 +42,30 @@ fn three_transfers(rt: HostRuntime) {
 #[test]
 fn batches_are_compared(rt: HostRuntime) {
     let pull = "batch 1\npull 0 0 1 0\n";
-    assert!(rt; are_equal(rt.alloc(), THREE_TRANSFERS, THREE_TRANSFERS) == Some(true));
-    assert!(rt; are_equal(rt.alloc(), THREE_TRANSFERS, pull) == Some(false));
-    assert!(rt; are_equal(rt.alloc(), "batch 1\npush 0 0 1 0\n", pull) == Some(false));
+    let alloc = rt.alloc();
+    let are_told_apart = are_equal(alloc, THREE_TRANSFERS, THREE_TRANSFERS) == Some(true)
+        && are_equal(alloc, THREE_TRANSFERS, pull) == Some(false)
+        && are_equal(alloc, "batch 1\npush 0 0 1 0\n", pull) == Some(false);
+    assert!(rt; are_told_apart);
 }
 
 #[test]
 fn sizes_have_numbers(rt: HostRuntime) {
-    assert!(rt; MAX_MODULES == 32 && MAX_BLOCKS == 64 && MAX_WORDS == 256);
-    assert!(rt; MAX_TRANSFERS == 4096 && MAX_DIGITS == 9);
+    let are_shapes = MAX_MODULES == 32 && MAX_BLOCKS == 64 && MAX_WORDS == 256;
+    assert!(rt; are_shapes && MAX_TRANSFERS == 4096 && MAX_DIGITS == 9);
 }
+
+const FAULTS: &[(BatchFault, &str)] = &[
+    (BatchFault::Line(2), "line 2"),
+    (BatchFault::TooMany, "too many"),
+    (BatchFault::NoModule(0), "no module 0"),
+    (BatchFault::NoBlock(7), "no block 7"),
+    (BatchFault::Count, "count"),
+    (BatchFault::NoMemory, "no memory"),
+];
 
 #[test]
 fn faults_are_printed(rt: HostRuntime) {
-    assert!(rt; prints(rt.alloc(), &BatchFault::Line(2), "line 2"));
-    assert!(rt; prints(rt.alloc(), &BatchFault::TooMany, "too many"));
-    assert!(rt; prints(rt.alloc(), &BatchFault::NoModule(0), "no module 0"));
-    assert!(rt; prints(rt.alloc(), &BatchFault::NoBlock(7), "no block 7"));
-    assert!(rt; prints(rt.alloc(), &BatchFault::Count, "count"));
-    assert!(rt; prints(rt.alloc(), &BatchFault::NoMemory, "no memory"));
-    assert!(rt; prints(rt.alloc(), &ShapeFault::BadShape, "bad shape"));
+    let alloc = rt.alloc();
+    assert!(rt; are_printed(alloc, FAULTS) && prints(alloc, &ShapeFault::BadShape, "bad shape"));
 }

@@ -1,29 +1,25 @@
 //! The worked rows, ports, answers and printed faults.
 
-use super::prints::prints;
+use super::prints::{are_printed, prints};
 use c004_commands::{
     AnswerFormat, CONNECTED, Command, CommandFault, CommandReader, LONGEST_COMMAND, OutputState,
     PORTS, PortNo, write,
 };
 
-/// Whether a reader gives this command at a byte, and is at rest then.
-fn gives(reader: &mut CommandReader, byte: u8, command: Command) -> bool {
-    reader.feed(byte) == Ok(Some(command)) && reader.at_rest()
-}
-
-/// Whether a reader takes two bytes of a command, gives nothing, and isn't at rest then.
-fn begins(reader: &mut CommandReader, bytes: [u8; 2]) -> bool {
-    let [first, second] = bytes;
-    reader.feed(first) == Ok(None) && reader.feed(second) == Ok(None) && !reader.at_rest()
+/// Whether a new reader gives nothing at two bytes of a command, and isn't at rest then, and gives
+/// this join at the third, and is.
+fn joins_at_third(link1: PortNo, link2: PortNo) -> bool {
+    let mut reader = CommandReader::new();
+    reader.feed(0x01) == Ok(None)
+        && reader.feed(0x00) == Ok(None)
+        && !reader.at_rest()
+        && reader.feed(0x11) == Ok(Some(Command::Join { link1, link2 }))
+        && reader.at_rest()
 }
 
 #[test]
 fn half_command(rt: HostRuntime) {
-    let mut reader = CommandReader::new();
-    assert!(rt; begins(&mut reader, [0x01, 0x00]));
-    let link1 = PortNo::new(0).unwrap();
-    let link2 = PortNo::new(17).unwrap();
-    assert!(rt; gives(&mut reader, 0x11, Command::Join { link1, link2 }));
+    assert!(rt; joins_at_third(PortNo::new(0).unwrap(), PortNo::new(17).unwrap()));
 }
 
 /// Whether a command is written by so many bytes, with zeros after them.
@@ -55,30 +51,20 @@ fn others_are_written(output: PortNo) -> bool {
 fn written_commands(rt: HostRuntime) {
     let three = PortNo::new(3).unwrap();
     let seven = PortNo::new(7).unwrap();
-    assert!(rt; connections_are_written(three, seven));
-    assert!(rt; others_are_written(seven));
+    assert!(rt; connections_are_written(three, seven) && others_are_written(seven));
 }
 
 #[test]
 fn named_sizes(rt: HostRuntime) {
-    assert!(rt; PORTS == 32 && CONNECTED == 0x80 && LONGEST_COMMAND == 3);
-    assert!(rt; PortNo::new(PORTS).is_none() && PortNo::new(PORTS - 1).unwrap().get() == 31);
+    let are_sizes = PORTS == 32 && CONNECTED == 0x80 && LONGEST_COMMAND == 3;
+    let last = PortNo::new(PORTS - 1).unwrap();
+    assert!(rt; are_sizes && PortNo::new(PORTS).is_none() && last.get() == 31);
 }
 
-/// Whether all these bytes answer that an output is loose.
-fn are_loose(bytes: &[u8]) -> bool {
+/// Whether each of these bytes is read so.
+fn are_read(bytes: &[u8], wanted: Result<OutputState, AnswerFormat>) -> bool {
     for byte in bytes {
-        if OutputState::read(*byte) != Ok(OutputState::Loose) {
-            return false;
-        }
-    }
-    true
-}
-
-/// Whether none of these bytes is an answer.
-fn are_refused(bytes: &[u8]) -> bool {
-    for byte in bytes {
-        if OutputState::read(*byte) != Err(AnswerFormat::BadAnswer) {
+        if OutputState::read(*byte) != wanted {
             return false;
         }
     }
@@ -88,18 +74,24 @@ fn are_refused(bytes: &[u8]) -> bool {
 #[test]
 fn answers(rt: HostRuntime) {
     let input = PortNo::new(17).unwrap();
-    assert!(rt; OutputState::read(0x91) == Ok(OutputState::Connected(input)));
-    assert!(rt; are_loose(&[0x00, 0x60]));
-    assert!(rt; are_refused(&[0xa0, 0xc0]));
+    let are_answers = are_read(&[0x91], Ok(OutputState::Connected(input)))
+        && are_read(&[0x00, 0x60], Ok(OutputState::Loose))
+        && are_read(&[0xa0, 0xc0], Err(AnswerFormat::BadAnswer));
+    assert!(rt; are_answers);
 }
+
+const COMMAND_FAULTS: &[(CommandFault, &str)] = &[
+    (
+        CommandFault::UnknownCommand(7),
+        "no command begins with the byte 7",
+    ),
+    (CommandFault::BadPort(32), "no port has the number 32"),
+];
 
 #[test]
 fn faults_are_printed(rt: HostRuntime) {
     let alloc = rt.alloc();
-    let unknown = CommandFault::UnknownCommand(7);
-    assert!(rt; prints(alloc, &unknown, "no command begins with the byte 7"));
-    let port = CommandFault::BadPort(32);
-    assert!(rt; prints(alloc, &port, "no port has the number 32"));
     let text = "the answer names an input that the switch doesn't have";
-    assert!(rt; prints(alloc, &AnswerFormat::BadAnswer, text));
+    let is_printed = prints(alloc, &AnswerFormat::BadAnswer, text);
+    assert!(rt; is_printed && are_printed(alloc, COMMAND_FAULTS));
 }

@@ -30,13 +30,18 @@ fn has_fault(reader: &mut BitReader, bits: &[bool], last: bool) -> bool {
         && reader.feed(false) == Err(LinkFault::Framing)
 }
 
+/// Whether a new reader gives row frame-of-five by its first bits and the last, an acknowledge, and
+/// a fault where another bit is the last.
+fn is_read(bits: &[bool]) -> bool {
+    let mut reader = BitReader::new();
+    gives(&mut reader, bits, false, Packet::Byte(5))
+        && gives(&mut reader, &[true], false, Packet::Ack)
+        && has_fault(&mut reader, bits, true)
+}
+
 #[test]
 fn frame_of_five(rt: HostRuntime) {
-    assert!(rt; frame(5) == FIVE);
-    let mut reader = BitReader::new();
-    assert!(rt; gives(&mut reader, &FIVE[..10], false, Packet::Byte(5)));
-    assert!(rt; gives(&mut reader, &[true], false, Packet::Ack));
-    assert!(rt; has_fault(&mut reader, &FIVE[..10], true));
+    assert!(rt; frame(5) == FIVE && is_read(&FIVE[..10]));
 }
 
 #[test]
@@ -44,23 +49,20 @@ fn named_sizes(rt: HostRuntime) {
     assert!(rt; DATA_BITS == 8 && FRAME_BITS == 11 && ACK == [true, false]);
 }
 
-/// Whether an end of a link sends one byte at a time.
-fn is_sent_in_turn(link: &mut HalfLink) -> bool {
-    link.send(5) == Ok(frame(5)) && link.send(6) == Err(LinkFault::Busy)
-}
-
-/// Whether it takes just one acknowledge then, and a byte.
-fn is_acknowledged_once(link: &mut HalfLink) -> bool {
-    link.take(Packet::Ack) == Ok(None)
+/// Whether a new end of a link sends one byte at a time, takes just one acknowledge then, and a
+/// byte.
+fn takes_turns() -> bool {
+    let mut link = HalfLink::new();
+    link.send(5) == Ok(frame(5))
+        && link.send(6) == Err(LinkFault::Busy)
+        && link.take(Packet::Ack) == Ok(None)
         && link.take(Packet::Ack) == Err(LinkFault::StrayAck)
         && link.take(Packet::Byte(9)) == Ok(Some(9))
 }
 
 #[test]
 fn half_link(rt: HostRuntime) {
-    let mut link = HalfLink::new();
-    assert!(rt; is_sent_in_turn(&mut link));
-    assert!(rt; is_acknowledged_once(&mut link));
+    assert!(rt; takes_turns());
 }
 
 #[test]

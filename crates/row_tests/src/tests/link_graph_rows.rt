@@ -8,7 +8,7 @@ ghost use Rattle.link_graph.specs.Certificates.{naming};
 ghost use Rattle.link_graph.specs.Rows.{two_settings, two_named, two_settings_text, certified_text, empty_text};
 ghost use Rattle.link_graph.specs.ScheduleText.{schedule_text, text_with};
 
-use super::prints::prints;
+use super::prints::are_printed;
 use link_graph::laws::link_order;
 use link_graph::{Certificate, CheckFault, End, LINKS, Link, Schedule, ScheduleFault};
 use std::alloc::Global;
@@ -45,21 +45,22 @@ const FIRST: Link = Link {
 const CERTIFIED: &[u8] =
     b"settings 2\nsetting 0 2\nsetting 1\nbusiest link 0 module 0\nnamed 0 1\n";
 
-/// Whether two texts say equal schedules, and whether they say equal certificates.
-fn are_equal(alloc: Global, one: &[u8], other: &[u8]) -> Option<(bool, bool)> {
-    let (schedule, certificate) = Schedule::read(alloc, one).ok()?;
-    let (other_schedule, other_certificate) = Schedule::read(alloc, other).ok()?;
-    Some((schedule == other_schedule, certificate == other_certificate))
+/// Whether a text says the schedule of `CERTIFIED`, and whether it says its certificate.
+fn are_equal(alloc: Global, text: &[u8]) -> Option<(bool, bool)> {
+    let (schedule, certificate) = Schedule::read(alloc, text).ok()?;
+    let (certified, its_certificate) = Schedule::read(alloc, CERTIFIED).ok()?;
+    Some((schedule == certified, certificate == its_certificate))
 }
 
 #[test]
 fn schedules_and_certificates_are_compared(rt: HostRuntime) {
     let alloc = rt.alloc();
-    assert!(rt; are_equal(alloc, CERTIFIED, CERTIFIED) == Some((true, true)));
     let turned = b"settings 2\nsetting 2 0\nsetting 1\nbusiest link 0 module 0\nnamed 0 1\n";
-    assert!(rt; are_equal(alloc, CERTIFIED, turned) == Some((false, true)));
     let named = b"settings 2\nsetting 0 2\nsetting 1\nbusiest link 0 module 0\nnamed 0 2\n";
-    assert!(rt; are_equal(alloc, CERTIFIED, named) == Some((true, false)));
+    let are_compared = are_equal(alloc, CERTIFIED) == Some((true, true))
+        && are_equal(alloc, turned) == Some((false, true))
+        && are_equal(alloc, named) == Some((true, false));
+    assert!(rt; are_compared);
 }
 
 /// Reads a text, and writes what it says: the same text.
@@ -78,33 +79,44 @@ fn is_copied(alloc: Global, text: &[u8]) -> bool {
     }
 }
 
+const TEXTS: &[&[u8]] = &[
+    CERTIFIED,
+    b"settings 2\nsetting 0 2\nsetting 1\n",
+    b"settings 0\n",
+    b"settings 0\nbusiest none\n",
+    b"settings 2\nsetting\nsetting 999999999\nbusiest link 3 module 15\nnamed 0\n",
+];
+
 #[test]
 fn texts_are_written_as_they_were_read(rt: HostRuntime) {
-    let alloc = rt.alloc();
-    assert!(rt; is_copied(alloc, CERTIFIED));
-    assert!(rt; is_copied(alloc, b"settings 2\nsetting 0 2\nsetting 1\n"));
-    assert!(rt; is_copied(alloc, b"settings 0\n"));
-    assert!(rt; is_copied(alloc, b"settings 0\nbusiest none\n"));
-    let text = b"settings 2\nsetting\nsetting 999999999\nbusiest link 3 module 15\nnamed 0\n";
-    assert!(rt; is_copied(alloc, text));
+    for text in TEXTS {
+        assert!(rt; is_copied(rt.alloc(), text));
+    }
 }
+
+const CHECK_FAULTS: &[(CheckFault, &str)] = &[
+    (CheckFault::Unknown(3), "unknown 3"),
+    (CheckFault::Repeated(2), "repeated 2"),
+    (CheckFault::Missing(2), "missing 2"),
+    (
+        CheckFault::Clash(0, FIRST),
+        "clash in setting 0 at link 0 module 0",
+    ),
+    (CheckFault::WrongLink(2), "wrong link 2"),
+    (CheckFault::CertificateRepeats(0), "certificate repeats 0"),
+    (CheckFault::NotTight(3, 2), "not tight: 3 settings, 2 named"),
+    (CheckFault::NoMemory, "no memory"),
+];
+
+const SCHEDULE_FAULTS: &[(ScheduleFault, &str)] = &[
+    (ScheduleFault::Line(3), "line 3"),
+    (ScheduleFault::NoMemory, "no memory"),
+];
 
 #[test]
 fn faults_are_printed(rt: HostRuntime) {
     let alloc = rt.alloc();
-    assert!(rt; prints(alloc, &CheckFault::Unknown(3), "unknown 3"));
-    assert!(rt; prints(alloc, &CheckFault::Repeated(2), "repeated 2"));
-    assert!(rt; prints(alloc, &CheckFault::Missing(2), "missing 2"));
-    let clash = CheckFault::Clash(0, FIRST);
-    assert!(rt; prints(alloc, &clash, "clash in setting 0 at link 0 module 0"));
-    assert!(rt; prints(alloc, &CheckFault::WrongLink(2), "wrong link 2"));
-    let repeats = CheckFault::CertificateRepeats(0);
-    assert!(rt; prints(alloc, &repeats, "certificate repeats 0"));
-    let loose = CheckFault::NotTight(3, 2);
-    assert!(rt; prints(alloc, &loose, "not tight: 3 settings, 2 named"));
-    assert!(rt; prints(alloc, &CheckFault::NoMemory, "no memory"));
-    assert!(rt; prints(alloc, &ScheduleFault::Line(3), "line 3"));
-    assert!(rt; prints(alloc, &ScheduleFault::NoMemory, "no memory"));
+    assert!(rt; are_printed(alloc, CHECK_FAULTS) && are_printed(alloc, SCHEDULE_FAULTS));
 }
 
 #[test]
@@ -113,8 +125,8 @@ fn links_are_counted(rt: HostRuntime) {
         end: End::Three,
         module: 31,
     };
-    assert!(rt; LINKS == 64 && FIRST.index() == 0 && last.index() == 63);
-    assert!(rt; End::Zero.number() == 0 && End::Three.number() == 3);
+    let are_indices = LINKS == 64 && FIRST.index() == 0 && last.index() == 63;
+    assert!(rt; are_indices && End::Zero.number() == 0 && End::Three.number() == 3);
 }
 
 #[test]
@@ -127,6 +139,5 @@ fn links_are_ordered(rt: HostRuntime) {
         end: End::Three,
         module: 0,
     };
-    assert!(rt; link_order(last_start, first_answer));
-    assert!(rt; !link_order(first_answer, last_start));
+    assert!(rt; link_order(last_start, first_answer) && !link_order(first_answer, last_start));
 }

@@ -6,7 +6,8 @@ ghost use Rattle.module_orders.specs.OrdersText.{orders_text};
 ghost use Rattle.row_tests.specs.Rows.{empty_orders, first_orders, swap, swap_orders, turned_orders, three_transfers_orders};
 
 use super::texts::read;
-use link_graph::{End, Schedule};
+use batch::Batch;
+use link_graph::{Certificate, End, Schedule};
 use module_orders::{Act, Order, RackOrders};
 use schedule_picture::standing_of;
 use std::alloc::Global;
@@ -27,12 +28,22 @@ fn the_definitions_spell_the_rows()
     ensures none { orders_text (told_to None (orders_of [] [])) ≡ empty_orders }
 {}
 
-/// The orders of a text's batch for the schedule of another.
+/// The orders of a batch for a schedule of it.
+fn orders_by(
+    alloc: Global,
+    batch: &Batch,
+    schedule: &Schedule,
+    certificate: Option<&Certificate>,
+) -> Option<RackOrders> {
+    standing_of(alloc, batch, schedule, certificate).ok()?;
+    RackOrders::of(alloc, batch, schedule).ok()
+}
+
+/// The same of texts.
 fn orders_for(alloc: Global, batch: &str, schedule: &str) -> Option<RackOrders> {
     let batch = read(alloc, batch)?;
     let (schedule, certificate) = Schedule::read(alloc, schedule.as_bytes()).ok()?;
-    standing_of(alloc, &batch, &schedule, certificate.as_ref()).ok()?;
-    RackOrders::of(alloc, &batch, &schedule).ok()
+    orders_by(alloc, &batch, &schedule, certificate.as_ref())
 }
 
 /// Whether a module is told just these orders.
@@ -101,8 +112,10 @@ setting 2 link 0 send copy 0
 #[test]
 fn orders_are_written(rt: HostRuntime) {
     let alloc = rt.alloc();
-    assert!(rt; is_written(alloc, None, TURNED) == Some(true));
-    assert!(rt; is_written(alloc, Some(1), TURNED_ONE) == Some(true));
-    assert!(rt; is_written(alloc, Some(2), "modules 0 settings 3\n") == Some(true));
-    assert!(rt; is_written(alloc, Some(32), "modules 0 settings 3\n") == Some(true));
+    let none = "modules 0 settings 3\n";
+    let are_written = is_written(alloc, None, TURNED) == Some(true)
+        && is_written(alloc, Some(1), TURNED_ONE) == Some(true)
+        && is_written(alloc, Some(2), none) == Some(true)
+        && is_written(alloc, Some(32), none) == Some(true);
+    assert!(rt; are_written);
 }

@@ -1,8 +1,9 @@
 //! The worked rows of messages, named sizes and printed faults. What goes over wires is tested in
 //! `runs`.
 
-use super::prints::prints;
-use super::racks::{marked_rack, place};
+use super::prints::{are_printed, prints};
+use super::racks::marked_rack;
+use batch::Place;
 use module_memory::{MemoryFault, Rack, Rest};
 use peek_poke::{
     AnswerFault, Answerer, HeldStore, PEEK, PEEK_BYTES, POKE, POKE_BYTES, REPLY_BYTES, StoreFault,
@@ -59,17 +60,12 @@ fn is_poked_and_peeked(store: &mut Window) -> bool {
     ) && answerer.at_rest()
 }
 
-/// Whether this is the first word of a rack.
-fn begins_with(rack: &Rack, word: u32) -> bool {
-    rack.read(0, 0x8000_0800) == Ok(word)
-}
-
 /// Whether that is so in a rack `1x1x1`, and the rack has the word then.
 fn rack_has_poked_word(alloc: Global) -> bool {
     match only_module(alloc, 1) {
         Some(mut store) => {
             let moved = is_poked_and_peeked(&mut store);
-            begins_with(&store.into_rack(), 0x1234_5678) && moved
+            store.into_rack().read(0, 0x8000_0800) == Ok(0x1234_5678) && moved
         }
         None => false,
     }
@@ -84,8 +80,9 @@ fn poke_then_peek(rt: HostRuntime) {
 /// contracts of `push_word` and `pull_word`.
 #[test]
 fn words_go_as_messages(rt: HostRuntime) {
-    assert!(rt; poke_bytes(0x8000_0804, 0x1234_5678) == [0, 4, 8, 0, 0x80, 0x78, 0x56, 0x34, 0x12]);
-    assert!(rt; peek_bytes(0x8000_0804) == [1, 4, 8, 0, 0x80]);
+    let is_poked = poke_bytes(0x8000_0804, 0x1234_5678)
+        == [0, 4, 8, 0, 0x80, 0x78, 0x56, 0x34, 0x12];
+    assert!(rt; is_poked && peek_bytes(0x8000_0804) == [1, 4, 8, 0, 0x80]);
 }
 
 /// Whether an answering end refuses a boot, and then all bytes.
@@ -120,31 +117,37 @@ fn answerer_faults(rt: HostRuntime) {
 
 #[test]
 fn messages_have_their_sizes(rt: HostRuntime) {
-    assert!(rt; POKE == 0 && PEEK == 1);
-    assert!(rt; POKE_BYTES == 9 && PEEK_BYTES == 5 && REPLY_BYTES == 4);
+    let are_sizes = POKE_BYTES == 9 && PEEK_BYTES == 5 && REPLY_BYTES == 4;
+    assert!(rt; POKE == 0 && PEEK == 1 && are_sizes);
 }
 
-/// Whether faults of the answering end are printed.
-fn answer_faults_are_printed(alloc: Global) -> bool {
-    prints(
-        alloc,
-        &AnswerFault::Boot(2),
-        "no bootstrap is taken, of 2 bytes",
-    ) && prints(alloc, &AnswerFault::Failed, "the answering end has failed")
-}
+const ANSWER_FAULTS: &[(AnswerFault, &str)] = &[
+    (AnswerFault::Boot(2), "no bootstrap is taken, of 2 bytes"),
+    (AnswerFault::Failed, "the answering end has failed"),
+];
 
 #[test]
 fn faults_are_printed(rt: HostRuntime) {
     let alloc = rt.alloc();
-    assert!(rt; answer_faults_are_printed(alloc));
-    let text = "the address is outside the store";
-    assert!(rt; prints(alloc, &StoreFault::Outside, text));
-    assert!(rt; prints(alloc, &WireFault, "the wire failed"));
+    let are_all_printed = are_printed(alloc, ANSWER_FAULTS)
+        && prints(
+            alloc,
+            &StoreFault::Outside,
+            "the address is outside the store",
+        )
+        && prints(alloc, &WireFault, "the wire failed");
+    assert!(rt; are_all_printed);
 }
 
-/// Whether the only block of module 1 of a marked rack `2x1x1` is peeked in the hold window alone.
+/// The only block of module 1 of a rack `2x1x1`.
+const HELD: Place = Place {
+    module: 1,
+    block: 0,
+};
+
+/// Whether that block of a marked rack is peeked in the hold window alone.
 fn is_held_in_window(rest: &Rest) -> bool {
-    match HeldStore::of(rest, place(1, 0)) {
+    match HeldStore::of(rest, HELD) {
         Some(mut store) => {
             answers(
                 &mut Answerer::new(),
@@ -160,7 +163,7 @@ fn is_held_in_window(rest: &Rest) -> bool {
 
 /// Whether that is so where the block is lent and held.
 fn is_lent_and_held(rack: Rack) -> bool {
-    match rack.part(&[place(1, 0)], &[place(1, 0)]) {
+    match rack.part(&[HELD], &[HELD]) {
         Ok(parted) => is_held_in_window(&parted.rest),
         Err(_) => false,
     }

@@ -2,7 +2,7 @@
 
 use super::texts::read;
 use exchange_limits::WorkerCount;
-use schedule_certificate::{Gate, Planned, schedule};
+use schedule_certificate::{Gate, schedule};
 use std::thread::Threads;
 
 /// What is told of a plan: how many settings it has, and how many transfers were put back.
@@ -10,14 +10,6 @@ use std::thread::Threads;
 pub struct Plan {
     pub settings: usize,
     pub reinserted: usize,
-}
-
-/// What is told of this plan.
-fn plan_of(planned: &Planned) -> Plan {
-    Plan {
-        settings: planned.schedule().settings(),
-        reinserted: planned.reinserted(),
-    }
 }
 
 /// The plan of a batch text by so many workers, at least one and at most 64, who come to this gate.
@@ -30,7 +22,10 @@ pub fn plan_at<R: AllocGlobal + Threads + Sync, G: Gate>(
     let workers = WorkerCount::new(workers)?;
     let batch = read(rt.alloc(), text)?;
     match schedule(rt, rt.alloc(), batch, workers, gate) {
-        Ok(planned) => Some(plan_of(&planned)),
+        Ok(planned) => Some(Plan {
+            settings: planned.schedule().settings(),
+            reinserted: planned.reinserted(),
+        }),
         Err(_) => None,
     }
 }

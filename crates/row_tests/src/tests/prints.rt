@@ -10,3 +10,13 @@ pub fn prints<T: Display>(alloc: Global, value: &T, text: &str) -> bool {
         Err(_) => false,
     }
 }
+
+/// Whether each of these values is printed as the text beside it.
+pub fn are_printed<T: Display>(alloc: Global, rows: &[(T, &str)]) -> bool {
+    for (value, text) in rows {
+        if !prints(alloc, value, text) {
+            return false;
+        }
+    }
+    true
+}

@@ -95,10 +95,9 @@ fn put_back_none_of_most<R: AllocGlobal + Threads + Sync>(rt: &R) -> bool {
 
 #[test]
 fn reinsertions(rt: HostRuntime) {
-    assert!(rt; put_back_at_most(&rt, THREE_BY_THREE, 3, 2));
-    assert!(rt; put_back_none_of_most(&rt));
-    for workers in [2, 3, 16, 64] {
-        assert!(rt; put_back_as_many(&rt, workers), "{workers}");
+    assert!(rt; put_back_at_most(&rt, THREE_BY_THREE, 3, 2) && put_back_none_of_most(&rt));
+    for workers in &[2, 3, 16, 64] {
+        assert!(rt; put_back_as_many(&rt, *workers), "{workers}");
     }
 }
 
@@ -133,6 +132,11 @@ impl PairGate {
         }
         self.gave_up.store(true, SeqCst);
     }
+
+    /// Whether both have come, and neither waited for too long.
+    fn has_met(&self) -> bool {
+        self.first.load(SeqCst) && self.second.load(SeqCst) && !self.gave_up.load(SeqCst)
+    }
 }
 
 impl Gate for PairGate {
@@ -148,10 +152,7 @@ impl Gate for PairGate {
 #[test]
 fn both_halves_at_once(rt: HostRuntime) {
     let gate = PairGate::new();
-    assert!(rt; plan_at(&rt, FOUR_BY_FOUR, 2, &gate) == Some(PLAN_OF_FOUR));
-    assert!(rt; gate.first.load(SeqCst));
-    assert!(rt; gate.second.load(SeqCst));
-    assert!(rt; !gate.gave_up.load(SeqCst));
+    assert!(rt; plan_at(&rt, FOUR_BY_FOUR, 2, &gate) == Some(PLAN_OF_FOUR) && gate.has_met());
 }
 
 /// How often the first worker looks whether the second has come before it.
@@ -220,9 +221,6 @@ impl Gate for QuarterGate {
 #[test]
 fn quarters_at_once(rt: HostRuntime) {
     let gate = QuarterGate::new();
-    assert!(rt; plan_at(&rt, FOUR_BY_FOUR, 4, &gate) == Some(PLAN_OF_FOUR));
-    assert!(rt; gate.pair.first.load(SeqCst));
-    assert!(rt; gate.pair.second.load(SeqCst));
-    assert!(rt; !gate.pair.gave_up.load(SeqCst));
-    assert!(rt; !gate.out_of_order.load(SeqCst));
+    let is_planned = plan_at(&rt, FOUR_BY_FOUR, 4, &gate) == Some(PLAN_OF_FOUR);
+    assert!(rt; is_planned && gate.pair.has_met() && !gate.out_of_order.load(SeqCst));
 }

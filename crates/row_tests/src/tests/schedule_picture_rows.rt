@@ -9,7 +9,8 @@ ghost use Rattle.batch.specs.declared.transfer.Kind.TheVariants.{Pull, Push};
 ghost use Rattle.row_tests.specs.Rows.{of_three_transfers, of_empty_batch};
 
 use super::texts::{THREE_TRANSFERS, read};
-use link_graph::Schedule;
+use batch::Batch;
+use link_graph::{Certificate, Schedule};
 use schedule_picture::{standing_of, verdict_on};
 use std::alloc::Global;
 
@@ -49,33 +50,63 @@ fn the_definitions_say_changes()
 /// Link 0 of module 0 has three transfers, and two partners: the links 3 of modules 1 and 2.
 const TWO_PARTNERS: &str = "batch 3\npush 0 0 1 0\npush 0 1 1 1\npush 0 2 2 0\n";
 
-/// How often the schedule of a text changes the switch, and how many partners a link of the batch
-/// has.
-fn changes_of(alloc: Global, batch: &str, schedule: &str) -> Option<(usize, usize)> {
-    let batch = read(alloc, batch)?;
-    let (schedule, certificate) = Schedule::read(alloc, schedule.as_bytes()).ok()?;
-    let certificate = certificate.as_ref();
-    let standing = standing_of(alloc, &batch, &schedule, certificate).ok()?;
-    let verdict = verdict_on(alloc, &batch, &schedule, certificate, standing).ok()?;
+/// How often a schedule changes the switch, and how many partners a link of the batch has.
+fn changes_by(
+    alloc: Global,
+    batch: &Batch,
+    schedule: &Schedule,
+    certificate: Option<&Certificate>,
+) -> Option<(usize, usize)> {
+    let standing = standing_of(alloc, batch, schedule, certificate).ok()?;
+    let verdict = verdict_on(alloc, batch, schedule, certificate, standing).ok()?;
     Some((verdict.changes, verdict.partners))
 }
 
+/// The same of texts.
+fn changes_of(alloc: Global, batch: &str, schedule: &str) -> Option<(usize, usize)> {
+    let batch = read(alloc, batch)?;
+    let (schedule, certificate) = Schedule::read(alloc, schedule.as_bytes()).ok()?;
+    changes_by(alloc, &batch, &schedule, certificate.as_ref())
+}
+
+/// Texts of batches and of schedules, with how often these change the switch, and how many partners
+/// a link of the batch has.
+const COUNTS: &[(&str, &str, (usize, usize))] = &[
+    ("batch 0\n", "settings 0\n", (0, 0)),
+    // The switch stays as it is for the second transfer from module 0 to module 1.
+    (
+        TWO_PARTNERS,
+        "settings 3\nsetting 0\nsetting 1\nsetting 2\n",
+        (2, 2),
+    ),
+    // Here it is set back for that.
+    (
+        TWO_PARTNERS,
+        "settings 3\nsetting 0\nsetting 2\nsetting 1\n",
+        (3, 2),
+    ),
+    // Each of the three transfers joins another pair of links. Two of them can stand together.
+    (
+        THREE_TRANSFERS,
+        "settings 2\nsetting 0 2\nsetting 1\n",
+        (2, 2),
+    ),
+    (
+        THREE_TRANSFERS,
+        "settings 3\nsetting 0\nsetting 1\nsetting 2\n",
+        (3, 2),
+    ),
+    // A setting that joins nothing counts as well.
+    (
+        THREE_TRANSFERS,
+        "settings 4\nsetting\nsetting 2 0\nsetting\nsetting 1\n",
+        (4, 2),
+    ),
+];
+
 #[test]
 fn changes_are_counted(rt: HostRuntime) {
-    let alloc = rt.alloc();
-    assert!(rt; changes_of(alloc, "batch 0\n", "settings 0\n") == Some((0, 0)));
-    // The switch stays as it is for the second transfer from module 0 to module 1.
-    let together = "settings 3\nsetting 0\nsetting 1\nsetting 2\n";
-    assert!(rt; changes_of(alloc, TWO_PARTNERS, together) == Some((2, 2)));
-    // Here it is set back for that.
-    let parted = "settings 3\nsetting 0\nsetting 2\nsetting 1\n";
-    assert!(rt; changes_of(alloc, TWO_PARTNERS, parted) == Some((3, 2)));
-    // Each of the three transfers joins another pair of links. Two of them can stand together.
-    let two = "settings 2\nsetting 0 2\nsetting 1\n";
-    assert!(rt; changes_of(alloc, THREE_TRANSFERS, two) == Some((2, 2)));
-    let three = "settings 3\nsetting 0\nsetting 1\nsetting 2\n";
-    assert!(rt; changes_of(alloc, THREE_TRANSFERS, three) == Some((3, 2)));
-    // A setting that joins nothing counts as well.
-    let four = "settings 4\nsetting\nsetting 2 0\nsetting\nsetting 1\n";
-    assert!(rt; changes_of(alloc, THREE_TRANSFERS, four) == Some((4, 2)));
+    for (batch, schedule, counts) in COUNTS {
+        assert!(rt; changes_of(rt.alloc(), batch, schedule) == Some(*counts));
+    }
 }

@@ -8,8 +8,8 @@ ghost use Rattle.row_tests.specs.Rows.{two_partners};
 ghost use Rattle.steady_schedule.specs.Changes.{changes};
 ghost use Rattle.steady_schedule.specs.Partners.{partners};
 
-use batch::{Batch, Shape};
-use std::alloc::Global;
+use super::texts::read;
+use std::alloc::{AllocError, Global};
 use steady_schedule::steady;
 
 /// The switch changes for the first setting, and where one joins other pairs of modules than the
@@ -30,114 +30,111 @@ fn the_definitions_count_partners()
 {}
 
 /// So many settings and changes, and so many changes that any schedule needs.
-#[derive(Clone, Copy, PartialEq, Eq)]
-struct Counts {
-    settings: usize,
-    changes: usize,
-    needed: usize,
-}
+type Counts = (usize, usize, usize);
 
 /// A module that sends blocks, one that takes them, and how many they are.
 type Sent = (usize, usize, usize);
 
-/// The batch text of these.
-fn text_of(alloc: Global, sent: &[Sent]) -> Option<Vec<u8>> {
-    let mut lines = String::new(alloc);
-    let mut count = 0usize;
-    for (from, to, blocks) in sent {
-        for _ in 0..*blocks {
-            lines
-                .push_str(format!(in alloc; "push {from} 0 {to} 0\n").ok()?.as_str())
-                .ok()?;
-            count = count.checked_add(1)?;
-        }
+/// Adds the lines of these to a batch text.
+fn push_lines(alloc: Global, text: &mut String, sent: Sent) -> Result<(), AllocError> {
+    let (from, to, blocks) = sent;
+    let line = format!(in alloc; "push {from} 0 {to} 0\n")?;
+    for _ in 0..blocks {
+        text.push_str(line.as_str())?;
     }
-    let first = format!(in alloc; "batch {count}\n").ok()?;
-    let mut text = first.as_bytes().to_vec(alloc).ok()?;
-    text.extend_from_slice(lines.as_bytes()).ok()?;
-    Some(text)
+    Ok(())
+}
+
+/// The batch text of all these.
+fn text_of(alloc: Global, sent: &[Sent]) -> Result<String, AllocError> {
+    let mut count: usize = 0;
+    for (_, _, blocks) in sent {
+        count = count.saturating_add(*blocks);
+    }
+    let mut text = format!(in alloc; "batch {count}\n")?;
+    for one in sent {
+        push_lines(alloc, &mut text, *one)?;
+    }
+    Ok(text)
 }
 
 fn counts_of(alloc: Global, sent: &[Sent]) -> Option<Counts> {
-    let text = text_of(alloc, sent)?;
-    let batch = Batch::read(alloc, text.as_slice(), Shape::WIDEST).ok()?;
+    let text = text_of(alloc, sent).ok()?;
+    let batch = read(alloc, text.as_str())?;
     let plan = steady(alloc, &batch).ok()?;
-    let needed = plan.demanding().map_or(0, |(_, partners)| partners);
-    Some(Counts {
-        settings: plan.schedule().settings(),
-        changes: plan.changes(),
-        needed,
-    })
+    let needed = match plan.demanding() {
+        Some((_, partners)) => partners,
+        None => 0,
+    };
+    Some((plan.schedule().settings(), plan.changes(), needed))
 }
 
-fn has(alloc: Global, sent: &[Sent], settings: usize, changes: usize, needed: usize) -> bool {
-    counts_of(alloc, sent)
-        == Some(Counts {
-            settings,
-            changes,
-            needed,
-        })
+fn has(alloc: Global, sent: &[Sent], counts: Counts) -> bool {
+    counts_of(alloc, sent) == Some(counts)
 }
 
 #[test]
 fn empty(rt: HostRuntime) {
-    assert!(rt; has(rt.alloc(), &[], 0, 0, 0));
+    assert!(rt; has(rt.alloc(), &[], (0, 0, 0)));
 }
 
 #[test]
 fn one_pair(rt: HostRuntime) {
-    assert!(rt; has(rt.alloc(), &[(0, 1, 64)], 64, 1, 1));
+    assert!(rt; has(rt.alloc(), &[(0, 1, 64)], (64, 1, 1)));
 }
 
 #[test]
 fn gather_of_three(rt: HostRuntime) {
-    assert!(rt; has(rt.alloc(), &[(1, 0, 5), (2, 0, 5), (3, 0, 5)], 15, 3, 3));
+    assert!(rt; has(rt.alloc(), &[(1, 0, 5), (2, 0, 5), (3, 0, 5)], (15, 3, 3)));
 }
+
+const ALL_TO_ALL: &[Sent] = &[
+    (0, 1, 2),
+    (0, 2, 2),
+    (0, 3, 2),
+    (1, 0, 2),
+    (1, 2, 2),
+    (1, 3, 2),
+    (2, 0, 2),
+    (2, 1, 2),
+    (2, 3, 2),
+    (3, 0, 2),
+    (3, 1, 2),
+    (3, 2, 2),
+];
 
 #[test]
 fn all_to_all_of_four(rt: HostRuntime) {
-    let sent = [
-        (0, 1, 2),
-        (0, 2, 2),
-        (0, 3, 2),
-        (1, 0, 2),
-        (1, 2, 2),
-        (1, 3, 2),
-        (2, 0, 2),
-        (2, 1, 2),
-        (2, 3, 2),
-        (3, 0, 2),
-        (3, 1, 2),
-        (3, 2, 2),
-    ];
-    assert!(rt; has(rt.alloc(), &sent, 6, 3, 3));
+    assert!(rt; has(rt.alloc(), ALL_TO_ALL, (6, 3, 3)));
 }
 
 /// Each module sends to both others: two matchings, one of them with two blocks a pair.
+const FULL_CYCLE: &[Sent] = &[
+    (0, 1, 1),
+    (0, 2, 2),
+    (1, 0, 2),
+    (1, 2, 1),
+    (2, 0, 1),
+    (2, 1, 2),
+];
+
 #[test]
 fn full_cycle(rt: HostRuntime) {
-    let sent = [
-        (0, 1, 1),
-        (0, 2, 2),
-        (1, 0, 2),
-        (1, 2, 1),
-        (2, 0, 1),
-        (2, 1, 2),
-    ];
-    assert!(rt; has(rt.alloc(), &sent, 3, 2, 2));
+    assert!(rt; has(rt.alloc(), FULL_CYCLE, (3, 2, 2)));
 }
+
+const UNEQUAL_CYCLE: &[Sent] = &[
+    (0, 1, 2),
+    (0, 2, 3),
+    (1, 0, 3),
+    (1, 2, 1),
+    (2, 0, 1),
+    (2, 1, 2),
+];
 
 #[test]
 fn unequal_cycle(rt: HostRuntime) {
-    let sent = [
-        (0, 1, 2),
-        (0, 2, 3),
-        (1, 0, 3),
-        (1, 2, 1),
-        (2, 0, 1),
-        (2, 1, 2),
-    ];
-    assert!(rt; has(rt.alloc(), &sent, 5, 4, 2));
+    assert!(rt; has(rt.alloc(), UNEQUAL_CYCLE, (5, 4, 2)));
 }
 
 /// Each of 32 modules sends three blocks to the next and two to the one after that.
@@ -152,5 +149,5 @@ fn ring() -> [Sent; 64] {
 
 #[test]
 fn ring_of_32(rt: HostRuntime) {
-    assert!(rt; has(rt.alloc(), &ring(), 5, 2, 2));
+    assert!(rt; has(rt.alloc(), &ring(), (5, 2, 2)));
 }

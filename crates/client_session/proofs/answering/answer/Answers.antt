@@ -1,4 +1,4 @@
-use Rattle.std.proofs.Common.{◌≡◌, codes, inl, refl, Some, rules}
+use Rattle.std.proofs.Common.{◌≡◌, codes, inl, refl, Some}
 use Rattle.client_session.specs.declared.command.SessionCommand.TheVariants.{Batch, Progress, Bye}
 use Rattle.refusals.specs.declared.refusal.Refusal.TheVariants as refusal
 use Rattle.refusals.specs.Refusals.{refusal_line}
@@ -24,18 +24,3 @@ pub returns-in-Some-Bye-clause-done : goal.returns-in-Some-Bye-clause-done
 returns-in-Some-Bye-clause-done g c =
     let is : c.args.command ≡ Some Bye = which _ _ _ c.in-Some-Bye.is (rw c.in-Some-Bye.is at c.in-Some-Bye.field-0-is) in
     rw is (λ text. says _ _ (with_feed (codes "bye")) _ refl c.tell_bye.ensures)
-
-pub returns-in-Some-Run : goal.returns-in-Some-Run
-returns-in-Some-Run g c = search rules
-
-pub returns-in-Some-Show : goal.returns-in-Some-Show
-returns-in-Some-Show g c = search rules
-
-pub returns-in-Some-Drop : goal.returns-in-Some-Drop
-returns-in-Some-Drop g c = search rules
-
-pub returns-in-Some-Peek : goal.returns-in-Some-Peek
-returns-in-Some-Peek g c = search rules
-
-pub returns-in-Some-Poke : goal.returns-in-Some-Poke
-returns-in-Some-Poke g c = search rules

@@ -67,32 +67,40 @@ fn is_wide_change(chip: Chip, old: &[Pair], new: &[Pair], bytes: &[u8]) -> bool
 fn change_of_pairs(rt: HostRuntime) {
     let old = [pair(0, 1), pair(1, 2)];
     let new = [pair(0, 1), pair(1, 3)];
-    assert!(rt; is_change(&old, &new, &[0x06, 0x01, 0x12, 0x01, 0x01, 0x13, 0x03]));
-    assert!(rt; is_change(&old, &old, &[0x03]));
-    assert!(rt; is_setting(&old, &[0x04, 0x01, 0x00, 0x11, 0x01, 0x01, 0x12, 0x03]));
+    let are_sent = is_change(&old, &new, &[0x06, 0x01, 0x12, 0x01, 0x01, 0x13, 0x03])
+        && is_change(&old, &old, &[0x03])
+        && is_setting(&old, &[0x04, 0x01, 0x00, 0x11, 0x01, 0x01, 0x12, 0x03]);
+    assert!(rt; are_sent);
 }
 
 /// Row wide_rack.
 #[test]
 fn setting_of_a_wide_rack(rt: HostRuntime) {
     let pairs = [pair(0, 16), pair(16, 0)];
-    let of_a = [0x04, 0x00, 0x00, 0x10, 0x00, 0x10, 0x00, 0x03];
-    assert!(rt; is_wide_setting(Chip::A, &pairs, &of_a));
-    let of_b = [0x04, 0x00, 0x10, 0x00, 0x00, 0x00, 0x10, 0x03];
-    assert!(rt; is_wide_setting(Chip::B, &pairs, &of_b));
+    let are_sent = is_wide_setting(
+        Chip::A,
+        &pairs,
+        &[0x04, 0x00, 0x00, 0x10, 0x00, 0x10, 0x00, 0x03],
+    ) && is_wide_setting(
+        Chip::B,
+        &pairs,
+        &[0x04, 0x00, 0x10, 0x00, 0x00, 0x00, 0x10, 0x03],
+    );
+    assert!(rt; are_sent);
 }
 
 #[test]
 fn change_of_a_wide_rack(rt: HostRuntime) {
     let old = [pair(0, 1), pair(16, 2)];
     let new = [pair(0, 1), pair(16, 3)];
-    assert!(rt; is_wide_change(Chip::A, &old, &new, &[0x05, 0x02, 0x00, 0x10, 0x03, 0x03]));
-    assert!(rt; is_wide_change(Chip::B, &old, &new, &[0x05, 0x10, 0x00, 0x03, 0x10, 0x03]));
-    assert!(rt; is_wide_change(Chip::B, &old, &old, &[0x03]));
+    let are_sent = is_wide_change(Chip::A, &old, &new, &[0x05, 0x02, 0x00, 0x10, 0x03, 0x03])
+        && is_wide_change(Chip::B, &old, &new, &[0x05, 0x10, 0x00, 0x03, 0x10, 0x03])
+        && is_wide_change(Chip::B, &old, &old, &[0x03]);
+    assert!(rt; are_sent);
 }
 
 #[test]
 fn named_sizes(rt: HostRuntime) {
-    assert!(rt; WIDE_CHANGE_BYTES == 161 && ENQUIRY_BYTES == 64);
-    assert!(rt; line_bits(1) == 117 && line_bits(1_048_576) == 122_683_392);
+    let are_bits = line_bits(1) == 117 && line_bits(1_048_576) == 122_683_392;
+    assert!(rt; WIDE_CHANGE_BYTES == 161 && ENQUIRY_BYTES == 64 && are_bits);
 }

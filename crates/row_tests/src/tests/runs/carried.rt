@@ -123,72 +123,76 @@ fn carries<R: AllocGlobal + Threads + Sync>(
 /// Held blocks are peeked at 80010808 and 8001080c hex, in the hold window, and another block at
 /// 80000800 and 80000804. Nothing of the copying is seen on a wire. The third transfer has a link
 /// of each of the others, so it is in setting 1.
+const PEEKED: Case<'static> = Case {
+    shape: "2x3x2",
+    text: "batch 3\npull 0 1 1 1\npull 1 1 0 1\npull 1 2 1 0\n",
+    end: End::Completed(2, 6),
+    blocks: &[
+        (0, 1, &[0x0001_0100, 0x0001_0101]),
+        (1, 1, &[0x0100, 0x0101]),
+        (1, 2, &[0x0001_0000, 0x0001_0001]),
+    ],
+};
+
+const PEEKING: &[Carrying] = &[
+    (
+        0,
+        &[
+            0x01, 0x08, 0x08, 0x01, 0x80, 0x00, 0x01, 0x01, 0x00, 0x01, 0x0c, 0x08, 0x01, 0x80,
+            0x01, 0x01, 0x01, 0x00,
+        ],
+    ),
+    (
+        0,
+        &[
+            0x01, 0x08, 0x08, 0x01, 0x80, 0x00, 0x01, 0x00, 0x00, 0x01, 0x0c, 0x08, 0x01, 0x80,
+            0x01, 0x01, 0x00, 0x00,
+        ],
+    ),
+    (
+        1,
+        &[
+            0x01, 0x00, 0x08, 0x00, 0x80, 0x00, 0x00, 0x01, 0x00, 0x01, 0x04, 0x08, 0x00, 0x80,
+            0x01, 0x00, 0x01, 0x00,
+        ],
+    ),
+];
+
 #[test]
 fn held_blocks_are_peeked_in_the_hold_window(rt: HostRuntime) {
-    let case = Case {
-        shape: "2x3x2",
-        text: "batch 3\npull 0 1 1 1\npull 1 1 0 1\npull 1 2 1 0\n",
-        end: End::Completed(2, 6),
-        blocks: &[
-            (0, 1, &[0x0001_0100, 0x0001_0101]),
-            (1, 1, &[0x0100, 0x0101]),
-            (1, 2, &[0x0001_0000, 0x0001_0001]),
-        ],
-    };
-    let expected: &[Carrying] = &[
-        (
-            0,
-            &[
-                0x01, 0x08, 0x08, 0x01, 0x80, 0x00, 0x01, 0x01, 0x00, 0x01, 0x0c, 0x08, 0x01, 0x80,
-                0x01, 0x01, 0x01, 0x00,
-            ],
-        ),
-        (
-            0,
-            &[
-                0x01, 0x08, 0x08, 0x01, 0x80, 0x00, 0x01, 0x00, 0x00, 0x01, 0x0c, 0x08, 0x01, 0x80,
-                0x01, 0x01, 0x00, 0x00,
-            ],
-        ),
-        (
-            1,
-            &[
-                0x01, 0x00, 0x08, 0x00, 0x80, 0x00, 0x00, 0x01, 0x00, 0x01, 0x04, 0x08, 0x00, 0x80,
-                0x01, 0x00, 0x01, 0x00,
-            ],
-        ),
-    ];
-    assert!(rt; carries(&rt, &case, expected));
+    assert!(rt; carries(&rt, &PEEKED, PEEKING));
 }
 
 /// The words of held blocks are poked where their destinations stand, at 80000808 and 8000080c hex.
 /// The copying uses no line.
+const POKED: Case<'static> = Case {
+    shape: "2x2x2",
+    text: "batch 2\npush 0 1 1 1\npush 1 1 0 1\n",
+    end: End::Completed(1, 4),
+    blocks: &[
+        (0, 1, &[0x0001_0100, 0x0001_0101]),
+        (1, 1, &[0x0100, 0x0101]),
+    ],
+};
+
+const POKING: &[Carrying] = &[
+    (
+        0,
+        &[
+            0x00, 0x08, 0x08, 0x00, 0x80, 0x00, 0x01, 0x00, 0x00, 0x00, 0x0c, 0x08, 0x00, 0x80,
+            0x01, 0x01, 0x00, 0x00,
+        ],
+    ),
+    (
+        0,
+        &[
+            0x00, 0x08, 0x08, 0x00, 0x80, 0x00, 0x01, 0x01, 0x00, 0x00, 0x0c, 0x08, 0x00, 0x80,
+            0x01, 0x01, 0x01, 0x00,
+        ],
+    ),
+];
+
 #[test]
 fn held_blocks_are_poked_into_the_window(rt: HostRuntime) {
-    let case = Case {
-        shape: "2x2x2",
-        text: "batch 2\npush 0 1 1 1\npush 1 1 0 1\n",
-        end: End::Completed(1, 4),
-        blocks: &[
-            (0, 1, &[0x0001_0100, 0x0001_0101]),
-            (1, 1, &[0x0100, 0x0101]),
-        ],
-    };
-    let expected: &[Carrying] = &[
-        (
-            0,
-            &[
-                0x00, 0x08, 0x08, 0x00, 0x80, 0x00, 0x01, 0x00, 0x00, 0x00, 0x0c, 0x08, 0x00, 0x80,
-                0x01, 0x01, 0x00, 0x00,
-            ],
-        ),
-        (
-            0,
-            &[
-                0x00, 0x08, 0x08, 0x00, 0x80, 0x00, 0x01, 0x01, 0x00, 0x00, 0x0c, 0x08, 0x00, 0x80,
-                0x01, 0x01, 0x01, 0x00,
-            ],
-        ),
-    ];
-    assert!(rt; carries(&rt, &case, expected));
+    assert!(rt; carries(&rt, &POKED, POKING));
 }

@@ -84,10 +84,11 @@ fn disagrees(is_wide: bool, answer: (Chip, u8, u8), number: u8) -> bool {
 /// the second switch are numbered after those of the first.
 #[test]
 fn named_answers(rt: HostRuntime) {
-    assert!(rt; disagrees(false, (Chip::A, 18, 0xa1), 18));
-    assert!(rt; !disagrees(false, (Chip::A, 18, 0x81), 18));
-    assert!(rt; disagrees(false, (Chip::A, 5, 0x80), 5));
-    assert!(rt; !disagrees(false, (Chip::A, 5, 0x7f), 5));
-    assert!(rt; disagrees(true, (Chip::B, 0, 0x00), 32));
-    assert!(rt; !disagrees(true, (Chip::B, 0, 0x81), 32));
+    let of_the_first = disagrees(false, (Chip::A, 18, 0xa1), 18)
+        && !disagrees(false, (Chip::A, 18, 0x81), 18)
+        && disagrees(false, (Chip::A, 5, 0x80), 5)
+        && !disagrees(false, (Chip::A, 5, 0x7f), 5);
+    let of_the_second = disagrees(true, (Chip::B, 0, 0x00), 32)
+        && !disagrees(true, (Chip::B, 0, 0x81), 32);
+    assert!(rt; of_the_first && of_the_second);
 }

@@ -148,28 +148,23 @@ fn is_right<R: AllocGlobal + Threads + Sync>(rt: &R, row: &Row) -> bool {
     is_ended && !is_wrong && calls == row.calls
 }
 
-/// The number of the first of some rows that isn't right, or how many they are.
-fn first_wrong<R: AllocGlobal + Threads + Sync>(rt: &R, rows: &[Row]) -> usize {
-    for (number, row) in rows.iter().enumerate() {
-        if !is_right(rt, row) {
-            return number;
-        }
-    }
-    rows.len()
-}
+/// The shape of a rack, the case of a run on it, and what its port, which answers rightly, is sent.
+type Right = (&'static str, Case<'static>, &'static [Sent]);
 
-/// A row whose port answers rightly, and takes all calls.
-fn rightly(case: Case<'static>, sent: &'static [Sent]) -> Row {
-    Row {
-        case,
+/// Whether a run goes so, and its port takes all calls.
+fn goes_rightly<R: AllocGlobal + Threads + Sync>(rt: &R, right: &Right) -> bool {
+    let (shape, case, sent) = *right;
+    let row = Row {
+        case: Case { shape, ..case },
         manner: Manner::Rightly,
         sent,
         calls: sent.len(),
-    }
+    };
+    is_right(rt, &row)
 }
 
 /// Row two-pushes.
-const TWO: Case<'static> = Case {
+pub(super) const TWO: Case<'static> = Case {
     shape: "3x2x2",
     text: TWO_PUSHES,
     end: End::Completed(1, 4),
@@ -196,11 +191,6 @@ const THREE: Case<'static> = Case {
     end: End::Completed(2, 3),
     blocks: &[(1, 0, &[0]), (2, 0, &[0x0000_0100]), (2, 1, &[0x0001_0100])],
 };
-
-/// A run of this case on another rack.
-fn on(case: Case<'static>, shape: &'static str) -> Case<'static> {
-    Case { shape, ..case }
-}
 
 /// Row five-settings. Settings 0 and 1 have one pair, and so have settings 3 and 4.
 const FIVE: Case<'static> = Case {
@@ -239,18 +229,20 @@ const NO_ROOM: Case<'static> = Case {
 
 /// Rows part-refusals, switch-stops, recorded-change and five-settings, and row wide_rack of 16
 /// modules, which have one switch.
+const RIGHT: &[Right] = &[
+    ("2x1x1", NO_ROOM, &[]),
+    ("3x2x2", TWO, &TWO_SENT),
+    ("3x2x1", THREE, &THREE_SENT),
+    ("16x2x1", THREE, &THREE_SENT),
+    ("4x2x1", FIVE, &FIVE_SENT),
+    ("16x2x1", FIVE, &FIVE_SENT),
+];
+
 #[test]
 fn ports_are_sent_settings(rt: HostRuntime) {
-    let rows = [
-        rightly(NO_ROOM, &[]),
-        rightly(TWO, &TWO_SENT),
-        rightly(THREE, &THREE_SENT),
-        rightly(on(THREE, "16x2x1"), &THREE_SENT),
-        rightly(FIVE, &FIVE_SENT),
-        rightly(on(FIVE, "16x2x1"), &FIVE_SENT),
-    ];
-    let wrong = first_wrong(&rt, &rows);
-    assert!(rt; wrong == rows.len(), "row {wrong}");
+    for (number, right) in RIGHT.iter().enumerate() {
+        assert!(rt; goes_rightly(&rt, right), "row {number}");
+    }
 }
 
 /// Row wide_rack.
@@ -347,16 +339,18 @@ const TURNED_SENT: [Sent; 4] = [
 ];
 
 /// Row wide_rack, and row five-settings beside a module more.
+const WIDE_RIGHT: &[Right] = &[
+    ("17x2x1", ACROSS, &ACROSS_SENT),
+    ("17x2x1", THREE, &THREE_WIDE_SENT),
+    ("17x2x1", FIVE, &FIVE_WIDE_SENT),
+    ("32x2x1", TURNED, &TURNED_SENT),
+];
+
 #[test]
 fn ports_are_sent_wide_settings(rt: HostRuntime) {
-    let rows = [
-        rightly(ACROSS, &ACROSS_SENT),
-        rightly(on(THREE, "17x2x1"), &THREE_WIDE_SENT),
-        rightly(on(FIVE, "17x2x1"), &FIVE_WIDE_SENT),
-        rightly(TURNED, &TURNED_SENT),
-    ];
-    let wrong = first_wrong(&rt, &rows);
-    assert!(rt; wrong == rows.len(), "row {wrong}");
+    for (number, right) in WIDE_RIGHT.iter().enumerate() {
+        assert!(rt; goes_rightly(&rt, right), "row {number}");
+    }
 }
 
 /// A run of a case that stops before a word has moved, at this output, by a port of this manner
@@ -428,28 +422,35 @@ fn second_stop(shape: &'static str, manner: Manner, calls: usize, output: u8) ->
     three_stop(shape, manner, calls, 1, StopCause::SwitchDisagrees(output))
 }
 
-/// Rows switch-stops and switch-answers: a port that answers nothing, and one that in setting 1
-/// alone answers another input, none, and an input where there is to be none. Each byte in place of
-/// each output's answer is tried in `cuts`.
+/// What row two-pushes leaves where no word moves.
+const UNMOVED: &[Block<'static>] = &[
+    (1, 0, &[0x0001_0000, 0x0001_0001]),
+    (2, 0, &[0x0002_0000, 0x0002_0001]),
+];
+
+/// What a port answers in setting 1 of three-transfers, and the output that is told: another input,
+/// none, and an input where there is to be none.
+const SECOND: &[(Manner, u8)] = &[
+    (Manner::Answers(3, 0, 0x91), 0),
+    (Manner::Answers(3, 0, 0x00), 0),
+    (Manner::Answers(3, 31, 0x80), 31),
+];
+
+/// Rows switch-stops and switch-answers: a port that answers nothing, and those. Each byte in place
+/// of each output's answer is tried in `cuts`.
 #[test]
 fn ports_answer_wrongly(rt: HostRuntime) {
-    let unmoved: &[Block<'_>] = &[
-        (1, 0, &[0x0001_0000, 0x0001_0001]),
-        (2, 0, &[0x0002_0000, 0x0002_0001]),
-    ];
-    let rows = [
-        stop_at(TWO, unmoved, &TWO_SENT, Manner::SilentFrom(0), 0),
-        second_stop("3x2x1", Manner::Answers(3, 0, 0x91), 4, 0),
-        second_stop("3x2x1", Manner::Answers(3, 0, 0x00), 4, 0),
-        second_stop("3x2x1", Manner::Answers(3, 31, 0x80), 4, 31),
-    ];
-    let wrong = first_wrong(&rt, &rows);
-    assert!(rt; wrong == rows.len(), "row {wrong}");
+    let silent = stop_at(TWO, UNMOVED, &TWO_SENT, Manner::SilentFrom(0), 0);
+    assert!(rt; is_right(&rt, &silent));
+    for (number, (manner, output)) in SECOND.iter().enumerate() {
+        let row = second_stop("3x2x1", *manner, 4, *output);
+        assert!(rt; is_right(&rt, &row), "row {number}");
+    }
 }
 
 /// What a port does in row wide_rack, and the output that is told. Where both switches disagree, A
 /// is told. The outputs of B are numbered after those of A.
-const WIDE: [(Manner, u8); 5] = [
+const WIDE: &[(Manner, u8)] = &[
     (Manner::Silent(2), 0),
     (Manner::Silent(3), 32),
     (Manner::SilentFrom(0), 0),
@@ -457,9 +458,12 @@ const WIDE: [(Manner, u8); 5] = [
     (Manner::Answers(3, 31, 0x80), 63),
 ];
 
+/// What that row leaves where no word moves.
+const UNMOVED_ACROSS: &[Block<'static>] = &[(0, 0, &[0]), (0, 1, &[0x0100])];
+
 /// The same in setting 1 of three-transfers: A feeds output 2 by input 0 and no other, and B output
 /// 0 by input 2.
-const SECOND_WIDE: [(Manner, u8); 8] = [
+const SECOND_WIDE: &[(Manner, u8)] = &[
     (Manner::Answers(6, 2, 0x81), 2),
     (Manner::Answers(6, 2, 0x00), 2),
     (Manner::Answers(6, 1, 0x80), 1),
@@ -472,15 +476,33 @@ const SECOND_WIDE: [(Manner, u8); 8] = [
 
 #[test]
 fn wide_ports_answer_wrongly(rt: HostRuntime) {
-    let unmoved: &[Block<'_>] = &[(0, 0, &[0]), (0, 1, &[0x0100])];
     for (manner, output) in WIDE {
-        let row = stop_at(ACROSS, unmoved, &ACROSS_SENT, manner, output);
+        let row = stop_at(ACROSS, UNMOVED_ACROSS, &ACROSS_SENT, *manner, *output);
         assert!(rt; is_right(&rt, &row), "{output}");
     }
     for (manner, output) in SECOND_WIDE {
-        let row = second_stop("17x2x1", manner, 8, output);
+        let row = second_stop("17x2x1", *manner, 8, *output);
         assert!(rt; is_right(&rt, &row), "{output}");
     }
+}
+
+/// Whether row three-transfers stops in this setting where the call fails that has so many before
+/// it.
+fn stops_at_call<R: AllocGlobal + Threads + Sync>(
+    rt: &R,
+    shape: &'static str,
+    before: usize,
+    setting: usize,
+) -> bool {
+    let calls = before.saturating_add(1);
+    let row = three_stop(
+        shape,
+        Manner::Fails(before),
+        calls,
+        setting,
+        StopCause::Port,
+    );
+    is_right(rt, &row)
 }
 
 /// Row failed-calls. A setting makes two calls, and four where there are two switches: all are set,
@@ -488,23 +510,12 @@ fn wide_ports_answer_wrongly(rt: HostRuntime) {
 #[test]
 fn a_failed_port_is_not_called_again(rt: HostRuntime) {
     for before in 0..4 {
-        let row = three_stop(
-            "3x2x1",
-            Manner::Fails(before),
-            before.saturating_add(1),
-            before / 2,
-            StopCause::Port,
-        );
-        assert!(rt; is_right(&rt, &row), "{before}");
+        assert!(rt; stops_at_call(&rt, "3x2x1", before, before / 2), "{before}");
     }
     for before in 0..8 {
-        let row = three_stop(
-            "17x2x1",
-            Manner::Fails(before),
-            before.saturating_add(1),
-            before / 4,
-            StopCause::Port,
+        assert!(rt;
+            stops_at_call(&rt, "17x2x1", before, before / 4),
+            "{before}"
         );
-        assert!(rt; is_right(&rt, &row), "{before}");
     }
 }

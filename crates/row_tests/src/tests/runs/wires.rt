@@ -66,81 +66,77 @@ impl<'a> WireMaker for HoledLines<'a> {
 /// Whether a run of so many transfers ends as the case says, where the wire of
 /// transfer 0 carries so many bytes and fails then, for good or once, and no wire is made a second
 /// time.
-fn stops_in<R: AllocGlobal + Threads + Sync>(
+fn stops<R: AllocGlobal + Threads + Sync>(
     rt: &R,
     case: &Case<'_>,
     bytes: usize,
     transfers: usize,
 ) -> bool {
-    let wires = FuseWires { transfer: 0, bytes };
+    let fused = FuseWires { transfer: 0, bytes };
+    let ends_fused = ends_so(rt, &mut with_wires(fused), case, &AtomicUsize::new(0));
     let made = AtomicUsize::new(0);
     let holed = HoledLines { bytes, made: &made };
-    let told = AtomicUsize::new(0);
-    let told_holed = AtomicUsize::new(0);
-    let ends_fused = ends_so(rt, &mut with_wires(wires), case, &told);
-    let ends_holed = ends_so(rt, &mut with_wires(holed), case, &told_holed);
-    let wires = made.load(Ordering::SeqCst);
-    ends_fused && ends_holed && wires == transfers
-}
-
-/// Whether runs do, which stop in setting 0 at that wire, with so many words of each transfer
-/// moved.
-fn stops<R: AllocGlobal + Threads + Sync>(
-    rt: &R,
-    shape: &str,
-    text: &str,
-    bytes: usize,
-    moved: &[(u16, u16)],
-    blocks: &[(usize, usize, &[u32])],
-) -> bool {
-    let case = Case {
-        shape,
-        text,
-        end: End::Stopped(0, StopCause::Wire(0), moved),
-        blocks,
-    };
-    stops_in(rt, &case, bytes, moved.len())
+    let ends_holed = ends_so(rt, &mut with_wires(holed), case, &AtomicUsize::new(0));
+    ends_fused && ends_holed && made.load(Ordering::SeqCst) == transfers
 }
 
 /// A wire of 14 bytes carries one word and five bytes of the next.
+const PUSH: Case<'static> = Case {
+    shape: "2x1x2",
+    text: "batch 1\npush 0 0 1 0\n",
+    end: End::Stopped(0, StopCause::Wire(0), &[(0, 1)]),
+    blocks: &[(1, 0, &[0, 0x0001_0001])],
+};
+
 #[test]
 fn overlaps_and_fuses_push(rt: HostRuntime) {
-    let blocks: [(usize, usize, &[u32]); 1] = [(1, 0, &[0, 0x0001_0001])];
-    assert!(rt;
-        stops(
-            &rt,
-            "2x1x2",
-            "batch 1\npush 0 0 1 0\n",
-            14,
-            &[(0, 1)],
-            &blocks
-        )
-    );
+    assert!(rt; stops(&rt, &PUSH, 14, 1));
 }
 
-/// A wire of seven bytes brings no word back, and one of 11 bytes one.
+/// A wire of seven bytes brings no word back.
+const NO_PULL: Case<'static> = Case {
+    shape: "2x1x2",
+    text: "batch 1\npull 0 0 1 0\n",
+    end: End::Stopped(0, StopCause::Wire(0), &[(0, 0)]),
+    blocks: &[(0, 0, &[0, 1])],
+};
+
+/// One of 11 bytes brings one.
+const PULL: Case<'static> = Case {
+    shape: "2x1x2",
+    text: "batch 1\npull 0 0 1 0\n",
+    end: End::Stopped(0, StopCause::Wire(0), &[(0, 1)]),
+    blocks: &[(0, 0, &[0x0001_0000, 1])],
+};
+
 #[test]
 fn overlaps_and_fuses_pull(rt: HostRuntime) {
-    let pull = "batch 1\npull 0 0 1 0\n";
-    let none: [(usize, usize, &[u32]); 1] = [(0, 0, &[0, 1])];
-    assert!(rt; stops(&rt, "2x1x2", pull, 7, &[(0, 0)], &none));
-    let one: [(usize, usize, &[u32]); 1] = [(0, 0, &[0x0001_0000, 1])];
-    assert!(rt; stops(&rt, "2x1x2", pull, 11, &[(0, 1)], &one));
+    assert!(rt; stops(&rt, &NO_PULL, 7, 1) && stops(&rt, &PULL, 11, 1));
 }
 
-/// Row swap with a wire that carries one word and five bytes of the next, and row two-pushes with
-/// one that carries one word.
-#[test]
-fn a_failed_wire_lets_the_others_go_on(rt: HostRuntime) {
-    let swap = "batch 2\npush 0 0 1 0\npush 1 0 0 0\n";
-    let swapped: [(usize, usize, &[u32]); 2] = [
+/// Row swap with a wire that carries one word and five bytes of the next.
+const SWAPPED: Case<'static> = Case {
+    shape: "2x1x2",
+    text: "batch 2\npush 0 0 1 0\npush 1 0 0 0\n",
+    end: End::Stopped(0, StopCause::Wire(0), &[(0, 1), (1, 2)]),
+    blocks: &[
         (0, 0, &[0x0001_0000, 0x0001_0001]),
         (1, 0, &[0, 0x0001_0001]),
-    ];
-    assert!(rt; stops(&rt, "2x1x2", swap, 14, &[(0, 1), (1, 2)], &swapped));
-    let pushed: [(usize, usize, &[u32]); 2] = [
+    ],
+};
+
+/// Row two-pushes with one that carries one word.
+const PUSHED: Case<'static> = Case {
+    shape: "3x2x2",
+    text: TWO_PUSHES,
+    end: End::Stopped(0, StopCause::Wire(0), &[(0, 1), (1, 2)]),
+    blocks: &[
         (1, 0, &[0, 0x0001_0001]),
         (2, 0, &[0x0001_0100, 0x0001_0101]),
-    ];
-    assert!(rt; stops(&rt, "3x2x2", TWO_PUSHES, 9, &[(0, 1), (1, 2)], &pushed));
+    ],
+};
+
+#[test]
+fn a_failed_wire_lets_the_others_go_on(rt: HostRuntime) {
+    assert!(rt; stops(&rt, &SWAPPED, 14, 2) && stops(&rt, &PUSHED, 9, 2));
 }

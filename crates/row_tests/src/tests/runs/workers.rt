@@ -1,6 +1,8 @@
 //! When workers arrive at the gate, and whether they move words at once.
 
-use exchange_limits::{MAX_WORKERS, WorkerCount};
+use super::ports;
+use crate::tests::arrivals::CountingGate;
+use exchange_limits::WorkerCount;
 use peek_poke::{PlainWire, PlainWires, Wire, WireFault, WireMaker};
 use runs_tests::common::{TURNS, TWO_PUSHES, two, with_gate};
 use runs_tests::meeting::Meeting;
@@ -12,14 +14,8 @@ use std::thread::{Threads, yield_now};
 
 /// Whether both workers of row two-pushes meet at the gate, and all its words are moved.
 fn two_pushes_meet<R: AllocGlobal + Threads + Sync>(rt: &R) -> bool {
-    let case = Case {
-        shape: "3x2x2",
-        text: TWO_PUSHES,
-        end: End::Completed(1, 4),
-        blocks: &[(1, 0, &[0, 1]), (2, 0, &[0x0001_0100, 0x0001_0101])],
-    };
     let mut plant = with_gate(PlainWires, Meeting::new(), two());
-    let is_ended = ends_so(rt, &mut plant, &case, &AtomicUsize::new(0));
+    let is_ended = ends_so(rt, &mut plant, &ports::TWO, &AtomicUsize::new(0));
     let is_met = plant.gate.is_met();
     is_ended && is_met
 }
@@ -34,8 +30,7 @@ fn two_pushes_meet_at_the_gate(rt: HostRuntime) {
 /// before its worker had arrived.
 #[derive(Drop)]
 struct Watch {
-    /// A count for each number, and for 0, which no worker has.
-    arrived: Vec<AtomicUsize>,
+    arrived: CountingGate,
     /// How many wires wait for one another in their first byte, each of which is carried by the
     /// worker of the transfer's number and 1. Without it none waits.
     held: Option<usize>,
@@ -46,27 +41,13 @@ struct Watch {
 
 impl Watch {
     fn new(alloc: Global, held: Option<usize>) -> Result<Watch, AllocError> {
-        let mut arrived = Vec::new(alloc);
-        for _ in 0..=MAX_WORKERS {
-            arrived.push(AtomicUsize::new(0))?;
-        }
         Ok(Watch {
-            arrived,
+            arrived: CountingGate::new(alloc)?,
             held,
             begun: AtomicUsize::new(0),
             gave_up: AtomicBool::new(false),
             early: AtomicBool::new(false),
         })
-    }
-
-    /// Whether those of the list have arrived, each as often as it stands there, and no other has.
-    fn has_seen(&self, arrivals: &[usize]) -> bool {
-        for (place, count) in self.arrived.iter().enumerate() {
-            if count.load(Ordering::SeqCst) != count_of(arrivals, place) {
-                return false;
-            }
-        }
-        true
     }
 
     /// Whether just so many wires began, and no wire was early or gave up.
@@ -79,16 +60,8 @@ impl Watch {
 
     /// Sees that the worker of a transfer has arrived, where each has its own.
     fn look(&self, transfer: usize) {
-        if self.held.is_some() && !self.has_arrived(transfer.saturating_add(1)) {
+        if self.held.is_some() && !self.arrived.has_come(transfer.saturating_add(1)) {
             self.early.store(true, Ordering::SeqCst);
-        }
-    }
-
-    /// Whether a worker has arrived.
-    fn has_arrived(&self, worker: usize) -> bool {
-        match self.arrived.get(worker) {
-            Some(times) => times.load(Ordering::SeqCst) > 0,
-            None => false,
         }
     }
 
@@ -108,17 +81,6 @@ impl Watch {
     }
 }
 
-/// How often a number stands in a list.
-fn count_of(numbers: &[usize], wanted: usize) -> usize {
-    let mut count: usize = 0;
-    for number in numbers {
-        if *number == wanted {
-            count = count.saturating_add(1);
-        }
-    }
-    count
-}
-
 /// A gate that counts.
 #[derive(Clone, Copy)]
 struct WatchedGate<'a> {
@@ -127,9 +89,7 @@ struct WatchedGate<'a> {
 
 impl<'a> Gate for WatchedGate<'a> {
     fn arrive(&self, place: usize) {
-        if let Some(count) = self.watch.arrived.get(place).or(self.watch.arrived.first()) {
-            count.fetch_add(1, Ordering::SeqCst);
-        }
+        self.watch.arrived.arrive(place);
     }
 }
 
@@ -210,7 +170,7 @@ fn is_seen<R: AllocGlobal + Threads + Sync>(
     };
     let mut plant = with_gate(WatchedLines { watch }, WatchedGate { watch }, workers);
     let has_ended = ends_so(rt, &mut plant, &case, &AtomicUsize::new(0));
-    let has_seen = watch.has_seen(arrivals);
+    let has_seen = watch.arrived.has_seen(arrivals);
     let is_timely = watch.is_timely(work.transfers);
     has_ended && has_seen && is_timely
 }
@@ -277,7 +237,7 @@ const EACH_OF_32: [usize; 62] = [
 ];
 
 /// Row arrivals.
-const ARRIVALS: [Row; 11] = [
+const ARRIVALS: &[Row] = &[
     // One worker doesn't fork. A half that is one worker doesn't. Of three and of five workers the
     // first half has one more than the other.
     (FOUR, 1, &[]),
@@ -306,7 +266,7 @@ fn workers_arrive(rt: HostRuntime) {
 
 /// As many workers as transfers. Four fork twice: 1 and 2 from 3 and 4, and then each from the
 /// other.
-const HELD: [Row; 3] = [
+const HELD: &[Row] = &[
     (PUSHES, 2, &[1, 2]),
     (FOUR, 4, &[1, 1, 2, 3, 3, 4]),
     (ALL, 32, &EACH_OF_32),

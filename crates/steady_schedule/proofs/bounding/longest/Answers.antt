@@ -3,7 +3,7 @@ use Rattle.batch.specs.declared.limits.TheConstants.{MAX_TRANSFERS}
 use Rattle.steady_schedule.proofs.Covers.{all_unseen}
 use Rattle.steady_schedule.proofs.Waiting.{between_few}
 use Rattle.steady_schedule.proofs.bounding.longest.Goals as goal
-use Rattle.steady_schedule.proofs.bounding.longest.Goals.{then-side-link+then-is_none_or, then-side-link+else-is_none_or, else-side-link}
+use Rattle.steady_schedule.proofs.bounding.longest.Goals.{then-side-link+then-most-least, then-side-link+else-most-least, else-side-link}
 
 pub loop-index-preserved : goal.loop-index-preserved
 loop-index-preserved c =
@@ -12,7 +12,7 @@ loop-index-preserved c =
     let link = c.link_at-link.result in
     let low = c.link_at-link.ensures.module in
     elim c.if-side-link.branch [
-      | then-side-link+then-is_none_or w ↦ rw w.longest-is (record {
+      | then-side-link+then-most-least w ↦ rw w.longest-is (record {
         few = w.most_with-most.ensures.least MAX_TRANSFERS (λ m m_in has. omega (arith, between_few counts link.end link.«module» m m_in, c.requires.most link.end link.«module» low));
         longest = record {
           low = low;
@@ -20,6 +20,6 @@ loop-index-preserved c =
           most = λ m m_in. w.most_with-most.ensures.each m m_in (all_unseen m m_in);
         };
       })
-      | then-side-link+else-is_none_or w ↦ rw w.longest-is (record { few = before.few; longest = before.longest })
+      | then-side-link+else-most-least w ↦ rw w.longest-is (record { few = before.few; longest = before.longest })
       | else-side-link w ↦ rw w.longest-is (record { few = before.few; longest = before.longest })
     ]

@@ -7,6 +7,16 @@ use Rattle.steady_schedule.proofs.Slots.{counted_less, own_waits, own_number, fe
 use Rattle.steady_schedule.proofs.Gathered.{none_into, read_into, low_number}
 use Rattle.steady_schedule.proofs.numbering.read_all.Goals as goal
 
+pub next_number-number-requires-clause-zero_in : goal.next_number-number-requires-clause-zero_in
+next_number-number-requires-clause-zero_in c =
+    let t_in : c.loop-t.t < length c.args.graph.now = omega arith in
+    (has_ends c.args.graph.now c.loop-t.t c.ends_of.result c.requires.batch t_in c.ends_of.ensures).start_low
+
+pub next_number-number-requires-clause-three_in : goal.next_number-number-requires-clause-three_in
+next_number-number-requires-clause-three_in c =
+    let t_in : c.loop-t.t < length c.args.graph.now = omega arith in
+    (has_ends c.args.graph.now c.loop-t.t c.ends_of.result c.requires.batch t_in c.ends_of.ensures).answer_low
+
 pub next_number-number-requires-clause-some : goal.next_number-number-requires-clause-some
 next_number-number-requires-clause-some c =
     let batch = c.args.graph.now in
