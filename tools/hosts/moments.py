@@ -34,11 +34,12 @@ CLIENTS = 16
 LIMIT = 300
 # Seconds after which a host is killed, and how many replies come before that, at most.
 LIFE, REPLIES = 0.2, 3000
-# Folders are made there.
-tempfile.tempdir = ROOMS
 # How many commands a client says together at most, in half of the rounds and in the others.
 MOST = (1, 64)
 SIGNALS = [signal.SIGKILL, signal.SIGTERM, signal.SIGINT]
+
+# Records are in memory, where there is such a place.
+tempfile.tempdir = ROOMS
 
 
 def read(name):
@@ -417,7 +418,8 @@ def try_taken_away():
         draw, shape = random.Random(f"away {turn}"), (4, 2, 1)
         with tempfile.TemporaryDirectory(prefix="moments-") as room:
             host = Host(room, shape, draw, 1, 60, "--image-out", f"{room}/left")
-            while not recorded(room) and host.process.poll() is None:
+            until = time.monotonic() + LIMIT
+            while not recorded(room) and host.process.poll() is None and time.monotonic() < until:
                 host.go_on(0.005)
             os.rename(f"{room}/record", f"{room}/moved") if is_moved else os.unlink(f"{room}/record")
             host.go_on(LIMIT)
