@@ -9,7 +9,7 @@ The commands of a document run one after another, by the shell bash, in a folder
 A block that begins with ```file NAME isn't run: it is a file of that name for the commands after it.
 
 Each command's help begins with a line that begins with `Example:`, and an example in the indented lines after it. It is run too, and has
-to end well. So is each command in the last column of a table whose last column is headed `For example`.
+to end well.
 
 Each link of a document has to lead to a file or folder of the repository, and where it names a heading there, to one. What a link to source
 code shows, as [`split`](../crates/euler_split/src/halving.rt#L40), has to stand there: a function or a type in that line, where it names
@@ -49,9 +49,6 @@ COLUMNS = 100
 
 # The name of a kit, as README has it, and as `rt version` begins.
 KIT = re.compile(r"rattle-kit-\w+")
-
-# The head of a table's last column, where that has commands to try.
-EXAMPLES = "For example"
 
 # A block of a document: where it stands, what stands behind its first three marks, and its lines.
 Block = namedtuple("Block", "place kind lines")
@@ -142,18 +139,6 @@ def compare_kits():
         print(f"README.md: the kit is {' and '.join(sorted(named))}, and `rt version` is {' '.join(here)}")
 
 
-def table_examples(name):
-    """The commands in the last columns of tables that have examples."""
-    found, is_inside = [], False
-    for number, line in parts(name)[1]:
-        cells = [cell.strip() for cell in line.strip("|").split("|")]
-        is_inside = line.startswith("|") and (is_inside or cells[-1] == EXAMPLES)
-        words = re.fullmatch("`(.*)`", cells[-1])
-        if is_inside and words:
-            found.append((f"{name}:{number}", words[1]))
-    return found
-
-
 def commands(block):
     """The commands of a block that shows some."""
     shown, line_number = [], int(block.place.rsplit(":", 1)[1])
@@ -235,17 +220,6 @@ def try_help(command):
         return is_well
 
 
-def try_table(name):
-    """Runs the examples in tables of a document: how many there are, and how many don't end well."""
-    examples = table_examples(name)
-    with tempfile.TemporaryDirectory(prefix="texts-") as folder:
-        make_folder(folder)
-        wrong = [(place, words) for place, words in examples if run_in(folder, words)[0] != 0]
-    for place, words in wrong:
-        print(f"{place}: WRONG: an example doesn't end well: {words}")
-    return len(examples), len(wrong)
-
-
 def tell(names, trial, what, fault):
     """Tries something in each document, and tells of it: how many were tried, and how many are wrong."""
     results = [trial(name) for name in names]
@@ -262,10 +236,9 @@ def main():
     if not os.environ.get("EXCHANGE"):
         subprocess.run([f"{TOP}/exchange", "prove"], check=True)
     tried, differing = tell(names, try_document, "commands of documents", "print something else")
-    wrong += differing + tell(names, try_table, "examples in tables", "don't end well")[1]
     helps = [try_help(it) for it in HELPED]
     print(f"texts: {len(helps)} examples of help tried, {helps.count(False)} don't end well")
-    wrong += helps.count(False)
+    wrong += differing + helps.count(False)
     sys.exit(1 if wrong or not tried else 0)
 
 
