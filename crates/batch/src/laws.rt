@@ -1,9 +1,8 @@
 //! Laws of shapes and of the text of a batch. None of them does anything.
 
-ghost use Rattle.std.specs.Prelude.{◌≡◌, ℕ, ◌↔◌, List};
+ghost use Rattle.std.specs.Prelude.{◌≡◌};
 ghost use Rattle.batch.specs.Extent.{widest};
 ghost use Rattle.batch.specs.Laws.{NeverBoth, OneBatch, OneFault, NoneOverlap, OneFirstOverlap, OneShape};
-ghost use Rattle.batch.specs.Text.{IsNumeral, SpellsNumber};
 
 use crate::shape::Shape;
 
@@ -23,11 +22,6 @@ pub fn one_shape()
 pub fn first_overlap()
     ensures none { NoneOverlap }
     ensures one { OneFirstOverlap }
-{}
-
-/// The digits of a number are `0`, or a digit from 1 to 9 and at most eight digits after it.
-pub fn number_grammar()
-    ensures { (digits : List ℕ) → IsNumeral digits ↔ SpellsNumber digits }
 {}
 
 /// [`Shape::WIDEST`] is the widest shape.

@@ -6,9 +6,9 @@
 //! A [`Batch`] has at most 4096 transfers, all between blocks of the widest shape (`IsBatch`).
 //! [`Batch::read`] gives the batch that a text denotes (`Denotes` of `specs/Text.antt`), or the
 //! text's first fault (`IsFirstFault` of `specs/Faults.antt`). A text has one of each at most, and
-//! never both (`laws::one_reading`). Its numbers have no needless zero (`laws::number_grammar`), and
-//! it is usually read against the widest shape (`laws::widest_shape`). Lack of memory comes only
-//! where a good line of a transfer stands (`NeedsMemory`). [`Batch::write`] gives the one text.
+//! never both (`laws::one_reading`). It is usually read against the widest shape
+//! (`laws::widest_shape`). Lack of memory comes only where a good line of a transfer stands
+//! (`NeedsMemory`). [`Batch::write`] gives the one text.
 //! [`read_list`] and [`write_list`] do so for whatever is [`Listed`] (`specs/Lists.antt`,
 //! `specs/ListFaults.antt`).
 //!

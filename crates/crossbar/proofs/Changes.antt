@@ -1,26 +1,20 @@
 -- Joins and cuts of pairs, output by output.
-use Rattle.std.proofs.Common.{◌≡◌, ◌≢◌, ◌<◌, ◌+◌, ◌==◌, ◌&&◌, ◌||◌, ◌⊎◌, inl, inr, ℕ, Bool, true, false, not, cond, eqb, List, [], ◌∷◌, ◌++◌, map, drop, length, refl, sym, ap, ap₂, ◌∙◌, subst, arith, Option, Some, None}
+use Rattle.std.proofs.Common.{◌≡◌, ◌≢◌, ◌<◌, ◌+◌, ◌==◌, ◌&&◌, ◌||◌, ◌⊎◌, inl, inr, ℕ, Bool, true, false, not, cond, eqb, List, [], ◌∷◌, ◌++◌, map, refl, sym, ap, ap₂, ◌∙◌, subst, arith, Option, Some, None}
 use Rattle.std.specs.Ordering.{nat_cmp}
 use Rattle.std.specs.Cmp.{nat_cmp_total, unsigned_tied}
 use Rattle.std.specs.List.{flat_map, list_any, AllByRecursion}
 use Rattle.std.specs.FinMap.{get, insert, remove, find, get-empty, get-from_entries}
-use Rattle.c004_commands.specs.declared.command.Command.TheVariants.{Connect, Join, Enquire, Settle, Reset, Cut, CutPair}
+use Rattle.c004_commands.specs.declared.command.Command.TheVariants.{Join, Settle, Cut, CutPair}
 use Rattle.crossbar.specs.Switch.{Sources, Switch, after, after_all, idle}
 use Rattle.crossbar.specs.Pairs.{Fits, ArePairs, room_of, ends, switch_of, join, cut, is_pair, without, setting, change}
 use Rattle.crossbar.specs.declared.chip.Wiring.{Wiring}
 use Rattle.crossbar.specs.declared.chip.Wiring.TheVariants.{Both, Forth, Back, Board}
 use Rattle.crossbar.specs.declared.pair.Pair.{Pair}
 use Rattle.crossbar.specs.declared.switch.TheConstants.{JOINED_MODULES}
-use Rattle.std.proofs.lemmas.Bool.Decides.{nat_tests}
-use Rattle.std.proofs.lemmas.List.Folds.{list_any_at}
-use Rattle.crossbar.specs.Boards.{is_at}
-use Rattle.crossbar.specs.Others.{IsFree, LeavesAlone, LeaveAlone}
-use Rattle.c004_commands.specs.declared.command.Command.{Command}
 use Rattle.crossbar.specs.Wired.{links_of, unwired, link0_on, link3_on}
-use Rattle.crossbar.specs.declared.board.BoardWiring.{BoardWiring}
 use Rattle.crossbar.proofs.Boards.{never_one, one_link0, one_link3}
 use Rattle.crossbar.proofs.Carrying.{after_all-append}
-use Rattle.crossbar.proofs.Latches.{get-put, get-cut, same_sources, eqb_yes, eqb_no}
+use Rattle.crossbar.proofs.Latches.{get-put, get-cut, same_sources, eqb_yes}
 
 -- whether an output is one of the pair's
 abbrev meets : Wiring → ℕ → Pair → Bool
@@ -384,75 +378,8 @@ unfolding joins source
 setting_law w s pairs a =
     after_all-append (map (join w) pairs) (Settle ∷ []) idle
     ∙ ap (λ (m : Sources). record { sources = m; ready = true }) (same_sources _ _ (set_afresh w pairs a))
-
 -- ---- links that no module is on
-
-free0 : (b : BoardWiring) (m link : ℕ) → m < length (links_of b) → IsFree b link → (link0_on b m ≡ link) → ⊥
-free0 b m link lt free same =
-    let taken : list_any (is_at link) (links_of b) ≡ true = list_any_at (is_at link) (links_of b) m unwired lt (grind (arith, nat_tests)) in absurd cc
-
-free3 : (b : BoardWiring) (m link : ℕ) → m < length (links_of b) → IsFree b link → (link3_on b m ≡ link) → ⊥
-free3 b m link lt free same =
-    let taken : list_any (is_at link) (links_of b) ≡ true = list_any_at (is_at link) (links_of b) m unwired lt (grind (arith, nat_tests)) in absurd cc
-
--- commands for pairs that aren't among others leave a link alone that those for pairs leave alone
-left_by : (b : BoardWiring) (link : ℕ) (f : Pair → Command) → ((p : Pair) → Fits (Board b) p → LeavesAlone link (f p)) → (others ps : List Pair) → ArePairs (room_of (Board b)) ps → LeaveAlone link (map f (without others ps))
-unfolding has
-left_by b link f one others [] a = tt
-left_by b link f one others (p ∷ ps) a = kept (not (has others p)) (without others ps) (left_by b link f one others ps a.4) where
-  kept : (yes : Bool) (qs : List Pair) → LeaveAlone link (map f qs) → LeaveAlone link (map f (cond yes (p ∷ qs) qs))
-  kept true qs h = (one p (a.0, a.1), h)
-  kept false qs h = h
-
-left_join : (b : BoardWiring) (link : ℕ) → IsFree b link → (p : Pair) → Fits (Board b) p → LeavesAlone link (join (Board b) p)
-left_join b link free p fits = (λ e. absurd cc, (free0 b p.initiator link fits.0 free, (free3 b p.responder link fits.1 free, tt)))
-
-left_cut : (b : BoardWiring) (link : ℕ) → IsFree b link → (p : Pair) → Fits (Board b) p → LeavesAlone link (cut (Board b) p)
-left_cut b link free p fits = (λ e. absurd cc, (free0 b p.initiator link fits.0 free, (free3 b p.responder link fits.1 free, tt)))
-
-left_settle : (link : ℕ) → LeaveAlone link (Settle ∷ [])
-left_settle link = ((λ e. absurd cc, tt), tt)
-
-pub left_both : (link : ℕ) (cs ds : List Command) → LeaveAlone link cs → LeaveAlone link ds → LeaveAlone link (cs ++ ds)
-left_both link [] ds p q = q
-left_both link (c ∷ cs) ds p q = (p.0, left_both link cs ds p.1 q)
-
-pub others_in_change : (b : BoardWiring) (old new : List Pair) (link : ℕ) → ArePairs (room_of (Board b)) old → ArePairs (room_of (Board b)) new → IsFree b link → LeaveAlone link (change (Board b) old new)
-others_in_change b old new link o n free =
-    left_both link (map (cut (Board b)) (without new old)) (map (join (Board b)) (without old new) ++ Settle ∷ [])
-    (left_by b link (cut (Board b)) (left_cut b link free) new old o)
-    (left_both link (map (join (Board b)) (without old new)) (Settle ∷ []) (left_by b link (join (Board b)) (left_join b link free) old new n) (left_settle link))
 
 pub without_none : (ps : List Pair) → without [] ps ≡ ps
 without_none [] = refl
 without_none (p ∷ ps) = ap (λ t. p ∷ t) (without_none ps)
-
-pub others_in_setting : (b : BoardWiring) (pairs : List Pair) (link : ℕ) → ArePairs (room_of (Board b)) pairs → IsFree b link → LeaveAlone link (drop 1 (setting (Board b) pairs))
-others_in_setting b pairs link a free =
-    let joins = subst (λ (ps : List Pair). LeaveAlone link (map (join (Board b)) ps)) (without_none pairs) (left_by b link (join (Board b)) (left_join b link free) [] pairs a) in
-    left_both link (map (join (Board b)) pairs) (Settle ∷ []) joins (left_settle link)
-
-put_elsewhere : (m : Sources) (k v link : ℕ) → k ≢ link → get (insert m k v) link ≡ get m link
-put_elsewhere m k v link n = get-put m k v link ∙ ap (λ b. cond b (Some v) (get m link)) (eqb_no link k (λ e. n (sym e)))
-
-cut_elsewhere : (m : Sources) (k link : ℕ) → k ≢ link → get (remove m k) link ≡ get m link
-cut_elsewhere m k link n = get-cut m k link ∙ ap (λ b. cond b None (get m link)) (eqb_no link k (λ e. n (sym e)))
-
-stays : (link : ℕ) (c : Command) (s : Switch) → LeavesAlone link c → get (after c s).sources link ≡ get s.sources link
-stays link (Connect i o) s l = put_elsewhere s.sources o i link l.1.1.0
-stays link (Join x y) s l = put_elsewhere (insert s.sources y x) x y link l.1.0 ∙ put_elsewhere s.sources y x link l.1.1.0
-stays link (Enquire o) s l = refl
-stays link Settle s l = refl
-stays link Reset s l = absurd (l.0 refl)
-stays link (Cut o) s l = cut_elsewhere s.sources o link l.1.0
-stays link (CutPair x y) s l = cut_elsewhere (remove s.sources x) y link l.1.1.0 ∙ cut_elsewhere s.sources x link l.1.0
-
--- what stands on an output stays after commands that leave it alone
-pub all_stays : (link : ℕ) (cs : List Command) (s : Switch) → LeaveAlone link cs → get (after_all cs s).sources link ≡ get s.sources link
-all_stays link [] s l = refl
-all_stays link (c ∷ cs) s l = all_stays link cs (after c s) l.1 ∙ stays link c s l.0
-
-pub others_are_loose : (b : BoardWiring) (pairs : List Pair) (link : ℕ) → ArePairs (room_of (Board b)) pairs → IsFree b link → get (switch_of (Board b) pairs).sources link ≡ None
-others_are_loose b pairs link a free =
-    ap (λ (s : Switch). get s.sources link) (sym (setting_law (Board b) idle pairs a))
-    ∙ all_stays link (drop 1 (setting (Board b) pairs)) idle (others_in_setting b pairs link a free) ∙ get-empty nat_cmp link

@@ -6,6 +6,5 @@ pub mod Boards
 pub mod Wired
 pub mod Chips
 pub mod Pairs
-pub mod Others
 pub mod Fuse
 pub mod Traffic

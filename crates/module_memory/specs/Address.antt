@@ -75,10 +75,3 @@ pub record IsSiteOf (shape : Extent) (m a : ℕ) (place : Place) (position : ℕ
   pub position_is : position ≡ word_index shape a
   pub exists : HasPlace shape place
   pub within : position < shape.words
-
--- an address of module m is that of word j of a block of the module
-pub record IsAddress (shape : Extent) (m a : ℕ) (p : Place) (j : ℕ) : Type 0 where
-  pub place : HasPlace shape p
-  pub word : j < shape.words
-  pub number : p.«module» ≡ m
-  pub address : a ≡ address_of shape p.block j

@@ -1,6 +1,6 @@
 -- What the laws state. Proofs use them; no contract of a call cites them.
-use Rattle.std.specs.Prelude.{ℕ, ◌≡◌, ◌≢◌, ◌<◌, ◌+◌, None, ◌⊎◌, ◌≤◌, List, [], ◌++◌, length, slice_set, slice_index, Contains}
-use Rattle.batch.specs.Extent.{Extent, IsShape}
+use Rattle.std.specs.Prelude.{ℕ, ◌≡◌, ◌≢◌, ◌<◌, ◌+◌, ◌≤◌, List, [], ◌++◌, length, slice_set, slice_index, Contains}
+use Rattle.batch.specs.Extent.{Extent}
 use Rattle.batch.specs.declared.transfer.Place.{Place}
 use Rattle.batch.specs.Places.{HasPlace}
 use Rattle.module_memory.specs.Store.{Store, set_word, IsWhole, block_of, HasAllBlocks, word}
@@ -9,36 +9,10 @@ use Rattle.batch.specs.Held.{AreHeldSources}
 use Rattle.module_memory.specs.Core.{IsMovedFrom, IsReady, setting_of, at_start, run, times, IsStepList, IsComplete, IsPlacedFrom, found, IsMoved, IsPlaced}
 use Rattle.module_memory.specs.Lending.{BlockAt, place_in, bay_in, AreLendable, RestView, AreCopies, found_in, bays_of, without, store_rejoined, Rejoins}
 use Rattle.std.specs.List.{concat}
-use Rattle.module_memory.specs.Address.{IsAddress, fault_of, place_of, word_at, word_index, write_at}
 use Rattle.module_memory.specs.Images.{image_of, image_length, word_in_image, word_of_bytes, AreWords, HasImage}
 use Rattle.module_memory.specs.Bays.{AreBaysOf, AreFilled, AreFound, AreLent, AreSamePlaces, destinations_of}
 use Rattle.module_memory.specs.Mark.{IsMarked}
 use Rattle.module_memory.specs.Settings.{IsRun, IsStoppedRun, after_steps, all_words}
-
--- an address without a fault is that of a word of a block
-abbrev pub WindowsAreWhole : Type 0
-WindowsAreWhole =
-    (shape : Extent) (m a : ℕ) → IsShape shape → fault_of shape m a ≡ None
-    → IsAddress shape m a (place_of shape m a) (word_index shape a)
-
--- the address of a word of a block has no fault, and is that of no other word
-abbrev pub AddressesAreKnown : Type 0
-AddressesAreKnown =
-    (shape : Extent) (m a j : ℕ) (p : Place) → IsShape shape → IsAddress shape m a p j
-    → (fault_of shape m a ≡ None) × (place_of shape m a ≡ p) × (word_index shape a ≡ j)
-
--- a write changes the word at its address, and keeps the store whole
-abbrev pub WritesAreKept : Type 0
-WritesAreKept =
-    (s : Store) (m a w : ℕ) → IsWhole s → fault_of s.shape m a ≡ None
-    → IsWhole (write_at s m a w) × (word_at (write_at s m a w) m a ≡ w)
-
--- a write changes no word at another address of the shape
-abbrev pub WritesAreApart : Type 0
-WritesAreApart =
-    (s : Store) (m a n b w : ℕ) → IsWhole s → fault_of s.shape m a ≡ None
-    → fault_of s.shape n b ≡ None → (m ≢ n) ⊎ (a ≢ b)
-    → word_at (write_at s m a w) n b ≡ word_at s n b
 
 -- the image of a whole store has as many bytes as those of its shape
 abbrev pub ImagesAreWhole : Type 0

@@ -1,6 +1,6 @@
 //! Laws of a rack's memories and of the machine that moves their words. They make no call.
 
-ghost use Rattle.module_memory.specs.Laws.{AddressesAreKnown, WindowsAreWhole, WritesAreApart, WritesAreKept, BaysAreWide, BaysHoldTheCounts, BaysStayLent, BaysStayWhole, LentBlockIsGone, LentBlockIsItsBay, OtherBlockIsTheRest, SetIsOneWord, SettingsHaveBays, SourcesAreFound, EachPrefix, EndIsPlaced, ImagesAreWhole, OneEnd, OneImaged, OneMoved, OnePlaced, OneMarked, AllMovedIsPlaced, CountsAreReached, OneAfterAnother, OthersStayReady, RunIsPlaced, StopIsMoved, WholeBatchIsPlaced, WordsAreInImages};
+ghost use Rattle.module_memory.specs.Laws.{BaysAreWide, BaysHoldTheCounts, BaysStayLent, BaysStayWhole, LentBlockIsGone, LentBlockIsItsBay, OtherBlockIsTheRest, SetIsOneWord, SettingsHaveBays, SourcesAreFound, EachPrefix, EndIsPlaced, ImagesAreWhole, OneEnd, OneImaged, OneMoved, OnePlaced, OneMarked, WordsAreInImages};
 
 /// Where a batch doesn't overlap, the order in which the words of a setting move doesn't matter. A
 /// source that the batch writes is found in an opening store, and any other in the store as it is;
@@ -9,19 +9,6 @@ pub fn any_order()
     ensures one_end { OneEnd }
     ensures placed { EndIsPlaced }
     ensures each_prefix { EachPrefix }
-{}
-
-/// The addresses without a fault are just those of the words of the shape's blocks, each of one
-/// word.
-pub fn addresses()
-    ensures whole { WindowsAreWhole }
-    ensures known { AddressesAreKnown }
-{}
-
-/// A write changes the word at its address and no other.
-pub fn writes()
-    ensures kept { WritesAreKept }
-    ensures apart { WritesAreApart }
 {}
 
 /// An image has four bytes for each word of the shape, which tell that word, so it is the image of
@@ -49,18 +36,6 @@ pub fn setting_bays()
     ensures wide { BaysAreWide }
     ensures counts { BaysHoldTheCounts }
     ensures stay_lent { BaysStayLent }
-{}
-
-/// Settings one after another are all of their transfers at once, and those of a schedule are the
-/// whole batch.
-pub fn settings()
-    ensures run { RunIsPlaced }
-    ensures stopped { StopIsMoved }
-    ensures after { OneAfterAnother }
-    ensures ready { OthersStayReady }
-    ensures all_moved { AllMovedIsPlaced }
-    ensures whole_batch { WholeBatchIsPlaced }
-    ensures reached { CountsAreReached }
 {}
 
 /// There is one marked rack of a shape, one store in which the blocks of transfers are placed, and

@@ -7,6 +7,3 @@ pub mod Told
 pub mod Meeting
 pub mod Asides
 pub mod Obeyed
-pub mod Uncopied
-pub mod Steps
-pub mod Missed

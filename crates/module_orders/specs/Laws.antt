@@ -1,7 +1,6 @@
 -- What the laws state. Proofs use them; no contract of a call cites them.
-use Rattle.std.specs.Prelude.{◌≡◌, ℕ, true, List, length, Option, None}
+use Rattle.std.specs.Prelude.{ℕ, List, length, Option, None}
 use Rattle.batch.specs.Batches.{IsBatch}
-use Rattle.batch.specs.Extent.{Extent, IsShape}
 use Rattle.batch.specs.Overlap.{IsApart}
 use Rattle.batch.specs.Text.{IsNumber}
 use Rattle.batch.specs.declared.transfer.Place.{Place}
@@ -10,7 +9,7 @@ use Rattle.link_graph.specs.Schedules.{IsScheduleOf}
 use Rattle.module_memory.specs.Core.{FitsIn, IsPlaced}
 use Rattle.module_memory.specs.Settings.{IsRun}
 use Rattle.module_memory.specs.Store.{IsWhole, Store}
-use Rattle.module_orders.specs.Obeying.{AreObeyed, is_aside, without_copy}
+use Rattle.module_orders.specs.Obeying.{AreObeyed}
 use Rattle.module_orders.specs.Orders.{RackTold, orders_of, told_to}
 use Rattle.module_orders.specs.OrdersText.{Tells, orders_text}
 
@@ -40,24 +39,6 @@ RunIsObeyed =
     (batch : List Transfer) (settings : List (List ℕ)) (opening new : Store)
     → CanObey batch settings opening → IsRun opening opening batch settings new
     → AreObeyed (all_told batch settings) batch settings opening new
-
--- There are words of a rack of the shape by which a copy is missed: without it the modules can obey
--- all else, and leave another store.
-pub record IsMissed (batch : List Transfer) (settings : List (List ℕ)) (shape : Extent) (p : Place)
-    : Type 0 where
-  pub opening : Store
-  pub of_shape : opening.shape ≡ shape
-  pub can : CanObey batch settings opening
-  pub new : Store
-  pub obeyed : AreObeyed (without_copy p (all_told batch settings)) batch settings opening new
-  pub not_placed : IsPlaced opening batch new → ⊥
-
--- no copy is needless: on a rack of any shape that has the blocks it can be missed
-abbrev pub EachCopyIsNeeded : Type 0
-EachCopyIsNeeded =
-    (batch : List Transfer) (settings : List (List ℕ)) (shape : Extent) (p : Place)
-    → IsApart batch → IsScheduleOf batch settings → IsShape shape → FitsIn shape batch
-    → is_aside (all_told batch settings) p ≡ true → IsMissed batch settings shape p
 
 -- the text of orders tells them, of all modules or of one
 abbrev pub IsTold : Type 0

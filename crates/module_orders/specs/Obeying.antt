@@ -11,7 +11,7 @@ use Rattle.link_graph.specs.declared.link.Link.{Link}
 use Rattle.module_memory.specs.Core.{times}
 use Rattle.module_memory.specs.Store.{Store, block_of, set_word}
 use Rattle.switch_settings.specs.Settings.{setting_pairs}
-use Rattle.module_orders.specs.Orders.{ModuleTold, RackTold, copies_in, module_told, rack_told, sends_copy}
+use Rattle.module_orders.specs.Orders.{ModuleTold, RackTold, copies_in}
 use Rattle.module_orders.specs.declared.order.Act.{Act}
 use Rattle.module_orders.specs.declared.order.Act.TheVariants.{Send, SendCopy, Receive}
 use Rattle.module_orders.specs.declared.order.Order.{Order}
@@ -126,26 +126,3 @@ AreObeyedFrom told aside k (pairs ∷ settings) old new =
 abbrev pub AreObeyed : RackTold → List Transfer → List (List ℕ) → Store → Store → Type 0
 AreObeyed told batch settings opening new =
     AreObeyedFrom told (aside_of told opening) 0 (map (setting_pairs batch) settings) opening new
-
--- ---- without a copy
-
--- the order to send the block itself
-abbrev pub sent_itself : Order → Order
-sent_itself order =
-    record { setting = order.setting; end = order.end; act = Send; block = order.block }
-
--- the order of a module that doesn't copy this block: where it would send the copy, it sends the
--- block itself
-abbrev pub uncopied : ℕ → Order → Order
-uncopied b order = if sends_copy b order then sent_itself order else order
-
--- what a module is told, where block p isn't copied
-abbrev pub module_without : Place → ModuleTold → ModuleTold
-module_without p told =
-    if told.«module» == p.«module»
-    then module_told told.«module» (map (uncopied p.block) told.orders)
-    else told
-
--- what the modules are told, where block p isn't copied
-abbrev pub without_copy : Place → RackTold → RackTold
-without_copy p told = rack_told told.settings (map (module_without p) told.modules)

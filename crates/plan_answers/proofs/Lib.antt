@@ -6,6 +6,4 @@ pub mod WrongCertificates
 pub mod Ranges
 pub mod OneDrawing
 pub mod OneCounting
-pub mod DirectedThenPlanned
-pub mod PlannedThenChecked
 pub mod OneSource

@@ -1,4 +1,3 @@
-pub mod Laws
 pub mod Lent
 pub mod Refusals
 pub mod Texts

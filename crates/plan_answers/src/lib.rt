@@ -10,8 +10,7 @@
 //! What the answers are is said by `IsPlanned` and `IsChecked` of `specs/Answers.antt`, `IsDrawn`
 //! of `specs/Drawings.antt`, `IsPriced` of `specs/Pricing.antt` and `IsDirected` of
 //! `specs/Directing.antt`; what a schedule's source gives, by `specs/Schedules.antt`. Of `check` and
-//! `draw` there is one answer at most. `laws::planned_then_checked` and
-//! `laws::directed_then_planned` put two of them together.
+//! `draw` there is one answer at most.
 #![tactic(auto)]
 
 mod answer;
@@ -19,7 +18,6 @@ mod checking;
 mod counting;
 mod directing;
 mod drawing;
-pub mod laws;
 mod limits;
 mod planning;
 mod pricing;

@@ -1,14 +1,12 @@
 -- The lines of `switch`, one more at a time.
-use Rattle.std.proofs.Common.{◌≡◌, ℕ, ◌<◌, ◌+◌, Bool, List, [], ◌++◌, length, get_or, Option, refl, sym, ap, ap₂, ◌∙◌, Some, take, codes}
+use Rattle.std.proofs.Common.{◌≡◌, ℕ, ◌<◌, ◌+◌, Bool, List, [], ◌++◌, length, get_or, Option, refl, sym, ap, ap₂, ◌∙◌, take, codes}
 use Rattle.std.specs.List.{flat_map, range_with_len}
 use Rattle.std.proofs.lemmas.List.{take_more, flat_map_more}
 use Rattle.batch.specs.declared.transfer.Transfer.{Transfer}
 use Rattle.crossbar.specs.declared.board.BoardWiring.{BoardWiring}
 use Rattle.crossbar.specs.declared.pair.Pair.{Pair}
-use Rattle.switch_settings.specs.Sending.{pairs_at, sent_for, standing_before, turning}
-use Rattle.switch_settings.proofs.Schedules.{settings_sent}
+use Rattle.switch_settings.specs.Sending.{pairs_at, standing_before, turning}
 use Rattle.line_words.specs.HexWords.{hex2}
-use Rattle.rack_answers.specs.Laws.{ToldIsSent}
 use Rattle.rack_answers.specs.Switching.{bytes_text, lines_on, turning_lines}
 use Rattle.batch.proofs.Lists.{more_parts}
 
@@ -23,12 +21,3 @@ pub more_lines : (board : Option BoardWiring) (wide : Bool) (batch : List Transf
 more_lines board wide batch settings n known pairs before after s p so_far more =
     let lines : lines_on board wide n (λ wiring. turning wiring known pairs) ≡ turning_lines board wide batch settings n = rw (s, p) refl in
     more ∙ ap₂ (λ (x y : List ℕ). x ++ y) so_far lines ∙ more_parts (turning_lines board wide batch settings) [] n
-
--- what a run sends is what is told
-pub told_is_sent : ToldIsSent
-told_is_sent modules batch settings done words old new as_wide traffic =
-    let is = settings_sent modules batch settings (length settings) old (Some new) as_wide traffic in (
-      is.more,
-      is.passed,
-      record { commands = λ k wiring. sent_for wiring batch settings k; lines = refl; sent = is.sent },
-    )

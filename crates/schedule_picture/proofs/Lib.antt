@@ -4,5 +4,4 @@ pub mod Fewest
 pub mod Needed
 pub mod OneVerdict
 pub mod Overlaps
-pub mod InView
 pub mod OneByOne

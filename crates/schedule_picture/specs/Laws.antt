@@ -1,19 +1,18 @@
 -- No cell of a picture hides another, and each stands where it can be seen. The number of settings
 -- that it tells as enough is that of each schedule with a certificate. No schedule has fewer
 -- changes of the switch than it tells as the fewest.
-use Rattle.std.specs.Prelude.{ℕ, ◌≡◌, ◌<◌, ◌≤◌, ◌+◌, ◌/◌, ◌⊎◌, List, Option, Some, length, slice_get}
+use Rattle.std.specs.Prelude.{ℕ, ◌≡◌, ◌<◌, ◌≤◌, ◌+◌, List, Option, Some, length, slice_get}
 use Rattle.batch.specs.declared.transfer.Transfer.{Transfer}
 use Rattle.batch.specs.Batches.{IsBatch}
 use Rattle.link_graph.specs.declared.link.End.{End}
 use Rattle.link_graph.specs.Schedules.{IsScheduleOf}
 use Rattle.link_graph.specs.Certificates.{Naming, IsCertified}
 use Rattle.steady_schedule.specs.Changes.{changes}
-use Rattle.schedule_picture.specs.declared.layout.TheConstants.{TOP, PANEL, LABELS, COLUMN, HALF, CELL_WIDTH, CELL_HEIGHT}
+use Rattle.schedule_picture.specs.declared.layout.TheConstants.{CELL_WIDTH, CELL_HEIGHT}
 use Rattle.schedule_picture.specs.declared.shown.Shown.{Shown}
 use Rattle.schedule_picture.specs.declared.verdict.Verdict.{Verdict}
 use Rattle.schedule_picture.specs.Verdicts.{IsVerdict}
-use Rattle.schedule_picture.specs.Places.{column_place, panel_place, width_of, legend_place}
-use Rattle.schedule_picture.specs.Cells.{half_top, cell_left, cell_top}
+use Rattle.schedule_picture.specs.Cells.{cell_left, cell_top}
 
 -- the transfer stands at position i of the setting of column j
 pub record IsDrawnAt (batch : List Transfer) (settings : List (List ℕ)) (shown : Shown) (j i : ℕ)
@@ -43,39 +42,6 @@ NothingOverlaps =
     → (j i : ℕ) (x : Transfer) (e : End) (l k : ℕ) (y : Transfer) (f : End)
     → IsDrawnAt batch settings shown j i x → IsDrawnAt batch settings shown l k y
     → CellsOverlap batch j x e l y f → (j ≡ l) × (i ≡ k) × (e ≡ f)
-
--- the cell at an end of a transfer in column j of so many stands in the column and in the half of
--- the row, between the labels of its panel and those of the next one, within the width of the
--- picture, and between the top of the rows and the legend
-pub record IsInView (batch : List Transfer) (columns j : ℕ) (x : Transfer) (e : End) : Type 0 where
-  pub in_column : (column_place j ≤ cell_left j)
-      × (cell_left j + CELL_WIDTH ≤ column_place j + COLUMN)
-  pub in_half : (half_top batch x e ≤ cell_top batch x e)
-      × (cell_top batch x e + CELL_HEIGHT ≤ half_top batch x e + HALF)
-  pub after_labels : panel_place (j / PANEL) + LABELS ≤ cell_left j
-  pub before_labels : cell_left j + CELL_WIDTH ≤ panel_place (j / PANEL + 1)
-  pub within_width : cell_left j + CELL_WIDTH ≤ width_of columns
-  pub below_top : TOP ≤ cell_top batch x e
-  pub above_legend : cell_top batch x e + CELL_HEIGHT ≤ legend_place batch
-
--- so each cell of a picture stands
-abbrev pub AllIsInView : Type 0
-AllIsInView =
-    (batch : List Transfer) (settings : List (List ℕ)) (shown : Shown) → IsBatch batch
-    → (j i : ℕ) (x : Transfer) (e : End) → IsDrawnAt batch settings shown j i x
-    → IsInView batch shown.count j x e
-
--- the rule before column j of so many stands after the labels of its panel, within the width of
--- the picture, and on no cell
-pub record RuleIsApart (columns j : ℕ) : Type 0 where
-  pub after_labels : panel_place (j / PANEL) + LABELS ≤ column_place j
-  pub within_width : column_place j < width_of columns
-  pub on_no_cell : (l : ℕ) → (column_place j < cell_left l)
-      ⊎ (cell_left l + CELL_WIDTH < column_place j)
-
--- so each rule stands
-abbrev pub RulesAreApart : Type 0
-RulesAreApart = (columns j : ℕ) → j < columns → RuleIsApart columns j
 
 -- no schedule of the batch has fewer settings than this, and one that has a certificate has just so
 -- many

@@ -1,21 +1,10 @@
 //! Laws of pictures. They do nothing.
 
-ghost use Rattle.schedule_picture.specs.Laws.{NothingOverlaps, AllIsInView, RulesAreApart, VerdictTellsFewest, TellsNeededChanges};
+ghost use Rattle.schedule_picture.specs.Laws.{NothingOverlaps, VerdictTellsFewest, TellsNeededChanges};
 
 /// In the picture of a schedule no cell lies over another, not even in part.
 pub fn nothing_overlaps()
     ensures { NothingOverlaps }
-{}
-
-/// Each cell of a picture stands whole in its column and its link's half of a row, and neither on a
-/// label of a row nor on the legend.
-pub fn all_is_in_view()
-    ensures { AllIsInView }
-{}
-
-/// The rule before a column stands on no cell, on no label of a row, and within the picture.
-pub fn rules_are_apart()
-    ensures { RulesAreApart }
 {}
 
 /// As many settings as a verdict tells are the fewest: no schedule of the batch has fewer, and each

@@ -6,10 +6,8 @@
 //! the transfer's other side.
 //!
 //! [`draw`] gives one text, `picture_of` of `specs/Picture.antt`. No cell lies over another
-//! (`laws::nothing_overlaps`), and each stands whole in its column and its half of a row
-//! (`laws::all_is_in_view`). No rule stands on a cell (`laws::rules_are_apart`). [`standing_of`]
-//! tells how the certificate of a schedule stands, or of what is no schedule of the batch the first
-//! fault of its settings. [`verdict_on`] tells how many transfers the busiest link has, how often
+//! (`laws::nothing_overlaps`). [`standing_of`] tells how the certificate of a schedule stands, or of
+//! what is no schedule of the batch the first fault of its settings. [`verdict_on`] tells how many transfers the busiest link has, how often
 //! the switch changes, the most partners of a link, and what prices show (`IsVerdict` of
 //! `specs/Verdicts.antt`). No schedule has fewer settings than there are such transfers
 //! (`laws::tells_fewest`), or fewer changes than such partners (`laws::tells_needed_changes`).

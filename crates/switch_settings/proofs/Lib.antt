@@ -6,6 +6,5 @@ pub mod Joined
 pub mod InOrder
 pub mod Turning
 pub mod Asking
-pub mod Steps
 pub mod Schedules
 pub mod Racks

@@ -1,5 +1,5 @@
 -- What a switch is sent for a schedule turns it into that of each setting, one after the other.
-use Rattle.std.proofs.Common.{◌≡◌, ◌<◌, ◌≤◌, ◌+◌, ℕ, zero, suc, List, [], ◌++◌, length, get_or, set, take, drop, replicate, Option, None, Some, refl, sym, ap, ◌∙◌, subst, arith, add-one}
+use Rattle.std.proofs.Common.{◌≡◌, ◌<◌, ◌≤◌, ◌+◌, ℕ, zero, suc, List, [], ◌++◌, length, get_or, set, take, replicate, Option, None, Some, refl, sym, ap, ◌∙◌, subst, arith, add-one}
 use Rattle.std.specs.Prelude.{All}
 use Rattle.std.specs.List.{flat_map, range_with_len}
 use Rattle.std.proofs.lemmas.List.{take_all, flat_map_more}
@@ -9,7 +9,6 @@ use Rattle.batch.specs.Batches.{IsBatch}
 use Rattle.batch.specs.Overlap.{transfer_at}
 use Rattle.batch.proofs.Lists.{range_more}
 use Rattle.c004_commands.specs.declared.command.Command.{Command}
-use Rattle.crossbar.specs.Others.{IsFree, LeaveAlone}
 use Rattle.crossbar.specs.Pairs.{ArePairs, room_of, switch_of}
 use Rattle.crossbar.specs.Switch.{Switch, after_all}
 use Rattle.crossbar.specs.Wired.{links_of}
@@ -17,13 +16,13 @@ use Rattle.crossbar.specs.declared.board.BoardWiring.{BoardWiring}
 use Rattle.crossbar.specs.declared.chip.Wiring.{Wiring}
 use Rattle.crossbar.specs.declared.chip.Wiring.TheVariants.{Board}
 use Rattle.crossbar.proofs.Carrying.{after_all-append}
-use Rattle.crossbar.proofs.Changes.{change_law, setting_law, left_both, others_in_change, others_in_setting}
+use Rattle.crossbar.proofs.Changes.{change_law, setting_law}
 use Rattle.link_graph.specs.Schedules.{IsScheduleOf}
 use Rattle.link_graph.specs.Uses.{IsMatching}
 use Rattle.switch_settings.specs.Racks.{HasModulesOf}
 use Rattle.switch_settings.specs.Settings.{numbers_in, setting_pairs}
 use Rattle.switch_settings.specs.Sending.{in_order, pairs_at, sent_for, sent_for_first}
-use Rattle.switch_settings.specs.Laws.{OthersAreLeft, SettingsTurn}
+use Rattle.switch_settings.specs.Laws.{SettingsTurn}
 use Rattle.switch_settings.proofs.Joined.{IsTableOf, table_none, table_more, table_is_pairs, table_is_switch}
 use Rattle.switch_settings.proofs.InOrder.{table_in_order}
 use Rattle.switch_settings.proofs.Replies.{more_pairs}
@@ -101,29 +100,3 @@ pub settings_turn : SettingsTurn
 settings_turn batch settings m w s k fits schedule has room lt =
     let g : Given batch settings m w = record { fits = fits; schedule = schedule; has = has; room = room } in
     turned batch settings m w s k g lt ∙ ordered_switch m w batch (numbers_in settings k) (numbers_at batch settings m w k g lt) has room
-
--- ---- links of a board that no module is on
-
-module _ (batch : List Transfer) (settings : List (List ℕ)) (b : BoardWiring) (link : ℕ) (free : IsFree b link) (g : Given batch settings (length (links_of b)) (Board b)) where
-  wired : (k : ℕ) → k < length settings → ArePairs (room_of (Board b)) (pairs_at batch settings k)
-  wired k lt = pairs_in batch settings (length (links_of b)) (Board b) k g lt
-
-  left_at : (k : ℕ) → 0 < k → k < length settings → LeaveAlone link (sent_for (Board b) batch settings k)
-  left_at zero later lt = absurd (omega arith)
-  left_at (suc k) later lt = others_in_change b (pairs_at batch settings k) (pairs_at batch settings (suc k)) link (wired k (omega arith)) (wired (suc k) lt) free
-
-  left_from : (start n : ℕ) → 0 < start → start + n ≤ length settings → LeaveAlone link (flat_map (sent_for (Board b) batch settings) (range_with_len start n))
-  left_from start zero later le = tt
-  left_from start (suc n) later le =
-      left_both link (sent_for (Board b) batch settings start) (flat_map (sent_for (Board b) batch settings) (range_with_len (start + 1) n))
-      (left_at start later (omega arith)) (left_from (start + 1) n (omega arith) (omega arith))
-
-  left_first : (n : ℕ) → n ≤ length settings → LeaveAlone link (drop 1 (sent_for_first (Board b) batch settings n))
-  left_first zero le = tt
-  left_first (suc n) le =
-      left_both link (drop 1 (sent_for (Board b) batch settings 0)) (flat_map (sent_for (Board b) batch settings) (range_with_len 1 n))
-      (others_in_setting b (pairs_at batch settings 0) link (wired 0 (omega arith)) free) (left_from 1 n (omega arith) (omega arith))
-
-pub others_are_left : OthersAreLeft
-others_are_left batch settings b link fits schedule has free =
-    left_first batch settings b link free (record { fits = fits; schedule = schedule; has = has; room = omega arith }) (length settings) (omega arith)

@@ -1,14 +1,10 @@
 -- What the laws state. Proofs use them; no contract of a call cites them.
-use Rattle.std.specs.Prelude.{◌≡◌, ◌<◌, ◌≤◌, ◌+◌, ℕ, List, drop, length}
+use Rattle.std.specs.Prelude.{◌≡◌, ◌<◌, ◌≤◌, ◌+◌, ℕ, List, length}
 use Rattle.batch.specs.Batches.{IsBatch}
 use Rattle.batch.specs.declared.transfer.Transfer.{Transfer}
-use Rattle.crossbar.specs.Others.{IsFree, LeaveAlone}
 use Rattle.crossbar.specs.Pairs.{room_of, switch_of}
 use Rattle.crossbar.specs.Switch.{Switch, after_all}
-use Rattle.crossbar.specs.Wired.{links_of}
-use Rattle.crossbar.specs.declared.board.BoardWiring.{BoardWiring}
 use Rattle.crossbar.specs.declared.chip.Wiring.{Wiring}
-use Rattle.crossbar.specs.declared.chip.Wiring.TheVariants.{Board}
 use Rattle.link_graph.specs.Schedules.{IsScheduleOf}
 use Rattle.switch_settings.specs.Racks.{HasModulesOf}
 use Rattle.switch_settings.specs.Sending.{sent_for_first}
@@ -23,12 +19,3 @@ SettingsTurn =
     → HasModulesOf modules batch → modules ≤ room_of wiring → k < length settings
     → after_all (sent_for_first wiring batch settings (k + 1)) switch
     ≡ switch_of wiring (setting_pairs batch (numbers_in settings k))
-
--- Of what a board's switch is sent for a schedule, no command after the first resets it, or names
--- a link that no module is on.
-abbrev pub OthersAreLeft : Type 0
-OthersAreLeft =
-    (batch : List Transfer) (settings : List (List ℕ)) (board : BoardWiring) (link : ℕ)
-    → IsBatch batch → IsScheduleOf batch settings → HasModulesOf (length (links_of board)) batch
-    → IsFree board link
-    → LeaveAlone link (drop 1 (sent_for_first (Board board) batch settings (length settings)))

@@ -1,6 +1,6 @@
 -- How many modules the rack of a batch has to have, and how many switches. That a rack has two
 -- where one doesn't join all its modules is this project's choice.
-use Rattle.std.specs.Prelude.{◌<◌, ◌||◌, ◌↔◌, ℕ, Bool, IsTrue, List, length, nat_le, if◌then◌else◌}
+use Rattle.std.specs.Prelude.{◌<◌, ◌||◌, ℕ, Bool, List, length, nat_le, if◌then◌else◌}
 use Rattle.std.specs.List.{list_any}
 use Rattle.batch.specs.Overlap.{transfer_at}
 use Rattle.batch.specs.declared.transfer.Transfer.{Transfer}
@@ -22,10 +22,6 @@ is_far t = nat_le JOINED_MODULES t.initiator || nat_le JOINED_MODULES t.responde
 -- a rack that has the modules of these transfers has two switches
 abbrev pub is_wide : List Transfer → Bool
 is_wide batch = list_any is_far batch
-
--- a rack of so many modules has two just where one that has the modules of these transfers has
-abbrev pub IsAsWide : ℕ → List Transfer → Type 0
-IsAsWide modules batch = IsTrue (is_wide batch) ↔ (JOINED_MODULES < modules)
 
 -- how many modules the switches of such a rack join
 abbrev pub joined_by : Bool → ℕ

@@ -7,8 +7,7 @@
 //! switch is sent, `turning` of `specs/Sending.antt`: a setting where no pairs are known to stand,
 //! else the change from these. It turns the switch into that of the new pairs. After what any
 //! switch is sent for the first settings of a schedule, it is that of the last of them
-//! (`laws::settings_turn`). Of what a board's switch is sent so, no command after the first is a
-//! reset or names a link that no module is on (`laws::others_are_left`).
+//! (`laws::settings_turn`).
 //!
 //! Where [`configure_switches`] ends well, an honest port's switches are those of the pairs. Over a
 //! port that tells what passes, the bytes went whole, outputs 0 to 31 were asked in order, and each

@@ -1,4 +1,3 @@
-use Rattle.module_orders.proofs.Missed.{each_copy_is_needed}
 use Rattle.module_orders.proofs.Obeyed.{obeyed_is_placed, run_is_obeyed}
 use Rattle.module_orders.proofs.laws.obeying.Goals as goal
 
@@ -7,6 +6,3 @@ returns-clause-placed c = obeyed_is_placed
 
 pub returns-clause-any_order : goal.returns-clause-any_order
 returns-clause-any_order c = run_is_obeyed
-
-pub returns-clause-needed : goal.returns-clause-needed
-returns-clause-needed c = each_copy_is_needed
