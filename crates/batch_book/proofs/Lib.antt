@@ -6,7 +6,6 @@ pub mod Fronts
 pub mod Histories
 pub mod OneReplay
 pub mod OwnPlans
-pub mod Numbers
 pub mod Unstopped
 pub mod Answering
 pub mod Seats

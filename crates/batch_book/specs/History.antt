@@ -1,6 +1,5 @@
 -- Histories of the book.
 use Rattle.std.specs.Prelude.{◌≡◌, ℕ, ◌≤◌, ◌⊎◌, nat_lt, if◌then◌else◌, Bool, true, false, List, [], ◌∷◌, ◌++◌, length, take, All}
-use Rattle.std.specs.List.{flat_map}
 use Rattle.batch.specs.Extent.{IsShape}
 use Rattle.module_memory.specs.Store.{Store}
 use Rattle.schedule_certificate.specs.Plans.{Plan, IsPlan}
@@ -9,9 +8,7 @@ use Rattle.batch_book.specs.declared.kept.KeptBatch.{KeptBatch}
 use Rattle.batch_book.specs.declared.kept.Stage.TheVariants.{Planned}
 use Rattle.batch_book.specs.declared.entry.Entry.{Entry}
 use Rattle.batch_book.specs.declared.reply.Reply.{Reply}
-use Rattle.batch_book.specs.declared.reply.Reply.TheVariants.{Accepted, Ran, Stopped}
 use Rattle.batch_book.specs.declared.call.Call.{Call}
-use Rattle.batch_book.specs.declared.call.Call.TheVariants.{Run}
 use Rattle.batch_book.specs.Machine.{Machine, opened, IsMachineStep}
 use Rattle.batch_book.specs.Replies.{IsUnstopped}
 
@@ -117,26 +114,6 @@ pub record IsGrown (old : Account) (session : ℕ) (call : Call) (reply : Reply)
 -- no run stopped
 abbrev pub AreUnstopped : List Entry → Type 0
 AreUnstopped es = All (λ e. IsUnstopped e.reply) es
-
--- the call runs a batch
-abbrev pub IsRunCall : Call → Type 0
-IsRunCall (Run id) = Unit {0}
-IsRunCall call = ⊥
-
--- the number that a reply gives to a batch
-abbrev pub batch_number : Reply → List ℕ
-batch_number (Accepted id) = id ∷ []
-batch_number reply = []
-
--- the number that a reply gives to a run
-abbrev pub run_number : Reply → List ℕ
-run_number (Ran run settings words) = run ∷ []
-run_number (Stopped run setting cause moved) = run ∷ []
-run_number reply = []
-
--- the numbers that the replies of a history give, in order
-abbrev pub given_numbers : (Reply → List ℕ) → List Entry → List ℕ
-given_numbers given es = flat_map (λ e. given e.reply) es
 
 -- a batch that can be run has a shortest plan of its own transfers
 abbrev pub HasOwnPlan : KeptBatch → Type 0

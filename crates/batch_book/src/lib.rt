@@ -38,7 +38,6 @@ mod history;
 mod holdings;
 mod kept;
 mod kept_history;
-pub mod laws;
 mod limits;
 mod lists;
 mod locked;

@@ -5,13 +5,10 @@ use Rattle.std.specs.List.{flat_map}
 use Rattle.std.specs.Prelude.{position, ◌==◌}
 use Rattle.std.proofs.lemmas.Fmt.{decimal_injective}
 use Rattle.std.proofs.lemmas.List.{append_cancel_left}
-use Rattle.batch.specs.Extent.{widest}
 use Rattle.batch.specs.Text.{IsNumber, line, number, space, line_feed}
 use Rattle.batch.proofs.Lines.{after_number, ends_space}
-use Rattle.batch.proofs.OneReading.{same_lines}
-use Rattle.batch.proofs.Shapes.{widest_shape}
 use Rattle.batch_book.specs.Told.{PlanlessCall}
-use Rattle.batch_book.specs.declared.recorded_call.RecordedCall.TheVariants.{Submit, Fetch, Settle, Run, Show, Discard, Peek, Poke}
+use Rattle.batch_book.specs.declared.recorded_call.RecordedCall.TheVariants.{Submit, Fetch, Settle}
 use Rattle.client_session.specs.Commands.{Means}
 use Rattle.client_session.specs.Replies.{with_feed}
 use Rattle.client_session.specs.declared.command.SessionCommand.{SessionCommand}
@@ -19,7 +16,7 @@ use Rattle.client_session.specs.declared.command.SessionCommand.TheVariants as c
 use Rattle.client_session.proofs.OneMeaning.{means_one}
 use Rattle.book_record.specs.RecordText.{call_line, call_text, CanSay}
 use Rattle.book_record.specs.Reading.{BeginsWithNoBatch, BeginsWithNoCall, BeginsWithNoEntry, IsCallOf, command_for}
-use Rattle.book_record.proofs.Feeds.{byte_at, first_at, first_line, line_there, no_byte, without_feed}
+use Rattle.book_record.proofs.Feeds.{byte_at, first_at, line_there, no_byte, without_feed}
 use Rattle.book_record.proofs.Marks.{call_plain}
 
 -- ---- the first line of a call
@@ -51,25 +48,6 @@ same_number w m n few less e = decimal_injective m n (omega (arith, few)) (omega
 
 at_index : (i : ℕ) {x y : List ℕ} → x ≡ y → get_or x i 0 ≡ get_or y i 0
 at_index i e = ap (λ (l : List ℕ). get_or l i 0) e
-
-one_of : (a b : PlanlessCall) (x y : List ℕ) → CanSay a → CanSay b → (call_line a ≡ call_line b) × (lines_after a ++ x ≡ lines_after b ++ y) → (a ≡ b) × (x ≡ y)
-one_of (Submit c) (Submit d) x y p q e =
-    let few = p.few in
-    let less = q.few in
-    let one = same_lines widest widest_shape c d x y p.within q.within (same_number (codes "batch ") (length c) (length d) (omega arith) (omega arith) e.0) e.1 in
-    (ap Submit one.0, one.1)
-one_of (Fetch m) (Fetch n) x y p q e = (ap Fetch (same_number (codes "fetch ") m n p q e.0), e.1)
-one_of (Settle m) (Settle n) x y p q e = (ap Settle (same_number (codes "settle ") m n p q e.0), e.1)
-one_of (Run m) (Run n) x y p q e = (ap Run (same_number (codes "run ") m n p q e.0), e.1)
-one_of (Show m) (Show n) x y p q e = (ap Show (same_number (codes "show ") m n p q e.0), e.1)
-one_of (Discard m) (Discard n) x y p q e = (ap Discard (same_number (codes "drop ") m n p q e.0), e.1)
-one_of (Peek m a) (Peek n b) x y p q e = (let one = means_one _ (Some (command.Peek m a)) (Some (command.Peek n b)) (p, refl) (q, e.0) in cc, e.1)
-one_of (Poke m a v) (Poke n b w) x y p q e = (let one = means_one _ (Some (command.Poke m a v)) (Some (command.Poke n b w)) (p, refl) (q, e.0) in cc, e.1)
-one_of a b x y p q e = absurd (omega (arith, at_index 0 e.0, at_index 1 e.0))
-
--- a call's lines, and what stands after them
-pub one_call : (a b : PlanlessCall) (x y : List ℕ) → CanSay a → CanSay b → call_text a ++ x ≡ call_text b ++ y → (a ≡ b) × (x ≡ y)
-one_call a b x y p q same = one_of a b x y p q (first_line _ _ (call_plain a) (call_plain b) (sym (text_form a x) ∙ same ∙ text_form b y))
 
 -- ---- the call of a line
 

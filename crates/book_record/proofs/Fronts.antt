@@ -1,9 +1,9 @@
 -- Fronts of the text of entries.
-use Rattle.std.proofs.Common.{◌≡◌, ◌≢◌, ℕ, suc, ◌+◌, List, [], ◌∷◌, ◌++◌, ◌⊎◌, inl, inr, get_or, length, drop, All, refl, sym, ap, ◌∙◌, append_assoc, subst, arith}
+use Rattle.std.proofs.Common.{◌≡◌, ◌≢◌, ℕ, suc, ◌+◌, List, [], ◌∷◌, ◌++◌, ◌⊎◌, inl, inr, get_or, length, All, refl, sym, ap, ◌∙◌, append_assoc, subst, arith}
 use Rattle.std.specs.Fmt.{decimal}
 use Rattle.std.specs.Int.{IsInRange}
 use Rattle.std.proofs.lemmas.Fmt.{decimal_is_IsNumeral}
-use Rattle.std.proofs.lemmas.List.{append_cancel_left, get_or_append_left, length-append, nil_from_length}
+use Rattle.std.proofs.lemmas.List.{get_or_append_left, length-append, nil_from_length}
 use Rattle.std.proofs.lemmas.List.Elements.{All-head, All-nil, All-cons, All-tail}
 use Rattle.std.proofs.lemmas.Str.Parse.{digit_at}
 use Rattle.batch.proofs.Numbers.{form}
@@ -32,13 +32,6 @@ hex_fed w = without_feed (hex8_plain w)
 
 cut_form : (b l x m : List ℕ) → (b ++ sum_mark ∷ (l ++ line_feed ∷ x)) ++ m ≡ b ++ sum_mark ∷ (l ++ line_feed ∷ (x ++ m))
 cut_form b l x m = simp append_assoc
-
--- one body, and one rest
-pub one_summed : (n : ℕ) (a b x y : List ℕ) → HasNoMark a → HasNoMark b → summed n a ++ x ≡ summed n b ++ y → (a ≡ b) × (x ≡ y)
-one_summed n a b x y p q same =
-    let first = first_at sum_mark a b _ _ p q (sym (summed_form n a x) ∙ same ∙ summed_form n b y) in
-    let second = append_cancel_left (hex8 (sum_at n b)) (line_feed ∷ x) (line_feed ∷ y) (ap (λ (l : List ℕ). hex8 (sum_at n l) ++ line_feed ∷ x) (sym first.0) ∙ first.1) in
-    (first.0, ap (drop 1) second)
 
 -- a front of what is summed, and not the whole of it, is unfinished
 cut_summed : (n : ℕ) (b front missing : List ℕ) → HasNoMark b → summed n b ≡ front ++ missing → missing ≢ [] → IsUnfinished front
@@ -78,9 +71,6 @@ other_bytes n text unfinished strange = record {
 -- the first entry, and what stands after it
 pub first_text : (n : ℕ) (e : Entry) (es : List Entry) (x : List ℕ) → texts n (e ∷ es) ++ x ≡ entry_text n e ++ (texts (suc n) es ++ x)
 first_text n e es x = append_assoc (entry_text n e) (texts (suc n) es) x
-
-pub one_entry_text : (n : ℕ) (e f : Entry) (x y : List ℕ) → CanTell e → CanTell f → entry_text n e ++ x ≡ entry_text n f ++ y → (entry_lines e ≡ entry_lines f) × (x ≡ y)
-one_entry_text n e f x y p q same = one_summed n (entry_lines e) (entry_lines f) x y (told_unmarked e p) (told_unmarked f q) same
 
 -- ---- each front
 

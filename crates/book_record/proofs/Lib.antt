@@ -1,7 +1,4 @@
-pub mod Alike
-pub mod OneTold
 pub mod CallTexts
-pub mod Records
 pub mod Put
 pub mod Lines
 pub mod Feeds

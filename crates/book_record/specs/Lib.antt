@@ -1,6 +1,5 @@
 pub mod Sums
 pub mod RecordText
-pub mod Untold
 pub mod Reading
 pub mod Fronts
 pub mod Heads

@@ -1,6 +1,6 @@
 //! The reader of a record, from the left: what it has read, and the rest where lines may follow.
 
-ghost use Rattle.std.specs.Prelude.{◌≡◌, ◌≢◌, ◌+◌, ◌<◌, ◌≤◌, ◌++◌, ℕ, drop, length, IfOk, IfSome, IfNone, Some, None};
+ghost use Rattle.std.specs.Prelude.{◌≡◌, ◌≢◌, ◌+◌, ◌<◌, ◌≤◌, ◌++◌, drop, length, IfOk, IfSome, IfNone, Some, None};
 ghost use Rattle.batch.specs.Batches.{IsBatch};
 ghost use Rattle.batch.specs.Text.{IsNumber, number, batch_text, space};
 ghost use Rattle.batch_book.specs.Told.{PlanlessCall};

@@ -19,7 +19,6 @@ use Rattle.command_words.specs.declared.uses.Access.TheVariants.{Read}
 use Rattle.command_words.proofs.OneRequest.{one_request}
 use Rattle.drive_answers.specs.Answers.{IsDriveAnswer}
 use Rattle.drive_answers.specs.Ways.{Ways}
-use Rattle.exchange.proofs.AskedPlan.{some_ask}
 use Rattle.exchange.proofs.AskedJobs.{Answers, JobEnd, EndsSo, JobsCome, KeepsSo, SessionsCome, all_written, asks_nothing, cut_ends, ended_run, ends_well, jobs_come, keeps_apart, sessions_come, text_ends, the_run}
 use Rattle.exchange.proofs.EndStatuses.{IsEither, gave_up, never_done}
 use Rattle.exchange.proofs.HeldFiles.{alone, earlier, held_files, pass}
@@ -227,7 +226,6 @@ keeps_promises e after received receipts comes had endings known ports so none i
       ends = ends_well e is;
       jobs = λ job asks. keeps_jobs received receipts comes had endings e.named e.given known e.words after (Appends e.streams.out_before e.streams.out_after) e.code true (λ lost. lost ≡ lost_none) (λ lost same all. same)
           (text_ends e is) (jobs_come e after ports (λ n. (none n).1) is) come (λ misused. asks_nothing e is (record { job = job; is_quiet = asks.0 }) asks.1 misused) (keeps_others received receipts comes had endings after e ports so none is) job asks;
-      some = some_ask;
       apart = keeps_apart e is;
       nothing = keeps_nothing received receipts comes had endings after e ports so none is;
       fronts = λ unwritten. absurd (all_written e is unwritten);
@@ -249,7 +247,6 @@ keeps_in_part words named after given out_before out_after code received receipt
         used = λ misused. omega (arith, misused, unwritten);
         others = cut_others received receipts comes had endings after words named given out_before out_after run true is job asks.0 asks.1;
       };
-      some = some_ask;
       apart = λ job asks. inr (inr unwritten);
       nothing = cut_nothing received receipts comes had endings after words named given out_before out_after run true is refl unwritten;
       fronts = λ same. (

@@ -873,45 +873,6 @@ LeavesOthers w (Sessions rack (Host names workers)) = w.after ≡ w.before
 LeavesOthers w (Sessions rack job) = (w.after ≡ w.before) × (w.clients.ends ≡ [])
 LeavesOthers w job = LeavesAll w
 
--- these words ask for this job
-abbrev pub Ask : List Text → Job → Type 0
-Ask words job = AskFor (codes "exchange" ∷ words) (record { job = job; is_quiet = false })
-
--- a rack of sessions without files
-abbrev pub plain_rack : SharedRack
-plain_rack =
-    record { shape = codes "1x1x1"; image = None; record_out = None; image_out = None }
-
--- words ask for each command, and for two switches: these are the shortest
-pub record SomeAsk : Type 0 where
-  pub plan : Ask (codes "plan" ∷ codes "b" ∷ []) (Texts (Plan (codes "b") Plain 1))
-  pub check : Ask (codes "check" ∷ codes "b" ∷ codes "s" ∷ [])
-      (Texts (Check (codes "b") (codes "s")))
-  pub draw : Ask (codes "draw" ∷ codes "b" ∷ codes "s" ∷ [])
-      (Texts (Draw (codes "b") (codes "s") None))
-  pub prices : Ask (codes "draw" ∷ codes "b" ∷ codes "s" ∷ codes "--prices" ∷ [])
-      (Texts (Prices (codes "b") (codes "s")))
-  pub switch : Ask (codes "switch" ∷ codes "b" ∷ [])
-      (Texts (SwitchJob (codes "b") (source.Plan Plain) None false 1))
-  pub two : Ask (codes "switch" ∷ codes "b" ∷ codes "--switches" ∷ codes "2" ∷ [])
-      (Texts (SwitchJob (codes "b") (source.Plan Plain) None true 1))
-  pub orders : Ask (codes "orders" ∷ codes "b" ∷ [])
-      (Texts (Orders (codes "b") (source.Plan Plain) None 1))
-  pub drive : Ask (codes "drive" ∷ codes "b" ∷ codes "p" ∷ [])
-      (OverPorts (Drive (codes "b") (codes "p") None (source.Plan Plain) None 0 false 1))
-  pub c004 : Ask (codes "c004" ∷ []) (OverPorts C004)
-  pub direct : Ask (codes "direct" ∷ codes "m" ∷ []) (Texts (Direct (codes "m")))
-  pub apply : Ask (codes "apply" ∷ codes "1x1x1" ∷ codes "b" ∷ codes "i" ∷ [])
-      (Texts (Apply (codes "1x1x1") (codes "b") (codes "i") 1))
-  pub run : Ask (codes "run" ∷ codes "1x1x1" ∷ codes "b" ∷ [])
-      (Texts (RunJob (codes "1x1x1") (codes "b") (source.Plan Plain) None 1))
-  pub serve : Ask (codes "serve" ∷ codes "1x1x1" ∷ codes "s" ∷ [])
-      (Sessions plain_rack (Serve (codes "s" ∷ []) 1))
-  pub host : Ask (codes "host" ∷ codes "1x1x1" ∷ codes "c" ∷ [])
-      (Sessions plain_rack (Host (codes "c" ∷ []) 1))
-  pub talk : Ask (codes "talk" ∷ codes "1x1x1" ∷ []) (Sessions plain_rack Talk)
-  pub replay : Ask (codes "replay" ∷ codes "r" ∷ []) (Texts (Replay None (codes "r") None None))
-
 -- the grammar finds that the arguments ask for help, or for the version
 abbrev pub AskForHelp : List Text → Type 0
 AskForHelp words =
@@ -1024,7 +985,6 @@ pub record KeepsPromises (leads : Leading) (w : World) (front : List ℕ → Typ
   pub one : AskForOne w.run.words
   pub ends : w.run.status ≤ UNWRITTEN
   pub jobs : KeepsJobs w
-  pub some : SomeAsk
   pub apart : KeepsApart leads w.run
   pub nothing : KeepsNothing w
   pub fronts : KeepsFronts w front

@@ -1,21 +1,15 @@
 -- What is answered, by where the schedule comes from.
-use Rattle.std.proofs.Common.{◌≡◌, [], ◌∷◌, ℕ, List, Result, IfOk, Some, false, subst}
+use Rattle.std.proofs.Common.{◌≡◌, ℕ, List, Result, IfOk, Some, false, subst}
 use Rattle.std.specs.Borrow.{Bor}
-use Rattle.plan_answers.specs.Answers.{IsOnly}
 use Rattle.plan_answers.specs.Refusals.{Printed}
-use Rattle.plan_answers.specs.Schedules.{IsText, said_by}
+use Rattle.plan_answers.specs.Schedules.{said_by}
 use Rattle.plan_answers.specs.declared.source.Source.{Source}
-use Rattle.plan_answers.specs.declared.source.Source.TheVariants.{Plan, Text}
 use Rattle.rack_answers.specs.Switching.{IsOn, IsSwitched}
-use Rattle.exchange_c.specs.Switching.{IsBy, IsSwitchedOn, source_for}
-use Rattle.exchange_c.proofs.Writing.{the_one}
+use Rattle.exchange_c.specs.Switching.{IsSwitchedOn, source_for}
 
 -- by a plan, or by the text that is given
-pub answered_by : {E : Type 0} (r : Result Printed E) (Is : Source (List ℕ) → Printed → Type 0) (schedule : List ℕ) (source : Source (Bor (List ℕ))) → said_by source ≡ source_for schedule → IfOk r (Is (said_by source)) → (IsText source → IfOk r (IsOnly (Is (said_by source)))) → IfOk r (IsBy Is schedule)
-answered_by r Is [] source same is one = subst (λ s. IfOk r (Is s)) same is
-answered_by r Is (byte ∷ bytes) (Plan planning) same is one = absurd cc
-answered_by r Is (byte ∷ bytes) (Text lent) same is one =
-    the_one r (Is (Text (byte ∷ bytes))) (subst (λ s. IfOk r (Is s)) same is) (subst (λ s. IfOk r (IsOnly (Is s))) same (one tt))
+pub answered_by : {E : Type 0} (r : Result Printed E) (Is : Source (List ℕ) → Printed → Type 0) (schedule : List ℕ) (source : Source (Bor (List ℕ))) → said_by source ≡ source_for schedule → IfOk r (Is (said_by source)) → IfOk r (Is (source_for schedule))
+answered_by r Is schedule source same is = subst (λ s. IfOk r (Is s)) same is
 
 -- and of `switch` on a wiring
 pub switched_on : {E : Type 0} (r : Result Printed E) (wiring batch schedule : List ℕ) (source : Source (List ℕ)) → source ≡ source_for schedule → IfOk r (IsOn (λ board. IsSwitched source false board batch) (Some wiring)) → IfOk r (IsSwitchedOn wiring batch schedule)

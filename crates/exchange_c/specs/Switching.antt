@@ -6,25 +6,19 @@ use Rattle.plan_answers.specs.declared.source.Source.{Source}
 use Rattle.plan_answers.specs.declared.source.Source.TheVariants.{Plan, Text}
 use Rattle.rack_answers.specs.Orders.{IsOrdered}
 use Rattle.rack_answers.specs.Switching.{IsOn, IsSwitched}
-use Rattle.exchange_c.specs.Writing.{IsTheOne}
 
 -- where the schedule comes from: a plan where its text is empty, and else that text
 abbrev pub source_for : List ℕ → Source (List ℕ)
 source_for [] = Plan Plain
 source_for (byte ∷ bytes) = Text (byte ∷ bytes)
 
--- what is answered for a schedule from there; of a text no other answer is right
-abbrev pub IsBy : (Source (List ℕ) → Printed → Type 0) → List ℕ → Printed → Type 0
-IsBy Is [] = Is (Plan Plain)
-IsBy Is (byte ∷ bytes) = IsTheOne (Is (Text (byte ∷ bytes)))
-
 -- what `switch` answers so
 abbrev pub IsSwitchedBy : List ℕ → List ℕ → Printed → Type 0
-IsSwitchedBy batch schedule = IsBy (λ source. IsSwitched source false None batch) schedule
+IsSwitchedBy batch schedule = IsSwitched (source_for schedule) false None batch
 
 -- what `orders` answers so, of all modules
 abbrev pub IsOrderedBy : List ℕ → List ℕ → Printed → Type 0
-IsOrderedBy batch schedule = IsBy (λ source. IsOrdered source None batch) schedule
+IsOrderedBy batch schedule = IsOrdered (source_for schedule) None batch
 
 -- what `switch` answers on a wiring
 abbrev pub IsSwitchedOn : List ℕ → List ℕ → List ℕ → Printed → Type 0

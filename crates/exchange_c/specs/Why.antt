@@ -2,13 +2,12 @@
 use Rattle.std.specs.Prelude.{◌≡◌, ◌⊎◌, ◌==◌, ℕ, List, [], Option, Some, None, if◌then◌else◌}
 use Rattle.batch.specs.Extent.{widest}
 use Rattle.exchange_c.specs.Switching.{IsOrderedBy, IsSwitchedBy, IsSwitchedOn}
-use Rattle.exchange_c.specs.Writing.{IsTheOne, IsTheOneWith}
 use Rattle.exchange_c.specs.declared.why.Asked.{Asked}
 use Rattle.exchange_c.specs.declared.why.Asked.TheVariants.{Plan, Check, Switch, Apply, Draw, Changes, Direct, SwitchWired, Orders}
 use Rattle.plan_answers.specs.Answers.{IsPlanned, IsChecked}
-use Rattle.plan_answers.specs.Counting.{IsCountedWith}
+use Rattle.plan_answers.specs.Counting.{IsCounted}
 use Rattle.plan_answers.specs.Directing.{IsDirected}
-use Rattle.plan_answers.specs.Drawings.{IsDrawnWith}
+use Rattle.plan_answers.specs.Drawings.{IsDrawn}
 use Rattle.plan_answers.specs.Refusals.{Printed, Refuses}
 use Rattle.plan_answers.specs.declared.limits.TheConstants.{DONE}
 use Rattle.plan_answers.specs.declared.source.Planning.TheVariants.{Plain}
@@ -32,11 +31,11 @@ asked_by number =
 -- what a call answers to its texts, in the order of its arguments
 abbrev pub IsAnswerOf : Asked → List ℕ → List ℕ → List ℕ → Printed → Type 0
 IsAnswerOf Plan batch second third = IsPlanned Plain widest batch
-IsAnswerOf Check batch schedule third = IsTheOne (IsChecked widest batch schedule)
+IsAnswerOf Check batch schedule third = IsChecked widest batch schedule
 IsAnswerOf Switch batch schedule third = IsSwitchedBy batch schedule
-IsAnswerOf Apply shape batch image = IsTheOne (IsApplied shape batch image)
-IsAnswerOf Draw batch schedule third = IsTheOneWith (IsDrawnWith widest batch schedule None)
-IsAnswerOf Changes batch schedule third = IsTheOneWith (IsCountedWith widest batch schedule)
+IsAnswerOf Apply shape batch image = IsApplied shape batch image
+IsAnswerOf Draw batch schedule third = IsDrawn widest batch schedule None
+IsAnswerOf Changes batch schedule third = IsCounted widest batch schedule
 IsAnswerOf Direct moves second third = IsDirected moves
 IsAnswerOf SwitchWired batch schedule wiring = IsSwitchedOn wiring batch schedule
 IsAnswerOf Orders batch schedule third = IsOrderedBy batch schedule

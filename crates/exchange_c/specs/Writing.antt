@@ -1,6 +1,5 @@
 -- What a call leaves in the caller's bytes.
 use Rattle.std.specs.Prelude.{◌≡◌, ℕ, ◌<◌, ◌≤◌, ◌⊎◌, List, ◌++◌, drop, length}
-use Rattle.plan_answers.specs.Answers.{IsOnly}
 use Rattle.plan_answers.specs.Refusals.{Printed}
 use Rattle.exchange_c.specs.declared.status.TheConstants.{NO_ROOM, NO_MEMORY}
 
@@ -34,11 +33,3 @@ abbrev pub Leaves : (Printed → Type 0) → List ℕ → List ℕ → ℕ → �
 Leaves IsAnswer old new count status =
     ((answer : Printed) × IsAnswer answer × Puts answer old new count status)
     ⊎ IsOutOfMemory old new count status
-
--- it is such an answer, and no other is
-abbrev pub IsTheOne : (Printed → Type 0) → Printed → Type 0
-IsTheOne IsAnswer answer = IsAnswer answer × IsOnly IsAnswer answer
-
--- so it is with some number
-abbrev pub IsTheOneWith : (ℕ → Printed → Type 0) → Printed → Type 0
-IsTheOneWith IsAnswer answer = (n : ℕ) × IsTheOne (IsAnswer n) answer

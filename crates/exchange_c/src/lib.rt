@@ -16,14 +16,14 @@
 ghost use Rattle.std.specs.Prelude.{◌≡◌, IfOk, OnErr, None};
 ghost use Rattle.batch.specs.Extent.{widest};
 ghost use Rattle.plan_answers.specs.Answers.{IsPlanned, IsChecked};
-ghost use Rattle.plan_answers.specs.Counting.{IsCountedWith};
+ghost use Rattle.plan_answers.specs.Counting.{IsCounted};
 ghost use Rattle.plan_answers.specs.Directing.{IsDirected};
-ghost use Rattle.plan_answers.specs.Drawings.{IsDrawnWith};
+ghost use Rattle.plan_answers.specs.Drawings.{IsDrawn};
 ghost use Rattle.plan_answers.specs.Schedules.{said_by};
 ghost use Rattle.plan_answers.specs.declared.source.Planning.TheVariants.{Plain, Steady};
 ghost use Rattle.rack_answers.specs.Answers.{IsApplied};
 ghost use Rattle.exchange_c.specs.Switching.{source_for, IsOrderedBy, IsSwitchedBy, IsSwitchedOn};
-ghost use Rattle.exchange_c.specs.Writing.{Puts, IsOutOfMemory, Leaves, IsTheOne, IsTheOneWith};
+ghost use Rattle.exchange_c.specs.Writing.{Puts, IsOutOfMemory, Leaves};
 
 mod boot;
 mod status;
@@ -112,7 +112,7 @@ pub extern "C" fn exchange_check(
     out: &mut [u8],
     count: &mut usize,
 ) -> u8
-    ensures { Leaves (IsTheOne (IsChecked widest batch.now schedule.now))
+    ensures { Leaves (IsChecked widest batch.now schedule.now)
         out.old out.new count.new result }
 {
     leave(answer_check(alloc, batch, schedule), out, count)
@@ -208,7 +208,7 @@ pub extern "C" fn exchange_apply(
     out: &mut [u8],
     count: &mut usize,
 ) -> u8
-    ensures { Leaves (IsTheOne (IsApplied shape.now batch.now image.now))
+    ensures { Leaves (IsApplied shape.now batch.now image.now)
         out.old out.new count.new result }
 {
     leave(answer_apply(alloc, shape, batch, image), out, count)
@@ -224,7 +224,7 @@ pub extern "C" fn exchange_draw(
     out: &mut [u8],
     count: &mut usize,
 ) -> u8
-    ensures { Leaves (IsTheOneWith (IsDrawnWith widest batch.now schedule.now None))
+    ensures { Leaves (IsDrawn widest batch.now schedule.now None)
         out.old out.new count.new result }
 {
     leave(answer_draw(alloc, batch, schedule, None), out, count)
@@ -240,7 +240,7 @@ pub extern "C" fn exchange_changes(
     out: &mut [u8],
     count: &mut usize,
 ) -> u8
-    ensures { Leaves (IsTheOneWith (IsCountedWith widest batch.now schedule.now))
+    ensures { Leaves (IsCounted widest batch.now schedule.now)
         out.old out.new count.new result }
 {
     leave(answer_changes(alloc, batch, schedule), out, count)

@@ -5,5 +5,4 @@ pub mod OneVerdict
 pub mod WrongCertificates
 pub mod Ranges
 pub mod OneDrawing
-pub mod OneCounting
 pub mod OneSource

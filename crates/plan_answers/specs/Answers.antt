@@ -24,10 +24,6 @@ use Rattle.plan_answers.specs.Texts.{AreTexts, IsTextWrong}
 abbrev pub IsOnly : (Printed → Type 0) → Printed → Type 0
 IsOnly IsAnswer answer = (other : Printed) → IsAnswer other → other ≡ answer
 
--- no other answer is such with the same number, whichever the answer is such with
-abbrev pub IsOnlyWith : (ℕ → Printed → Type 0) → Printed → Type 0
-IsOnlyWith IsAnswer answer = (n : ℕ) → IsAnswer n answer → IsOnly (IsAnswer n) answer
-
 -- ---- `plan`
 
 -- the text says a schedule with its certificate

@@ -2,8 +2,7 @@
 
 ghost use Rattle.std.specs.Prelude.{IfOk};
 ghost use Rattle.batch.specs.Extent.{widest};
-ghost use Rattle.plan_answers.specs.Answers.{IsOnlyWith};
-ghost use Rattle.plan_answers.specs.Counting.{IsCountedWith, IsCounted};
+ghost use Rattle.plan_answers.specs.Counting.{IsCounted};
 
 use crate::answer::Answer;
 use crate::schedule_texts::ScheduleTexts;
@@ -18,8 +17,7 @@ use std::alloc::{AllocError, Global};
 /// as one link does. No certificate is needed. The texts are looked at as by
 /// [`answer_draw`](crate::answer_draw). Takes time that grows with the lengths of the texts.
 pub fn answer_changes(alloc: Global, batch: &[u8], schedule: &[u8]) -> Result<Answer, AllocError>
-    ensures counted { IfOk result (IsCounted widest batch.now schedule.now) }
-    ensures one { IfOk result (IsOnlyWith (IsCountedWith widest batch.now schedule.now)) }
+    ensures { IfOk result (IsCounted widest batch.now schedule.now) }
 {
     match ScheduleTexts::read(alloc, Shape::WIDEST, batch, schedule) {
         Ok(texts) => {

@@ -8,8 +8,7 @@ ghost use Rattle.schedule_picture.specs.declared.verdict.Verdict.{Verdict};
 ghost use Rattle.schedule_picture.specs.Picture.{picture_of};
 ghost use Rattle.schedule_picture.specs.Verdicts.{IsVerdict};
 ghost use Rattle.refusals.specs.declared.refusal.Refusal.TheVariants.{Settings, NoSetting, NoMemory};
-ghost use Rattle.plan_answers.specs.Answers.{IsOnlyWith};
-ghost use Rattle.plan_answers.specs.Drawings.{IsInOrder, AreWanted, IsBadSettingsText, AreShown, IsOutside, IsDrawing, IsFirstUndrawn, IsDrawnWith, IsDrawn};
+ghost use Rattle.plan_answers.specs.Drawings.{IsInOrder, AreWanted, IsBadSettingsText, AreShown, IsOutside, IsDrawing, IsFirstUndrawn, IsDrawn};
 ghost use Rattle.plan_answers.specs.Lent.{bytes_of};
 
 use crate::answer::Answer;
@@ -111,9 +110,7 @@ pub fn answer_draw(
     schedule: &[u8],
     settings: Option<&[u8]>,
 ) -> Result<Answer, AllocError>
-    ensures drawn { IfOk result (IsDrawn widest batch.now schedule.now (bytes_of settings.entry)) }
-    ensures one { IfOk result
-        (IsOnlyWith (IsDrawnWith widest batch.now schedule.now (bytes_of settings.entry))) }
+    ensures { IfOk result (IsDrawn widest batch.now schedule.now (bytes_of settings.entry)) }
 {
     match picture(alloc, batch, schedule, settings) {
         Ok(text) => Ok(Answer::done(text.into_bytes())),

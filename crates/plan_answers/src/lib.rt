@@ -9,8 +9,8 @@
 //!
 //! What the answers are is said by `IsPlanned` and `IsChecked` of `specs/Answers.antt`, `IsDrawn`
 //! of `specs/Drawings.antt`, `IsPriced` of `specs/Pricing.antt` and `IsDirected` of
-//! `specs/Directing.antt`; what a schedule's source gives, by `specs/Schedules.antt`. Of `check` and
-//! `draw` there is one answer at most.
+//! `specs/Directing.antt`; what a schedule's source gives, by `specs/Schedules.antt`. Of `check`
+//! there is one answer at most.
 #![tactic(auto)]
 
 mod answer;

@@ -3,8 +3,6 @@ pub mod Reporting
 pub mod Fitting
 pub mod Switches
 pub mod OnBoards
-pub mod OneSwitching
-pub mod OneOrders
 pub mod Openings
 pub mod Ran
 pub mod ReadBatches

@@ -1,5 +1,5 @@
 -- Texts and an image have one answer of `run`, and one of `apply`, at most.
-use Rattle.std.proofs.Common.{◌≡◌, ◌≢◌, ℕ, List, length, Option, None, Some, refl, ap, ap₂, sym, ◌∙◌, subst, arith}
+use Rattle.std.proofs.Common.{◌≡◌, ◌≢◌, ℕ, List, length, Option, None, refl, ap, ap₂, sym, ◌∙◌, subst, arith}
 use Rattle.std.specs.Borrow.{Bor}
 use Rattle.batch.specs.declared.transfer.Transfer.{Transfer}
 use Rattle.batch.specs.Extent.{Extent, IsShape}
@@ -24,7 +24,7 @@ use Rattle.plan_answers.specs.declared.source.Source.TheVariants.{Plan, Text}
 use Rattle.plan_answers.proofs.OneReading.{same_texts}
 use Rattle.plan_answers.proofs.OneSource.{from_right, one_wrong_from, right_denoted, right_or_wrong}
 use Rattle.plan_answers.proofs.Printing.{printed_same, refused_same}
-use Rattle.rack_answers.specs.Answers.{IsImage, IsReport, IsLeftBy, IsResult, IsWrongOf, image_wrong, overlapping, IsFirstRunWrong, shape_wrong, texts_wrong, run_wrong, IsAnswerBy, ran, run_refused, IsRunAnswer, IsApplied}
+use Rattle.rack_answers.specs.Answers.{IsReport, IsLeftBy, IsResult, IsWrongOf, image_wrong, overlapping, IsFirstRunWrong, shape_wrong, texts_wrong, run_wrong, IsAnswerBy, ran, run_refused, IsRunAnswer}
 use Rattle.rack_answers.specs.Reports.{report_for, report_of}
 use Rattle.rack_answers.proofs.Openings.{one_opening, opening_blocks, right_image, not_wrong, one_wrong}
 
@@ -34,9 +34,6 @@ use Rattle.rack_answers.proofs.Openings.{one_opening, opening_blocks, right_imag
 record IsDeterminate (IsTold : Extent → List ℕ → List Transfer → Store → List ℕ → Type 0) (source : Source (List ℕ)) : Type 0 where
   right : (extent : Extent) (batch : List ℕ) (ts : List Transfer) (left : Store) (text : List ℕ) → Denotes extent batch ts → IsTold extent batch ts left text → AreRight source extent batch ts
   one : (extent : Extent) → IsShape extent → (batch : List ℕ) (ts : List Transfer) (left : Store) (p q : List ℕ) → IsTold extent batch ts left p → IsTold extent batch ts left q → p ≡ q
-
-one_image : IsDeterminate IsImage (Plan Plain)
-one_image = record { right = λ extent batch ts left text denotes told. denotes; one = λ extent valid batch ts left p q a b. a ∙ sym b }
 
 -- of two shortest schedules neither has fewer settings
 same_count : (ts : List Transfer) (xs ys : List (List ℕ)) → IsShortest ts xs → IsShortest ts ys → length xs ≡ length ys
@@ -132,9 +129,6 @@ one_run IsTold source determinate shape batch image p q (ran a ends) (run_refuse
 one_run IsTold source determinate shape batch image p q (run_refused f a is) (ran b stops) = absurd (result_right IsTold source determinate shape batch image q.text f b a)
 one_run IsTold source determinate shape batch image p q (run_refused f a is) (run_refused g b was) =
     refused_same (refusal_words g) q p was (subst (λ (r : Refusal). IsRefused (refusal_words r) p) (one_run_wrong source shape batch image f g a b) is)
-
-pub one_applied : (shape batch image : List ℕ) (p : Printed) → IsApplied shape batch image p → IsOnly (IsApplied shape batch image) p
-one_applied shape batch image p is = λ other. one_run IsImage (Plan Plain) one_image shape batch (Some image) p other is
 
 -- a steady plan stays one where its text is that of a lent one
 not_steady : (source : Source (Bor (List ℕ))) → source ≢ Plan Steady → said_by source ≢ Plan Steady

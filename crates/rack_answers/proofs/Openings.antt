@@ -2,7 +2,6 @@
 use Rattle.std.proofs.Common.{◌≡◌, ◌≢◌, ℕ, ◌*◌, List, Option, Some, None, length, replicate, refl, ap, ap₂, sym, ◌∙◌, subst}
 use Rattle.std.proofs.lemmas.List.{length-replicate}
 use Rattle.batch.specs.Extent.{Extent, IsShape}
-use Rattle.batch.proofs.Shapes.{one_shape}
 use Rattle.module_memory.specs.declared.fault.ImageFault.{ImageFault}
 use Rattle.module_memory.specs.declared.fault.ImageFault.TheVariants.{Length, NoMemory}
 use Rattle.module_memory.specs.Store.{Store, HasAllBlocks, zeros_of}
@@ -10,9 +9,7 @@ use Rattle.module_memory.specs.Images.{IsImageFault, image_length}
 use Rattle.module_memory.proofs.Blocks.{all_blocks}
 use Rattle.module_memory.proofs.Images.{images_are_whole, one_imaged}
 use Rattle.module_memory.proofs.Marking.{one_marked}
-use Rattle.rack_answers.specs.Openings.{IsOfImageOrMarked, IsOfImageOrZeros, IsRackOf, IsRightImage, IsWrongImage, IsWrongRack, image_wrong, shape_wrong}
-use Rattle.refusals.specs.declared.refusal.Refusal.{Refusal}
-use Rattle.refusals.specs.Sources.{of_image}
+use Rattle.rack_answers.specs.Openings.{IsOfImageOrMarked, IsOfImageOrZeros, IsRackOf, IsRightImage, IsWrongImage}
 
 zeros_blocks : (extent : Extent) → IsShape extent → HasAllBlocks (zeros_of extent)
 zeros_blocks extent valid = (valid, length-replicate (extent.modules * extent.blocks) (replicate extent.words 0))
@@ -53,17 +50,7 @@ one_wrong extent (Some bytes) NoMemory g a b = absurd a
 pub image_fault_is : (extent : Extent) (bytes : List ℕ) (fault : ImageFault) → IsImageFault extent bytes fault → fault ≢ NoMemory → IsWrongImage extent (Some bytes) fault
 image_fault_is extent bytes (Length is wanted) found known = found
 image_fault_is extent bytes NoMemory found known = known refl
-
 -- ---- a rack whose words are those of an image, or 0
-
-same_words : (extent : Extent) (image : Option (List ℕ)) (a b : Store) → IsShape extent → IsOfImageOrZeros extent image a → IsOfImageOrZeros extent image b → a ≡ b
-same_words extent None a b valid x y = x ∙ sym y
-same_words extent (Some bytes) a b valid x y = one_opening extent (Some bytes) a b valid x y
-
--- there is one such rack, and it has all its blocks
-pub one_rack : (shape : List ℕ) (image : Option (List ℕ)) (a b : Store) → IsRackOf shape image a → IsRackOf shape image b → b ≡ a
-one_rack shape image a b x y =
-    same_words x.extent image b a x.shape_read.allowed (subst (λ (e : Extent). IsOfImageOrZeros e image b) (one_shape shape y.extent x.extent y.shape_read x.shape_read) y.words) x.words
 
 words_blocks : (extent : Extent) (image : Option (List ℕ)) (a : Store) → IsShape extent → IsOfImageOrZeros extent image a → HasAllBlocks a
 words_blocks extent None a valid x = subst HasAllBlocks (sym x) (zeros_blocks extent valid)
@@ -71,21 +58,3 @@ words_blocks extent (Some bytes) a valid x = opening_blocks extent (Some bytes) 
 
 pub rack_blocks : (shape : List ℕ) (image : Option (List ℕ)) (a : Store) → IsRackOf shape image a → HasAllBlocks a
 rack_blocks shape image a x = words_blocks x.extent image a x.shape_read.allowed x.words
-
-right_words : (extent : Extent) (image : Option (List ℕ)) (a : Store) (fault : ImageFault) → IsOfImageOrZeros extent image a → IsWrongImage extent image fault → ⊥
-right_words extent None a fault x wrong = wrong
-right_words extent (Some bytes) a fault x wrong = not_wrong extent (Some bytes) fault (right_image extent (Some bytes) a x) wrong
-
--- nothing is wrong with a rack that there is
-pub not_wrong_rack : (shape : List ℕ) (image : Option (List ℕ)) (a : Store) (refusal : Refusal) → IsRackOf shape image a → IsWrongRack shape image refusal → ⊥
-not_wrong_rack shape image a refusal x (shape_wrong bad _) = bad x.extent x.shape_read
-not_wrong_rack shape image a refusal x (image_wrong extent fault denotes wrong _) =
-    right_words extent image a fault (subst (λ (e : Extent). IsOfImageOrZeros e image a) (one_shape shape x.extent extent x.shape_read denotes) x.words) wrong
-
--- else one thing is first wrong
-pub one_wrong_rack : (shape : List ℕ) (image : Option (List ℕ)) (q r : Refusal) → IsWrongRack shape image q → IsWrongRack shape image r → q ≡ r
-one_wrong_rack shape image q r (shape_wrong bad is) (shape_wrong _ are) = is ∙ sym are
-one_wrong_rack shape image q r (shape_wrong bad is) (image_wrong extent g denotes wrong are) = absurd (bad extent denotes)
-one_wrong_rack shape image q r (image_wrong extent f denotes wrong is) (shape_wrong bad are) = absurd (bad extent denotes)
-one_wrong_rack shape image q r (image_wrong x f denotes wrong is) (image_wrong y g other too are) =
-    is ∙ ap of_image (one_wrong x image f g wrong (subst (λ (e : Extent). IsWrongImage e image g) (one_shape shape y x other denotes) too)) ∙ sym are

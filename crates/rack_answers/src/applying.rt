@@ -5,7 +5,6 @@ ghost use Rattle.std.specs.Prelude.{◌≢◌, IfOk, IfErr, Some};
 ghost use Rattle.batch.specs.Overlap.{IsApart};
 ghost use Rattle.module_memory.specs.Core.{FitsIn};
 ghost use Rattle.module_memory.specs.Placing.{IsPlacedImage};
-ghost use Rattle.plan_answers.specs.Answers.{IsOnly};
 ghost use Rattle.plan_answers.specs.declared.source.Planning.TheVariants.{Plain};
 ghost use Rattle.plan_answers.specs.declared.source.Source.TheVariants.{Plan};
 ghost use Rattle.rack_answers.specs.Answers.{IsResult, IsWrongOf, IsFirstRunWrong, IsApplied, IsImage};
@@ -58,8 +57,7 @@ pub fn answer_apply(
     batch: &[u8],
     image: &[u8],
 ) -> Result<Answer, AllocError>
-    ensures ran { IfOk result (IsApplied shape.now batch.now image.now) }
-    ensures one { IfOk result (IsOnly (IsApplied shape.now batch.now image.now)) }
+    ensures { IfOk result (IsApplied shape.now batch.now image.now) }
 {
     match apply_texts(alloc, shape, batch, image) {
         Ok(text) => Ok(Answer::done(text)),

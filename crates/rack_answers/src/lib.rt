@@ -10,8 +10,7 @@
 //!
 //! What the answers are is said by `IsRunAnswer` and `IsApplied` of `specs/Answers.antt`, by
 //! `IsSwitched` of `specs/Switching.antt`, and by `IsOrdered` of `specs/Orders.antt`. There is one
-//! answer at most of `apply`, of `run` but by a steady plan, and by a schedule's text of `orders`,
-//! and of `switch` on the usual wiring.
+//! answer at most of `run` but by a steady plan.
 #![tactic(auto)]
 
 mod applying;

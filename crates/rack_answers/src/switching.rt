@@ -4,9 +4,8 @@ ghost use Rattle.std.specs.Prelude.{◌≡◌, ◌||◌, IfOk, IfSome, OnOk, Non
 ghost use Rattle.batch.specs.Batches.{IsBatch};
 ghost use Rattle.crossbar.specs.Pairs.{ArePairs, room_of};
 ghost use Rattle.link_graph.specs.Schedules.{IsScheduleOf};
-ghost use Rattle.plan_answers.specs.Answers.{IsOnly};
 ghost use Rattle.plan_answers.specs.Lent.{bytes_of};
-ghost use Rattle.plan_answers.specs.Schedules.{IsText, said_by};
+ghost use Rattle.plan_answers.specs.Schedules.{said_by};
 ghost use Rattle.switch_settings.specs.Racks.{HasModulesOf, is_wide as needs_two};
 ghost use Rattle.switch_settings.specs.Sending.{turning};
 ghost use Rattle.rack_answers.specs.Boards.{joined_on};
@@ -176,12 +175,9 @@ pub fn answer_switch<R: Planner>(
     source: Source<&[u8]>,
     workers: WorkerCount,
 ) -> Result<Answer, AllocError>
-    ensures switched { IfOk result
+    ensures { IfOk result
         (IsOn (λ board. IsSwitched (said_by source.entry) has_two board batch.now)
         (bytes_of wiring.entry)) }
-    // Of a schedule's text and the usual wiring no other answer is right.
-    ensures one { IsText source.entry → bytes_of wiring.entry ≡ None →
-        IfOk result (IsOnly (IsSwitched (said_by source.entry) has_two None batch.now)) }
 {
     match read_board(wiring) {
         Ok(board) => switch_on(rt, alloc, has_two, &board, batch, source, workers),

@@ -1,4 +1,3 @@
-pub mod Faults
 pub mod Entries
 mod Kept
 mod Strangers
@@ -7,6 +6,5 @@ mod Telling
 mod Turns
 mod Parts
 pub mod Written
-mod OneReplay
 mod Heads
 mod Books

@@ -142,15 +142,3 @@ abbrev pub IsReplayPrinted : Option (List ℕ) → List ℕ → Option (List ℕ
 IsReplayPrinted shape recorded image first printed =
     (told : Option RecordError) × (torn : Option Torn)
     × IsReplayAnswer shape recorded image first printed told torn
-
--- what is reported of a record that is wrong: the fault, the number of bytes before it, and the
--- line that is due there
-abbrev pub told_of : Option RecordError → Option (RecordFault × ℕ × Option (List ℕ))
-told_of = option_map (λ e. (e.fault, e.offset, option_map (λ line. line.items) e.due))
-
--- beside whichever answer, nothing else is reported
-pub record IsOnlyTold (shape : Option (List ℕ)) (recorded : List ℕ) (image : Option (List ℕ))
-    (first : Option ℕ) (told : Option RecordError) (torn : Option Torn) : Type 0 where
-  pub only : (printed : Printed) (other : Option RecordError) (left : Option Torn)
-      → IsReplayAnswer shape recorded image first printed other left
-      → (told_of other ≡ told_of told) × (left ≡ torn)

@@ -1,12 +1,11 @@
 //! The command `replay`.
 
-ghost use Rattle.std.specs.Prelude.{◌≡◌, ◌⊎◌, ◌+◌, ◌<◌, ◌≤◌, ◌^◌, IfOk, IfErr, IfSome, IfNone, None, Some, length, option_map};
-ghost use Rattle.plan_answers.specs.Answers.{IsOnly};
+ghost use Rattle.std.specs.Prelude.{◌≡◌, ◌⊎◌, ◌+◌, ◌<◌, ◌≤◌, ◌^◌, IfOk, IfSome, IfNone, None, Some, length, option_map};
 ghost use Rattle.plan_answers.specs.Lent.{bytes_of};
 ghost use Rattle.plan_answers.specs.Refusals.{Refuses};
 ghost use Rattle.book_record.specs.Heads.{BeginsWithNoHead};
 ghost use Rattle.record_replay.specs.Replays.{AreFewer, Ends};
-ghost use Rattle.record_replay.specs.ReplayAnswers.{IsAfterHead, IsHeadDue, IsNoRecordOn, IsOnlyTold, IsRecordAnswer, IsRecordOn, IsReplayAnswer, IsReplayPrinted, IsShapeOf, IsTornSo, RefusesHead, of_record};
+ghost use Rattle.record_replay.specs.ReplayAnswers.{IsAfterHead, IsHeadDue, IsNoRecordOn, IsRecordAnswer, IsRecordOn, IsReplayAnswer, IsShapeOf, IsTornSo, RefusesHead, of_record};
 
 use crate::{RecordError, RecordFault, replay};
 use book_record::{is_torn, rack_line, read_head, session_limit, sum_of};
@@ -245,12 +244,8 @@ pub fn answer_replay<R: Threads + Sync>(
     first: Option<usize>,
     workers: WorkerCount,
 ) -> Result<Replayed, AllocError>
-    ensures replayed { IfOk result (λ replayed. IsReplayAnswer (bytes_of shape.entry) recorded.now
+    ensures { IfOk result (λ replayed. IsReplayAnswer (bytes_of shape.entry) recorded.now
         (bytes_of image.entry) first replayed.answer replayed.error replayed.torn) }
-    ensures one { IfOk result (λ replayed. IsOnly (IsReplayPrinted (bytes_of shape.entry)
-        recorded.now (bytes_of image.entry) first) replayed.answer) }
-    ensures told { IfOk result (λ replayed. IsOnlyTold (bytes_of shape.entry) recorded.now
-        (bytes_of image.entry) first replayed.error replayed.torn) }
 {
     answer_texts(rt, alloc, shape, recorded, image, first, workers)
 }

@@ -2,6 +2,5 @@ pub mod Texts
 pub mod Table
 pub mod Fewest
 pub mod Needed
-pub mod OneVerdict
 pub mod Overlaps
 pub mod OneByOne

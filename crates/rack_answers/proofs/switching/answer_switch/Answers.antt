@@ -8,25 +8,18 @@ use Rattle.plan_answers.specs.Schedules.{said_by}
 use Rattle.plan_answers.specs.declared.source.Source.{Source}
 use Rattle.rack_answers.specs.Switching.{IsOn, IsSwitched}
 use Rattle.rack_answers.proofs.OnBoards.{on_board, on_fault}
-use Rattle.rack_answers.proofs.OneSwitching.{one_usual}
 use Rattle.rack_answers.proofs.switching.answer_switch.Goals as goal
 
 abbrev By : Source (List ℕ) → Bool → List ℕ → Option Board → Printed → Type 0
 By source has_two batch board = IsSwitched source has_two board batch
 
-pub returns-in-Ok-clause-switched : goal.returns-in-Ok-clause-switched
-returns-in-Ok-clause-switched g c =
+pub returns-in-Ok : goal.returns-in-Ok
+returns-in-Ok g c =
     let Is = By (said_by c.args.source) c.args.has_two c.args.batch.now in
     IfOk-weaker c.switch_on.result (Is c.in-Ok.board) (IsOn Is (bytes_of c.args.wiring)) (λ p is. on_board Is c.args.wiring c.in-Ok.board p c.in-Ok.ensures.board is) c.switch_on.ensures
 
-pub returns-in-Ok-clause-one : goal.returns-in-Ok-clause-one
-returns-in-Ok-clause-one g c = λ text usual. one_usual c.switch_on.result c.args.source c.args.has_two (bytes_of c.args.wiring) c.args.batch.now text usual (returns-in-Ok-clause-switched g c)
-
-pub returns-in-Err-clause-switched : goal.returns-in-Err-clause-switched
-returns-in-Err-clause-switched g c =
+pub returns-in-Err : goal.returns-in-Err
+returns-in-Err g c =
     let Is = By (said_by c.args.source) c.args.has_two c.args.batch.now in
     let refuses = rw c.into.ensures at c.refused.ensures in
     IfOk-weaker c.refused.result (Refuses (of_wiring c.in-Err.fault)) (IsOn Is (bytes_of c.args.wiring)) (λ p is. on_fault Is c.args.wiring c.in-Err.fault p c.in-Err.ensures.fault is.1) refuses
-
-pub returns-in-Err-clause-one : goal.returns-in-Err-clause-one
-returns-in-Err-clause-one g c = λ text usual. one_usual c.refused.result c.args.source c.args.has_two (bytes_of c.args.wiring) c.args.batch.now text usual (returns-in-Err-clause-switched g c)
