@@ -12,7 +12,6 @@ pub mod Halls
 pub mod Covers
 pub mod Waiting
 pub mod Steps
-pub mod Leaving
 pub mod Reaches
 pub mod Longest
 pub mod Slots
@@ -20,7 +19,6 @@ pub mod Members
 pub mod Standing
 pub mod Needs
 pub mod FewNeeds
-pub mod LongSteps
 pub mod Read
 pub mod Totals
 pub mod Runs

@@ -110,22 +110,6 @@ module _ (totals remaining slots remaining_now slots_now : List ℕ) (zeros thre
     ]
   ]
 
--- the pairs of a step aren't those of the one before
-pub step_apart : (totals remaining slots : List ℕ) (zeros threes : List (Option ℕ)) (settings first k : ℕ) → AreMatched zeros threes → CanHold remaining zeros threes (settings - first) k → AreAtNeed totals remaining slots settings first → first < settings → 0 < first → ((u v : ℕ) → (StandsIn totals remaining slots (first - 1) u v → partner zeros u ≡ Some v) × (partner zeros u ≡ Some v → StandsIn totals remaining slots (first - 1) u v)) → ⊥
-step_apart totals remaining slots zeros threes settings first k m can needs within some same = elim (needs (first - 1) (omega (arith, some)) (omega (arith, some, within))) [
-  | inl p ↦ omega (arith, p.0)
-  | inr over ↦ by over
-]
-  where
-    by : IsOverAt totals remaining slots settings first (first - 1) → ⊥
-    by (pair_at u v has none gone) = omega (arith, gone, can.some, (can.each u has.1.zero_in).pair v ((same u v).0 has))
-    by (link_at Zero x x_in unused used full) = partner_cases (partner zeros x) ⊥
-        (λ none. omega (arith, full, can.some, (can.each x x_in).zero_out none))
-        (λ y joined. unused (y, (same x y).1 joined))
-    by (link_at Three y y_in unused used full) = partner_cases (partner threes y) ⊥
-        (λ none. omega (arith, full, can.some, (can.each y y_in).three_out none))
-        (λ x back. unused (x, (same x y).1 ((m.each_other x y).1 back)))
-
 -- ---- the settings
 
 module _ (batch : List Transfer) (numbers : List ℕ) (settings : List (List ℕ)) (count : ℕ) (sized : length numbers ≡ length batch) (g : AreGathered numbers count settings) where

@@ -17,7 +17,7 @@ use Rattle.link_graph.specs.Counts.{uses}
 use Rattle.link_graph.proofs.Users.{made, use_of, uses_few}
 use Rattle.link_graph.specs.Masks.{has_bit, has_pair}
 use Rattle.link_graph.proofs.Masks.{bit, no_pair}
-use Rattle.steady_schedule.specs.Waiting.{sum_below, pair_count, pair_index, count_at, count_between, waiting, ArePairCounts, AreTold}
+use Rattle.steady_schedule.specs.Waiting.{sum_below, pair_count, pair_index, count_at, waiting, ArePairCounts, AreTold}
 use Rattle.steady_schedule.proofs.Sums.{sum_same, sum_none, sum_both, sum_changed, at_most_sum}
 
 -- ---- places
@@ -89,11 +89,6 @@ module _ (counts : List ℕ) (a b k : ℕ) (places : length counts ≡ MAX_MODUL
     uses_zero = uses_now zu uz Zero t.uses_zero_sized t.uses_zero a_in uz_is;
     uses_three = uses_now tu ut Three t.uses_three_sized t.uses_three b_in ut_is;
   }
-
--- a pair has no more than its links
-pub between_few : (counts : List ℕ) (end : End) (x m : ℕ) → m < MAX_MODULES → count_between counts end x m ≤ waiting counts end x
-between_few counts Zero x m m_in = at_most_sum MAX_MODULES m (λ v. count_at counts x v) m_in
-between_few counts Three x m m_in = at_most_sum MAX_MODULES m (λ u. count_at counts u x) m_in
 
 -- ---- no transfers
 

@@ -2,7 +2,6 @@ pub mod Changes
 pub mod Masks
 pub mod Needs
 pub mod Partners
-pub mod Longest
 pub mod Plans
 pub mod Joined
 pub mod Gathered

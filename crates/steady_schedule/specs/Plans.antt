@@ -8,7 +8,6 @@ use Rattle.link_graph.specs.Schedules.{IsScheduleOf}
 use Rattle.link_graph.specs.Certificates.{Naming, IsCertificate}
 use Rattle.steady_schedule.specs.Bounds.{most_changes}
 use Rattle.steady_schedule.specs.Changes.{changes}
-use Rattle.steady_schedule.specs.Longest.{StepsAreLongest, DontGetLonger}
 use Rattle.steady_schedule.specs.Needs.{ChangesAtNeed}
 use Rattle.steady_schedule.specs.Partners.{partners, HasMostPartners}
 
@@ -40,19 +39,9 @@ IsDemanding batch None = batch ≡ []
 IsDemanding batch (Some (link, count)) =
     HasMostPartners batch link × (count ≡ partners batch link)
 
--- As many settings as some schedule of the batch, and no more changes. No matching could be held
--- longer than a step of that one is, and its steps don't get longer.
-pub record IsNoWorse (batch : List Transfer) (settings : List (List ℕ)) : Type 0 where
-  pub other : List (List ℕ)
-  pub schedule : IsScheduleOf batch other
-  pub as_short : length settings ≡ length other
-  pub longest : StepsAreLongest batch other
-  pub no_longer : DontGetLonger batch other
-  pub few : changes batch settings ≤ changes batch other
-
 -- A schedule of the batch, whose certificate shows that it is shortest, by the busiest link. No
 -- setting is empty, and numbers ascend in each. The changes are few, and after the first setting
--- only where something is over. There are no more than in some schedule whose steps are longest.
+-- only where something is over.
 pub record IsSteady (plan : SteadyPlan) : Type 0 where
   pub schedule : IsScheduleOf plan.batch plan.settings
   pub certificate : IsCertificate plan.batch plan.settings plan.named
@@ -61,4 +50,3 @@ pub record IsSteady (plan : SteadyPlan) : Type 0 where
   pub ascending : All (AllPairs (λ t u. t < u)) plan.settings
   pub few : changes plan.batch plan.settings ≤ most_changes plan.batch
   pub at_need : ChangesAtNeed plan.batch plan.settings
-  pub no_worse : IsNoWorse plan.batch plan.settings

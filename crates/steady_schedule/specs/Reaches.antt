@@ -22,25 +22,6 @@ HaveHeld counts k n zero_near three_near =
     (u v : ℕ) → u < n → v < MAX_MODULES → k ≤ count_at counts u v
     → (has_pair zero_near u v ≡ true) × (has_pair three_near v u ≡ true)
 
--- The pair of link 0 u is out, where it is joined and has fewer than k transfers once it was held for some settings; all others are as
--- they were.
-pub record HasLeft (counts : List ℕ) (k held : ℕ) (zero : List (Option ℕ)) (u : ℕ) (zero_old three_old zero_new three_new : List ℕ) : Type 0 where
-  pub zero_was : (x y : ℕ) → has_pair zero_new x y ≡ true → has_pair zero_old x y ≡ true
-  pub three_was : (x y : ℕ) → has_pair three_new y x ≡ true → has_pair three_old y x ≡ true
-  pub zero_out : (y : ℕ) → partner zero u ≡ Some y → has_pair zero_new u y ≡ true → k + held ≤ count_at counts u y
-  pub three_out : (y : ℕ) → partner zero u ≡ Some y → has_pair three_new y u ≡ true → k + held ≤ count_at counts u y
-  pub zero_still : (x y : ℕ) → has_pair zero_old x y ≡ true → (x ≡ u → partner zero u ≡ Some y → k + held ≤ count_at counts u y) → has_pair zero_new x y ≡ true
-  pub three_still : (x y : ℕ) → has_pair three_old y x ≡ true → (x ≡ u → partner zero u ≡ Some y → k + held ≤ count_at counts u y) → has_pair three_new y x ≡ true
-
--- so are the pairs of the first n links 0
-pub record HaveLeft (counts : List ℕ) (k held : ℕ) (zero : List (Option ℕ)) (n : ℕ) (zero_old three_old zero_new three_new : List ℕ) : Type 0 where
-  pub zero_was : (x y : ℕ) → has_pair zero_new x y ≡ true → has_pair zero_old x y ≡ true
-  pub three_was : (x y : ℕ) → has_pair three_new y x ≡ true → has_pair three_old y x ≡ true
-  pub zero_out : (x y : ℕ) → x < n → partner zero x ≡ Some y → has_pair zero_new x y ≡ true → k + held ≤ count_at counts x y
-  pub three_out : (x y : ℕ) → x < n → partner zero x ≡ Some y → has_pair three_new y x ≡ true → k + held ≤ count_at counts x y
-  pub zero_still : (x y : ℕ) → has_pair zero_old x y ≡ true → (partner zero x ≡ Some y → k + held ≤ count_at counts x y) → has_pair zero_new x y ≡ true
-  pub three_still : (x y : ℕ) → has_pair three_old y x ≡ true → (partner zero x ≡ Some y → k + held ≤ count_at counts x y) → has_pair three_new y x ≡ true
-
 -- just those of the first n links that have more transfers are in the mask
 abbrev pub IsOverMask : List ℕ → ℕ → ℕ → ℕ → Type 0
 IsOverMask uses count n mask =
@@ -74,10 +55,3 @@ IsInWay unseen x of z =
 abbrev pub AreAtMost : List ℕ → End → ℕ → ℕ → ℕ → Type 0
 AreAtMost counts end x others s =
     (y : ℕ) → y < MAX_MODULES → has_bit others y ≡ true → count_between counts end x y ≤ s
-
--- Each link in the way has so many transfers that it has to be joined where a matching is held for
--- more than s of `most` settings, and no more than s with any link that is unseen.
-pub record HaveWay (counts : List ℕ) (end : End) (unseen x : ℕ) (of : List (Option ℕ)) (most s : ℕ)
-    : Type 0 where
-  pub full : (z : ℕ) → IsInWay unseen x of z → most ≤ waiting counts end z + s
-  pub few : (z : ℕ) → IsInWay unseen x of z → AreAtMost counts end z unseen s

@@ -1,16 +1,14 @@
 -- Slots for the numbers of settings. Those of a pair stand one after the other, one for each of
 -- its transfers, and are written from the last to the first.
-use Rattle.std.specs.Prelude.{◌≡◌, ◌≢◌, ◌↔◌, ℕ, ◌+◌, ◌-◌, ◌*◌, ◌<◌, ◌≤◌, ◌⊎◌, List, length, Bool, true, Option, Some, slice_get, slice_index, set, drop}
+use Rattle.std.specs.Prelude.{◌≡◌, ◌≢◌, ◌↔◌, ℕ, ◌+◌, ◌-◌, ◌*◌, ◌<◌, ◌≤◌, ◌⊎◌, List, length, Option, Some, slice_get, slice_index, set, drop}
 use Rattle.batch.specs.declared.limits.TheConstants.{MAX_MODULES, MAX_TRANSFERS}
 use Rattle.batch.specs.declared.transfer.Transfer.{Transfer}
 use Rattle.link_graph.specs.declared.link.End.{End}
 use Rattle.link_graph.specs.declared.link.End.TheVariants.{Zero, Three}
 use Rattle.link_graph.specs.declared.link.Link.{Link}
-use Rattle.link_graph.specs.Counts.{count_below}
 use Rattle.link_graph.specs.Uses.{Uses, AreApart}
 use Rattle.steady_schedule.specs.Gathered.{AreGathered}
 use Rattle.steady_schedule.specs.Matchings.{partner}
-use Rattle.steady_schedule.specs.Steps.{NoneLonger}
 use Rattle.steady_schedule.specs.Waiting.{sum_below, pair_count, pair_index, count_at, waiting}
 
 -- where the slots of each place begin, and how many slots there are
@@ -101,48 +99,12 @@ AreAtNeed totals remaining slots settings next =
     → ((d + 1 < next) × HaveSame totals remaining slots d (d + 1))
     ⊎ IsOverAt totals remaining slots settings next d
 
--- The number d begins a step of k settings, all of which the same pairs have, and k is no less than
--- `held`. No matching can be held longer for the transfers that wait then: of each pair all but
--- those with numbers before d. No pairs have more numbers from there on that follow each other.
-pub record IsLongest (joined : ℕ → ℕ → ℕ → Bool) (total : ℕ → ℕ → ℕ) (settings next held d : ℕ)
-    : Type 0 where
-  pub counts : List ℕ
-  pub k : ℕ
-  pub inside : d + k ≤ next
-  pub same : (i u v : ℕ) → i < k → joined (d + i) u v ≡ joined d u v
-  pub waits : (u v : ℕ) → u < MAX_MODULES → v < MAX_MODULES
-      → count_at counts u v + count_below d (λ e. joined e u v) ≡ total u v
-  pub longest : NoneLonger counts (settings - d) k
-  pub not_less : held ≤ k
-  pub later : (e i : ℕ) → d ≤ e → e + i < next
-      → ((m u v : ℕ) → m ≤ i → joined (e + m) u v ≡ joined e u v) → i < k
-
--- each number has the pairs of the one before, or begins a step that is as long as any
-abbrev pub AreLongEach : (ℕ → ℕ → ℕ → Bool) → (ℕ → ℕ → ℕ) → ℕ → ℕ → ℕ → Type 0
-AreLongEach joined total settings next held =
-    (d : ℕ) → d < next → ((0 < d) × ((u v : ℕ) → joined (d - 1) u v ≡ joined d u v))
-    ⊎ IsLongest joined total settings next held d
-
--- the same, told of which pairs have which numbers, of those that are written
-pub record AreLongSteps (totals remaining slots : List ℕ) (settings next held : ℕ) : Type 0 where
-  pub joined : ℕ → ℕ → ℕ → Bool
-  pub is : (d u v : ℕ) → d < next
-      → (joined d u v ≡ true) ↔ StandsIn totals remaining slots d u v
-  pub counted : (u v : ℕ) → u < MAX_MODULES → v < MAX_MODULES
-      → count_at remaining u v + count_below next (λ d. joined d u v) ≡ count_at totals u v
-  pub each : AreLongEach joined (count_at totals) settings next held
-
 -- the slots have the numbers of all settings, as steps wrote them until no transfer waited
 pub record AreFilled (totals slots : List ℕ) (settings : ℕ) : Type 0 where
   pub counts : List ℕ
   pub done : (u v : ℕ) → u < MAX_MODULES → v < MAX_MODULES → count_at counts u v ≡ 0
   pub numbered : AreNumbered totals counts slots settings
   pub needs : AreAtNeed totals counts slots settings settings
-
--- the same, and steps are as long as any
-pub record AreFilledLong (totals slots : List ℕ) (settings : ℕ) : Type 0 where
-  pub filled : AreFilled totals slots settings
-  pub long : AreLongSteps totals filled.counts slots settings settings 0
 
 -- the numbers from `first` on are written into k slots, the first of them last
 pub record AreSlotsFilled (at first k : ℕ) (old new : List ℕ) : Type 0 where
@@ -234,13 +196,6 @@ HaveNeeds batch settings numbers =
     → ((u v : ℕ) → JoinsAs batch numbers d u v ↔ JoinsAs batch numbers (d + 1) u v)
     ⊎ IsOverAs batch settings numbers d
 
--- each number has the pairs of the one before, or begins a step that is as long as any
-pub record HaveLongSteps (batch : List Transfer) (settings : ℕ) (numbers : List ℕ) : Type 0 where
-  pub joined : ℕ → ℕ → ℕ → Bool
-  pub is : (d u v : ℕ) → d < settings → (joined d u v ≡ true) ↔ JoinsAs batch numbers d u v
-  pub each : AreLongEach joined (λ u v. count_below settings (λ d. joined d u v)) settings
-      settings 0
-
 -- settings that are made of proper numbers of all transfers, where pairs change at need
 pub record AreNumberedSettings (batch : List Transfer) (settings : ℕ) (lists : List (List ℕ))
     : Type 0 where
@@ -248,9 +203,3 @@ pub record AreNumberedSettings (batch : List Transfer) (settings : ℕ) (lists :
   pub proper : AreProper batch settings numbers
   pub needs : HaveNeeds batch settings numbers
   pub gathered : AreGathered numbers settings lists
-
--- the same, and steps are as long as any
-pub record AreLongSettings (batch : List Transfer) (settings : ℕ) (lists : List (List ℕ))
-    : Type 0 where
-  pub numbered : AreNumberedSettings batch settings lists
-  pub long : HaveLongSteps batch settings numbered.numbers

@@ -2,7 +2,7 @@
 use Rattle.std.specs.Prelude.{◌≡◌, ℕ, ◌+◌, ◌-◌, ◌*◌, ◌<◌, ◌≤◌, List, length, Option, Some, None, Bool, false, ◌==◌, ◌&&◌, cond, nat_lt}
 use Rattle.batch.specs.declared.limits.TheConstants.{MAX_MODULES}
 use Rattle.link_graph.specs.declared.link.End.TheVariants.{Zero, Three}
-use Rattle.steady_schedule.specs.Matchings.{partner, AreMatched}
+use Rattle.steady_schedule.specs.Matchings.{partner}
 use Rattle.steady_schedule.specs.Waiting.{count_at, waiting}
 
 -- The matching can be held for k of `most` settings, as far as module x goes: its pair has as many
@@ -29,12 +29,6 @@ pub record CanHold (counts : List ℕ) (zero three : List (Option ℕ)) (most k 
   pub few : k ≤ most
   pub each : (x : ℕ) → x < MAX_MODULES → CanHoldAt counts zero three most k x
   pub tight : IsTight counts zero three most k
-
--- no matching can be held for more than k of the settings
-abbrev pub NoneLonger : List ℕ → ℕ → ℕ → Type 0
-NoneLonger counts most k =
-    (zero three : List (Option ℕ)) (j : ℕ) → AreMatched zero three → j ≤ most
-    → ((x : ℕ) → x < MAX_MODULES → CanHoldAt counts zero three most j x) → j ≤ k
 
 -- whether a partner is module v
 abbrev pub is_partner : Option ℕ → ℕ → Bool

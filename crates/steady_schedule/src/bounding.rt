@@ -6,12 +6,11 @@ ghost use Rattle.link_graph.specs.declared.limits.TheConstants.{LINKS};
 ghost use Rattle.link_graph.specs.declared.link.Link.{Link};
 ghost use Rattle.link_graph.specs.Counts.{uses};
 ghost use Rattle.steady_schedule.specs.Prices.{AreNeeded, ShowChanges, IsPriceTable, LimitsSteps};
-ghost use Rattle.steady_schedule.specs.Waiting.{HaveMost};
 
 use crate::choosing::most_with;
 use crate::partners::link_at;
 use crate::priced::Priced;
-use crate::pricing::{LENGTHS, Needs, PLACES, SCALE, Ways};
+use crate::pricing::{Needs, SCALE, Ways};
 use crate::remaining::Remaining;
 use batch::{MAX_MODULES, MAX_TRANSFERS};
 use link_graph::{LINKS, Link, LinkGraph};
@@ -23,15 +22,10 @@ const MOST_ROUNDS: usize = 100;
 /// How many sums of two costs all of them may take together, at two or three instructions each.
 const MOST_SUMS: usize = 10_000_000;
 
-/// How often each number stands among those that a link has; 0 isn't counted.
-type Often = [u8; LENGTHS];
-
 /// A link with a transfer in each of so many settings, and the most that it has with any partner:
 /// that of several for which this is least.
 fn longest(remaining: &Remaining, settings: usize) -> Option<(Link, usize)>
-    requires most { HaveMost remaining.now.counts MAX_TRANSFERS }
-    ensures few { IfSome result (λ found. found.1 ≤ MAX_TRANSFERS) }
-    ensures longest { IfSome result (λ found.
+    ensures { IfSome result (λ found.
         LimitsSteps remaining.now.counts settings found.0 found.1) }
 {
     let mut longest = None;
@@ -124,92 +118,6 @@ impl Needs<'_> {
         links
     }
 
-    /// How many transfers a link has with the one of a module; after all modules, in how many
-    /// settings it is idle.
-    fn number_of(&self, index: usize, place: usize) -> usize
-        requires index { index < LINKS }
-        requires place { place ≤ MAX_MODULES }
-        ensures { result ≤ MAX_TRANSFERS }
-    {
-        if index < MAX_MODULES {
-            self.number(index, place)
-        } else {
-            self.number(place, index - MAX_MODULES)
-        }
-    }
-
-    /// How often each number stands among those of a link.
-    fn often(&self, index: usize) -> Often
-        requires { index < LINKS }
-    {
-        let mut often = [0u8; LENGTHS];
-        for place in 0..PLACES {
-            let number = self.number_of(index, place);
-            often[number] = often[number].saturating_add(1);
-        }
-        often[0] = 0;
-        often
-    }
-
-    /// Three times what two links show: twice their numbers, less those in common.
-    fn shown_with(&self, one: usize, often: &Often, other: usize) -> usize
-        requires one { one < LINKS }
-        requires other { other < LINKS }
-    {
-        let mut left = *often;
-        let mut shown = 0usize;
-        for place in 0..PLACES {
-            let number = self.number_of(other, place);
-            shown = shown.saturating_add(2 * self.number_of(one, place).min(1));
-            shown = shown.saturating_add(2 * number.min(1));
-            if left[number] > 0 {
-                left[number] -= 1;
-                shown = shown.saturating_sub(1);
-            }
-        }
-        shown
-    }
-
-    /// The two links that show most, or one of them twice.
-    fn best_two(&self) -> (usize, usize)
-        ensures one { result.0 < LINKS }
-        ensures other { result.1 < LINKS }
-    {
-        let mut best = (0, 0);
-        let mut most = 0;
-        for one in 0..LINKS {
-            let often = self.often(one);
-            for other in 0..one + 1 {
-                let shown = self.shown_with(one, &often, other);
-                if shown > most {
-                    most = shown;
-                    best = (one, other);
-                }
-            }
-        }
-        best
-    }
-
-    /// Prices of two links, or of one, by which they show most; where there are none yet. A length
-    /// that one of them has more often as a number is twice as dear for it.
-    fn price_two(&self, prices: &mut [u32])
-        requires { length prices.old ≡ (self.now.top + 1) * LINKS }
-    {
-        let (one, other) = self.best_two();
-        let (often, often_other) = (self.often(one), self.often(other));
-        for row in 1..self.top + 1 {
-            let dearer = if often[row] < often_other[row] {
-                other
-            } else {
-                one
-            };
-            for index in [one, other, dearer] {
-                let place = row * LINKS + index;
-                prices[place] = prices[place].saturating_add(SCALE as u32 / 3);
-            }
-        }
-    }
-
     /// Prices that are the same for each link in use, and for each length.
     fn price_all(&self, prices: &mut [u32], links: u32)
         requires { length prices.old ≡ (self.now.top + 1) * LINKS }
@@ -224,8 +132,8 @@ impl Needs<'_> {
         }
     }
 
-    /// Looks for prices that show many changes, or at least so many: first of two links, then of
-    /// all of them. The most that any table shows, which is then the best one.
+    /// Looks for prices that show many changes, or at least so many. The most that any table shows,
+    /// which is then the best one.
     fn search(
         &self,
         enough: usize,
@@ -241,9 +149,7 @@ impl Needs<'_> {
         ensures { ShowChanges self.now.graph.now self.now.settings best.new self.now.top result }
     {
         let mut ways = Ways::none(MOST_SUMS);
-        self.price_two(prices);
-        let mut most = self.shown_by(prices, &mut ways, pieces);
-        best.copy_from_slice(prices);
+        let mut most = 0;
         let links = self.links_in_use();
         self.price_all(prices, links);
         for round in 0..MOST_ROUNDS {
@@ -291,7 +197,7 @@ fn shown_prices(
     let Some((busiest, top)) = longest(&remaining, settings) else {
         return Priced::none(alloc);
     };
-    if top == 0 {
+    if top == 0 || top > MAX_TRANSFERS {
         return Priced::none(alloc);
     }
     let needs = Needs {

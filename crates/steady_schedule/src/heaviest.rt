@@ -197,30 +197,7 @@ fn join_way(matching: &mut Matching, ways: &Ways, last: usize)
     }
 }
 
-/// Parts a link 0 whose pair has no worth.
-#[tactic(auto, using(crate::proofs::Matchings::partner_low))]
-fn part_pair(worths: &Worths, matching: &mut Matching, zero: usize)
-    requires { zero < MAX_MODULES }
-{
-    let Some(three) = matching.zero[zero] else {
-        return;
-    };
-    let three = three as usize;
-    if worths[zero * MAX_MODULES + three] == 0 {
-        part(&mut matching.zero, &mut matching.three, zero, three);
-    }
-}
-
-/// Parts the links whose pair has no worth.
-fn part_worthless(worths: &Worths, matching: &mut Matching, modules: usize)
-    requires { modules ≤ MAX_MODULES }
-{
-    for zero in 0..modules {
-        part_pair(worths, matching, zero);
-    }
-}
-
-/// A matching of the first modules that is worth as much as any, where it finds that before so many
+/// A matching of the first modules that is worth as much as any, with pairs of no worth, where it finds that before so many
 /// looks from a link at the others are over.
 pub(crate) fn heaviest(worths: &Worths, modules: usize, looks: &mut usize) -> Option<Matching>
     requires { modules ≤ MAX_MODULES }
@@ -233,6 +210,5 @@ pub(crate) fn heaviest(worths: &Worths, modules: usize, looks: &mut usize) -> Op
         prices.settle(&ways, &matching.three, zero, ways.excess[last]);
         join_way(&mut matching, &ways, last);
     }
-    part_worthless(worths, &mut matching, modules);
     Some(matching)
 }

@@ -24,30 +24,43 @@ pub(crate) enum Order {
     Falling,
 }
 
-/// In which order the modules of each end are tried.
+/// How the steps of a plan are made.
 #[derive(Clone, Copy)]
 pub(crate) struct Orders {
+    /// In which order the modules of each end are tried.
     pub(crate) zero: Order,
     pub(crate) three: Order,
+    /// How many links are looked at for each transfer, at most, while steps are sought that use up as
+    /// many pairs as they can. So that takes no more time than some plans.
+    pub(crate) looks: usize,
 }
 
-/// All orders.
-pub(crate) const ORDERS: [Orders; 4] = [
+/// Those of all plans.
+pub(crate) const ORDERS: [Orders; 5] = [
     Orders {
         zero: Order::Rising,
         three: Order::Rising,
+        looks: 0,
     },
     Orders {
         zero: Order::Falling,
         three: Order::Rising,
+        looks: 0,
     },
     Orders {
         zero: Order::Rising,
         three: Order::Falling,
+        looks: 0,
     },
     Orders {
         zero: Order::Falling,
         three: Order::Falling,
+        looks: 0,
+    },
+    Orders {
+        zero: Order::Rising,
+        three: Order::Rising,
+        looks: 24,
     },
 ];
 

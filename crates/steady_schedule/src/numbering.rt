@@ -1,6 +1,6 @@
 //! The number of its setting for each transfer, and the settings that these make.
 
-ghost use Rattle.std.specs.Prelude.{◌≡◌, ◌≢◌, ℕ, ◌+◌, ◌-◌, ◌*◌, ◌<◌, ◌≤◌, All, Some, None, length, set, IfOk, IfSome, slice_index};
+ghost use Rattle.std.specs.Prelude.{◌≡◌, ◌≢◌, ℕ, ◌+◌, ◌-◌, ◌*◌, ◌<◌, ◌≤◌, All, Some, None, length, set, IfOk, slice_index};
 ghost use Rattle.batch.specs.Batches.{IsBatch};
 ghost use Rattle.batch.specs.declared.limits.TheConstants.{MAX_MODULES, MAX_TRANSFERS};
 ghost use Rattle.link_graph.specs.declared.link.Link.{Link};
@@ -8,33 +8,19 @@ ghost use Rattle.link_graph.specs.Counts.{uses};
 ghost use Rattle.link_graph.specs.Schedules.{lists_of};
 ghost use Rattle.steady_schedule.specs.Matchings.{partner, AreBelow};
 ghost use Rattle.steady_schedule.specs.Searches.{AreNear};
-ghost use Rattle.steady_schedule.specs.Slots.{slot, AreFirstSlots, AreSlotsOf, IsKeptFor, IsHeldAs, AreNumbered, AreNumberedFrom, KeepNumbers, AreSlotsFilled, AreReadInto, AreFilled, AreFilledLong, AreSlotsBelow, AreNumberedSettings, AreLongSettings};
-ghost use Rattle.steady_schedule.specs.Steps.{AreTaken, NoneLonger};
-ghost use Rattle.steady_schedule.specs.Waiting.{sum_below, pair_index, count_at, ArePairCounts, HaveMost};
+ghost use Rattle.steady_schedule.specs.Slots.{slot, AreFirstSlots, AreSlotsOf, IsKeptFor, IsHeldAs, AreNumbered, AreNumberedFrom, KeepNumbers, AreSlotsFilled, AreReadInto, AreFilled, AreSlotsBelow, AreNumberedSettings};
+ghost use Rattle.steady_schedule.specs.Steps.{AreTaken, CanHold};
+ghost use Rattle.steady_schedule.specs.Waiting.{sum_below, pair_index, count_at, ArePairCounts, HaveMost, NoneWait};
 
 use crate::gathering::{empty_lists, push_into};
 use crate::masks::{ORDERS, Orders};
 use crate::matching::{Matching, part};
-use crate::reach::Reach;
 use crate::remaining::{PAIRS, Remaining};
 use crate::stepping::next_step;
 use crate::weighing::weighed_step;
 use batch::{MAX_MODULES, MAX_TRANSFERS};
 use link_graph::LinkGraph;
 use std::alloc::{AllocError, Global};
-
-/// How many links are looked at for each transfer, at most, while steps are sought that use up as
-/// many pairs as they can. So that takes no more time than some plans.
-const LOOKS: usize = 24;
-
-/// The settings of a batch, of which each has the numbers of its transfers.
-#[derive(Drop)]
-pub(crate) struct Settings {
-    /// By steps that are as long as any.
-    pub(crate) long: Vec<Vec<usize>>,
-    /// By steps that use up more pairs, where these are fewer.
-    pub(crate) weighed: Option<Vec<Vec<usize>>>,
-}
 
 /// Where the slots of each pair of links begin. There is one for each of its transfers.
 #[derive(Drop)]
@@ -159,10 +145,40 @@ fn hold(
     }
 }
 
-/// Writes the numbers of their settings for all transfers that wait, by steps in which links are
-/// tried in these orders. Gives how many steps that makes; no contract says so. Where it can't make
-/// fewer than `enough` it ends early, and gives that: no step is longer than the one before it. No
-/// step can be longer than `longest`; gives how long the first one can be, too.
+/// Makes the next matching, and says for how many of the settings that are left it can be held, and
+/// no longer. While looks are left it uses up as many pairs as is found. Else it is held as long as
+/// any, up to `longest` settings, and that is the longest then.
+fn any_step(
+    remaining: &Remaining,
+    matching: &mut Matching,
+    most: usize,
+    modules: usize,
+    longest: &mut usize,
+    looks: &mut usize,
+    orders: Orders,
+) -> usize
+    requires some { 0 < most }
+    requires few { most ≤ MAX_TRANSFERS }
+    requires most { HaveMost remaining.now.counts most }
+    requires within { modules ≤ MAX_MODULES }
+    requires none { NoneWait remaining.now.counts modules }
+    requires some_longest { 0 < longest.old }
+    ensures can { CanHold remaining.now.counts matching.new.zero matching.new.three most result }
+    ensures low { AreBelow matching.new.zero modules }
+    ensures some_longest { 0 < longest.new }
+{
+    if let Some(held) = weighed_step(remaining, matching, most, modules, *longest, looks) {
+        return held;
+    }
+    let held = next_step(remaining, matching, most, modules, *longest, orders);
+    *longest = held;
+    held
+}
+
+/// Writes the numbers of their settings for all transfers that wait, by steps that are made so. Gives
+/// how many steps that makes; no contract says so. Where it can't make fewer than `enough` it ends
+/// early, and gives that. No step can be longer than `longest`; gives how long the first one can be,
+/// too.
 fn fill(
     remaining: &Remaining,
     places: &Places<'_>,
@@ -178,37 +194,34 @@ fn fill(
     requires room { length slots.old
         ≡ sum_below (MAX_MODULES * MAX_MODULES) (slice_index places.now.totals.now) }
     requires some_longest { 0 < longest }
-    requires longest { NoneLonger remaining.now.counts settings longest }
-    ensures filled { result.0 < enough → AreFilledLong places.now.totals.now slots.new settings }
+    ensures filled { result.0 < enough → AreFilled places.now.totals.now slots.new settings }
     ensures fewer { settings < enough → result.0 < enough }
     ensures some_longest { 0 < result.1 }
-    ensures longest { NoneLonger remaining.now.counts settings result.1 }
 {
     let mut left = *remaining;
     let modules = left.modules();
     let mut matching = Matching::none();
+    let mut looks = orders.looks.saturating_mul(slots.len() / modules.max(1));
     let mut first = 0;
     let mut steps = 0usize;
-    let mut held = longest;
+    let mut longest_now = longest;
     let mut top = longest;
-    let mut reach = Reach::none(orders);
     'steps: while first < settings {
         let most = settings - first;
-        if enough <= steps + (most - 1) / held + 1 {
+        if enough <= steps + (most - 1) / longest_now + 1 {
             return (enough, top);
         }
-        held = next_step(
+        let held = any_step(
             &left,
             &mut matching,
-            &mut reach,
             most,
             modules,
-            held,
+            &mut longest_now,
+            &mut looks,
             orders,
         );
-        reach.leave(&left, &matching, held);
         if first == 0 {
-            top = held;
+            top = longest_now;
         }
         hold(
             &mut left,
@@ -225,73 +238,24 @@ fn fill(
     (steps, top)
 }
 
-/// Writes them by steps that use up as many pairs as is found. Gives how many steps that makes; no
-/// contract says so. Where it can't make fewer than `enough`, or finds no step in time, it ends
-/// early, and gives that. No step can be longer than `longest`.
-fn fill_weighed(
-    remaining: &Remaining,
-    places: &Places<'_>,
-    slots: &mut [usize],
-    settings: usize,
-    enough: usize,
-    longest: usize,
-) -> usize
-    requires whole { remaining.now.counts ≡ places.now.totals.now }
-    requires most { HaveMost remaining.now.counts settings }
-    requires few { settings ≤ MAX_TRANSFERS }
-    requires room { length slots.old
-        ≡ sum_below (MAX_MODULES * MAX_MODULES) (slice_index places.now.totals.now) }
-    ensures { result < enough → AreFilled places.now.totals.now slots.new settings }
-{
-    let mut left = *remaining;
-    let modules = left.modules();
-    let mut matching = Matching::none();
-    let mut looks = LOOKS * (slots.len() / modules.max(1));
-    let mut first = 0;
-    let mut steps = 0usize;
-    'steps: while first < settings {
-        let most = settings - first;
-        if enough <= steps.saturating_add(left.least_steps(most)) {
-            return enough;
-        }
-        let Some(held) = weighed_step(&left, &mut matching, most, modules, longest, &mut looks)
-        else {
-            return enough;
-        };
-        hold(
-            &mut left,
-            &mut matching,
-            places,
-            slots,
-            first,
-            held,
-            modules,
-        );
-        first += held;
-        steps += 1;
-    }
-    steps
-}
-
-/// Does so in the order that makes the fewest steps, or in the first one where that makes as few as
+/// Does so in the way that makes the fewest steps, or in the first one where that makes as few as
 /// can be by what one link has. No contract says so. The slots of others are written into `spare`.
-/// Gives how many steps that makes, and how long the first one can be.
 fn fill_best(
     remaining: &Remaining,
     places: &Places<'_>,
     slots: &mut [usize],
     spare: &mut [usize],
     settings: usize,
-) -> (usize, usize)
+)
     requires whole { remaining.now.counts ≡ places.now.totals.now }
     requires most { HaveMost remaining.now.counts settings }
     requires few { settings ≤ MAX_TRANSFERS }
     requires room { length slots.old
         ≡ sum_below (MAX_MODULES * MAX_MODULES) (slice_index places.now.totals.now) }
     requires spare { length spare.old ≡ length slots.old }
-    ensures { AreFilledLong places.now.totals.now slots.new settings }
+    ensures { AreFilled places.now.totals.now slots.new settings }
 {
-    let (mut best, mut longest) = fill(
+    let (mut best, longest) = fill(
         remaining,
         places,
         slots,
@@ -302,9 +266,9 @@ fn fill_best(
     );
     for place in 1..ORDERS.len() {
         if best <= remaining.least_steps(settings) {
-            return (best, longest);
+            return;
         }
-        let (steps, top) = fill(
+        let (steps, _) = fill(
             remaining,
             places,
             spare,
@@ -313,13 +277,11 @@ fn fill_best(
             longest,
             ORDERS[place],
         );
-        longest = top;
         if steps < best {
             best = steps;
             slots.copy_from_slice(spare);
         }
     }
-    (best, longest)
 }
 
 /// The number of a pair's next transfer: that of its last slot that is left.
@@ -382,7 +344,7 @@ fn settings_by(
     places: &Places<'_>,
     slots: &mut [usize],
     spare: &mut [usize],
-) -> Result<Settings, AllocError>
+) -> Result<Vec<Vec<usize>>, AllocError>
     requires batch { IsBatch graph.now }
     requires counted { ArePairCounts graph.now places.now.totals.now }
     requires whole { remaining.now.counts ≡ places.now.totals.now }
@@ -391,24 +353,11 @@ fn settings_by(
     requires room { length slots.old
         ≡ sum_below (MAX_MODULES * MAX_MODULES) (slice_index places.now.totals.now) }
     requires spare { length spare.old ≡ length slots.old }
-    ensures long { IfOk result (λ both.
-        AreLongSettings graph.now settings (lists_of both.long.items)) }
-    ensures weighed { IfOk result (λ both. IfSome both.weighed (λ lists.
-        AreNumberedSettings graph.now settings (lists_of lists.items))) }
+    ensures { IfOk result (λ lists. AreNumberedSettings graph.now settings (lists_of lists.items)) }
 {
-    let (best, longest) = fill_best(remaining, places, slots, spare, settings);
-    let long = read_all(alloc, graph, places, slots, settings)?;
-    if fill_weighed(remaining, places, spare, settings, best, longest) >= best {
-        return Ok(Settings {
-            long,
-            weighed: None,
-        });
-    }
-    let lists = read_all(alloc, graph, places, spare, settings)?;
-    Ok(Settings {
-        long,
-        weighed: Some(lists),
-    })
+    fill_best(remaining, places, slots, spare, settings);
+    let lists = read_all(alloc, graph, places, slots, settings)?;
+    Ok(lists)
 }
 
 /// So many settings of all transfers, where the busiest link has as many transfers.
@@ -416,14 +365,11 @@ pub(crate) fn settings_of(
     alloc: Global,
     graph: &LinkGraph,
     settings: usize,
-) -> Result<Settings, AllocError>
+) -> Result<Vec<Vec<usize>>, AllocError>
     requires batch { IsBatch graph.now }
     requires most { (link : Link) → uses graph.now link ≤ settings }
     requires few { settings ≤ MAX_TRANSFERS }
-    ensures long { IfOk result (λ both.
-        AreLongSettings graph.now settings (lists_of both.long.items)) }
-    ensures weighed { IfOk result (λ both. IfSome both.weighed (λ lists.
-        AreNumberedSettings graph.now settings (lists_of lists.items))) }
+    ensures { IfOk result (λ lists. AreNumberedSettings graph.now settings (lists_of lists.items)) }
 {
     let mut remaining = Remaining::none();
     remaining.add_all(graph);

@@ -11,9 +11,8 @@ use std::marker::Model;
 ///
 /// It changes the switch after a setting only where that joined a pair of links for the last time,
 /// or where a link that it left free is used in each later setting. With the first setting it does
-/// so at most once for each pair of links that share transfers, and once for each link in use; and
-/// no more often than some schedule whose steps are as long as any matching could be held where
-/// they begin. The certificate names the busiest link. No setting is empty, and numbers ascend in each.
+/// so at most once for each pair of links that share transfers, and once for each link in use. The
+/// certificate names the busiest link. No setting is empty, and numbers ascend in each.
 pub struct Steady {
     graph: LinkGraph,
     schedule: Schedule,

@@ -15,10 +15,10 @@ use link_graph::{LINKS, Link, LinkGraph};
 pub(crate) const SCALE: u64 = 1 << 16;
 
 /// How many places there are for a link's partners: one for each module, and one for none.
-pub(crate) const PLACES: usize = MAX_MODULES + 1;
+const PLACES: usize = MAX_MODULES + 1;
 
 /// How many lengths there are, with none.
-pub(crate) const LENGTHS: usize = MAX_TRANSFERS + 1;
+const LENGTHS: usize = MAX_TRANSFERS + 1;
 
 /// What the steps of each schedule of a batch with so many settings make up.
 #[derive(Drop)]
@@ -42,7 +42,7 @@ pub(crate) struct Needs<'a> {
 impl Needs<'_> {
     /// How many transfers a link 0 and a link 3 have; where the one or the other is none, in how
     /// many settings the other is idle.
-    pub(crate) fn number(&self, zero: usize, three: usize) -> usize
+    fn number(&self, zero: usize, three: usize) -> usize
         requires zero { zero ≤ MAX_MODULES }
         requires three { three ≤ MAX_MODULES }
         ensures few { result ≤ MAX_TRANSFERS }

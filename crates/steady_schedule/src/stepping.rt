@@ -1,88 +1,49 @@
 //! Steps: matchings that are held for some settings.
 
-ghost use Rattle.std.specs.Prelude.{◌≡◌, ℕ, ◌+◌, ◌<◌, ◌≤◌, Some, None, IfSome, true};
+ghost use Rattle.std.specs.Prelude.{◌≡◌, ℕ, ◌+◌, ◌<◌, ◌≤◌, Some, None};
 ghost use Rattle.link_graph.specs.declared.link.End.TheVariants.{Zero, Three};
 ghost use Rattle.batch.specs.declared.limits.TheConstants.{MAX_MODULES, MAX_TRANSFERS};
 ghost use Rattle.steady_schedule.specs.Covers.{AreFree, AreCovered, KeepsPartners};
-ghost use Rattle.link_graph.specs.Masks.{has_bit, has_pair};
 ghost use Rattle.steady_schedule.specs.Matchings.{partner, AreBelow};
-ghost use Rattle.steady_schedule.specs.Reaches.{AreHeld, HaveHeld};
 ghost use Rattle.steady_schedule.specs.Searches.{AreNear, JoinsNear};
-ghost use Rattle.steady_schedule.specs.Steps.{CanHold, NoneLonger};
+ghost use Rattle.steady_schedule.specs.Steps.{CanHold};
 ghost use Rattle.steady_schedule.specs.Waiting.{count_at, waiting, HaveMost, NoneWait};
 
-use crate::choosing::choose;
+use crate::choosing::{Choice, choose};
 use crate::masks::{Masks, Orders, lowest, without_module};
 use crate::matching::{Matching, free, join};
-use crate::reach::Reach;
 use crate::remaining::Remaining;
 use batch::MAX_MODULES;
 
-/// One of the free links that has transfers with this one, among those that it is near to. It finds
-/// one that has the most; no contract says so.
-fn best_free(remaining: &Remaining, near: &Masks, zero: usize, free: u32) -> Option<usize>
-    requires { zero < MAX_MODULES }
-    ensures free { IfSome result (λ three. has_bit free three ≡ true) }
-    ensures low { IfSome result (λ three. three < MAX_MODULES) }
-    ensures near { IfSome result (λ three. has_pair near.now zero three ≡ true) }
-    ensures some { IfSome result (λ three. 0 < count_at remaining.now.counts zero three) }
-{
-    let mut best = None;
-    let mut most = 0;
-    let mut rest = near[zero] & free;
-    'search: while rest != 0 {
-        let three = lowest(rest);
-        rest = without_module(rest, three);
-        let count = remaining.count(zero, three);
-        if count > most {
-            best = Some(three);
-            most = count;
-        }
-    }
-    best
-}
-
-/// Joins a link that is free to one of these that are free, where it finds one that it has
-/// transfers with.
-fn join_one(
-    remaining: &Remaining,
-    near: &Masks,
-    matching: &mut Matching,
-    zero: usize,
-    free: &mut u32,
-)
+/// Joins a link 0 that is free to one of these links 3, which are free, where it is near to any.
+fn join_one(near: &Masks, matching: &mut Matching, zero: usize, free: &mut u32)
     requires low { zero < MAX_MODULES }
     requires free { AreFree matching.old.three free.old }
-    ensures near { AreNear remaining.now.zero.near matching.old.zero
-        → AreNear remaining.now.zero.near matching.new.zero }
     ensures joins { JoinsNear near.now matching.old.zero matching.new.zero }
     ensures zero { KeepsPartners matching.old.zero matching.new.zero }
     ensures three { KeepsPartners matching.old.three matching.new.three }
     ensures free { AreFree matching.new.three free.new }
 {
-    if matching.zero[zero].is_some() {
+    let mask = near[zero] & *free;
+    if mask == 0 || matching.zero[zero].is_some() {
         return;
     }
-    let Some(three) = best_free(remaining, near, zero, *free) else {
-        return;
-    };
+    let three = lowest(mask);
     join(&mut matching.zero, &mut matching.three, zero, three);
     *free = without_module(*free, three);
 }
 
-/// Joins links that are free and have transfers with each other, as far as it finds them: no
-/// contract says that it joins any. Those that have partners still have some.
-fn join_free(remaining: &Remaining, near: &Masks, matching: &mut Matching, modules: usize)
-    requires within { modules ≤ MAX_MODULES }
-    requires near { AreNear remaining.now.zero.near matching.old.zero }
-    ensures near { AreNear remaining.now.zero.near matching.new.zero }
+/// Joins links that are free and near each other, as far as it finds them: no contract says that it
+/// joins any. Those that have partners still have some.
+fn join_free(near: &Masks, matching: &mut Matching, modules: usize)
+    requires { modules ≤ MAX_MODULES }
     ensures joins { JoinsNear near.now matching.old.zero matching.new.zero }
     ensures zero { KeepsPartners matching.old.zero matching.new.zero }
     ensures three { KeepsPartners matching.old.three matching.new.three }
 {
     let mut free = free(&matching.three, modules);
     for zero in 0..modules {
-        join_one(remaining, near, matching, zero, &mut free);
+        join_one(near, matching, zero, &mut free);
     }
 }
 
@@ -148,13 +109,11 @@ pub(crate) fn how_long(
 }
 
 /// Makes the next matching, and says for how many of the settings that are left it can be held, and
-/// no longer. Only the first `modules` have transfers that wait. No matching can be held longer,
-/// and none for more than `longest` settings. It has as much of the one before as is found; no
-/// contract says so.
+/// no longer. Only the first `modules` have transfers that wait. No other is held longer, of those
+/// that are held for up to `longest` settings; no contract says so.
 pub(crate) fn next_step(
     remaining: &Remaining,
     matching: &mut Matching,
-    reach: &mut Reach,
     most: usize,
     modules: usize,
     longest: usize,
@@ -166,22 +125,15 @@ pub(crate) fn next_step(
     requires within { modules ≤ MAX_MODULES }
     requires none { NoneWait remaining.now.counts modules }
     requires some_longest { 0 < longest }
-    requires longest { NoneLonger remaining.now.counts most longest }
-    requires kept { AreHeld remaining.now.counts reach.old.settings
-        reach.old.zero.near reach.old.three.near }
-    requires kept_all { 0 < reach.old.settings
-        → HaveHeld remaining.now.counts reach.old.settings modules
-        reach.old.zero.near reach.old.three.near }
     ensures can { CanHold remaining.now.counts matching.new.zero matching.new.three most result }
-    ensures longest { NoneLonger remaining.now.counts most result }
-    ensures no_longer { result ≤ longest }
-    ensures kept { AreHeld remaining.now.counts reach.new.settings
-        reach.new.zero.near reach.new.three.near }
-    ensures kept_all { HaveHeld remaining.now.counts reach.new.settings modules
-        reach.new.zero.near reach.new.three.near }
     ensures low { AreBelow matching.new.zero modules }
 {
-    *matching = choose(remaining, matching, reach, most, modules, longest, orders);
-    join_free(remaining, &reach.zero.near, matching, modules);
+    let Choice {
+        matching: chosen,
+        reach,
+        shorter: _,
+    } = choose(remaining, most, modules, longest, orders);
+    *matching = chosen;
+    join_free(&reach.zero.near, matching, modules);
     how_long(remaining, matching, most, modules)
 }

@@ -1,17 +1,17 @@
 //! Steps that use up as many pairs as are found.
 
-ghost use Rattle.std.specs.Prelude.{◌≡◌, ℕ, ◌-◌, ◌<◌, ◌≤◌, IfSome, IsSome, true};
+ghost use Rattle.std.specs.Prelude.{◌≡◌, ◌≢◌, ℕ, ◌-◌, ◌<◌, ◌≤◌, Some, IfSome, IsSome, true};
 ghost use Rattle.batch.specs.declared.limits.TheConstants.{MAX_MODULES, MAX_TRANSFERS};
-ghost use Rattle.link_graph.specs.Masks.{has_bit};
+ghost use Rattle.link_graph.specs.Masks.{has_bit, has_pair};
 ghost use Rattle.steady_schedule.specs.Matchings.{partner, AreBelow};
 ghost use Rattle.steady_schedule.specs.Reaches.{HaveEach, JoinsNeeded};
+ghost use Rattle.steady_schedule.specs.Searches.{AreNear};
 ghost use Rattle.steady_schedule.specs.Steps.{CanHold};
 ghost use Rattle.steady_schedule.specs.Waiting.{HaveMost, NoneWait};
 
-use crate::choosing::standing;
 use crate::heaviest::{Worths, heaviest};
 use crate::masks::{ORDERS, has, lowest, with_module, without_module};
-use crate::matching::{Matching, Partners};
+use crate::matching::{Matching, Partners, part};
 use crate::reach::Reach;
 use crate::remaining::{PAIRS, Remaining, Side};
 use crate::stepping::how_long;
@@ -22,9 +22,6 @@ type Lengths = [u16; MAX_TRANSFERS + 1];
 
 /// What a pair is worth where it is joined.
 const JOINED: u32 = 1;
-
-/// What more where it was joined before.
-const STAYS: u32 = 100;
 
 /// What more where it is used up.
 const USED_UP: u32 = 2000;
@@ -107,38 +104,31 @@ fn full_then(uses: &[u32; MAX_MODULES], left: usize, modules: usize) -> u32
 /// What a pair that can be held is worth: `full` has the links that are full after it without them.
 /// Where a link may be idle just so long, leaving it idle uses that up: its pairs are worth so much
 /// less.
-fn worth(reach: &Reach, full: (u32, u32), before: &Matching, zero: usize, three: usize) -> u32
+fn worth(reach: &Reach, full: (u32, u32), zero: usize, three: usize) -> u32
     requires zero { zero < MAX_MODULES }
     requires three { three < MAX_MODULES }
 {
     let used_up = has(reach.zero.just[zero], three) as u32;
-    let stays = (before.zero[zero] == Some(three as u8)) as u32;
     let needed = has(reach.zero.needed, zero) as u32 + has(reach.three.needed, three) as u32;
     let idle = has(full.0, zero) as u32 + has(full.1, three) as u32;
-    let worth = JOINED + USED_UP * used_up + STAYS * stays + NEEDED * needed;
+    let worth = JOINED + USED_UP * used_up + NEEDED * needed;
     worth.saturating_sub(USED_UP * idle)
 }
 
 /// Puts in what the pairs of a link 0 are worth.
-fn add_worths(worths: &mut Worths, reach: &Reach, full: (u32, u32), before: &Matching, zero: usize)
+fn add_worths(worths: &mut Worths, reach: &Reach, full: (u32, u32), zero: usize)
     requires { zero < MAX_MODULES }
 {
     let mut rest = reach.zero.near[zero];
     'links: while rest != 0 {
         let three = lowest(rest);
         rest = without_module(rest, three);
-        worths[zero * MAX_MODULES + three] = worth(reach, full, before, zero, three);
+        worths[zero * MAX_MODULES + three] = worth(reach, full, zero, three);
     }
 }
 
 /// What each pair is worth that can be held for some of the settings.
-fn worths_of(
-    remaining: &Remaining,
-    reach: &Reach,
-    before: &Matching,
-    left: usize,
-    modules: usize,
-) -> Worths
+fn worths_of(remaining: &Remaining, reach: &Reach, left: usize, modules: usize) -> Worths
     requires { modules ≤ MAX_MODULES }
 {
     let full = (
@@ -147,9 +137,36 @@ fn worths_of(
     );
     let mut worths = [0; PAIRS];
     for zero in 0..modules {
-        add_worths(&mut worths, reach, full, before, zero);
+        add_worths(&mut worths, reach, full, zero);
     }
     worths
+}
+
+/// Parts a link 0, where its pair can't be held so long, or has no worth.
+#[tactic(auto, using(crate::proofs::Matchings::partner_low))]
+fn part_pair(worths: &Worths, reach: &Reach, matching: &mut Matching, zero: usize)
+    requires { zero < MAX_MODULES }
+    ensures near { (y : ℕ) → partner matching.new.zero zero ≡ Some y
+        → has_pair reach.now.zero.near zero y ≡ true }
+    ensures others { (x : ℕ) → x ≢ zero
+        → partner matching.new.zero x ≡ partner matching.old.zero x }
+{
+    let Some(three) = matching.zero[zero] else {
+        return;
+    };
+    let three = three as usize;
+    if !has(reach.zero.near[zero], three) || worths[zero * MAX_MODULES + three] == 0 {
+        part(&mut matching.zero, &mut matching.three, zero, three);
+    }
+}
+
+/// Parts all such links.
+fn part_some(worths: &Worths, reach: &Reach, matching: &mut Matching)
+    ensures { AreNear reach.now.zero.near matching.new.zero }
+{
+    for zero in 0..MAX_MODULES {
+        part_pair(worths, reach, matching, zero);
+    }
 }
 
 /// Whether all links in the mask are joined.
@@ -170,7 +187,6 @@ fn are_joined(partners: &Partners, mask: u32) -> bool
 /// A matching that can be held for so many settings, and is worth as much as is found.
 fn weighed(
     remaining: &Remaining,
-    before: &Matching,
     most: usize,
     modules: usize,
     settings: usize,
@@ -186,9 +202,9 @@ fn weighed(
         JoinsNeeded remaining.now.counts m.zero m.three most settings) }
 {
     let reach = Reach::of(remaining, most, modules, settings, ORDERS[0]);
-    let worths = worths_of(remaining, &reach, before, most - settings, modules);
-    let found = heaviest(&worths, modules, looks)?;
-    let matching = standing(&found, &reach);
+    let worths = worths_of(remaining, &reach, most - settings, modules);
+    let mut matching = heaviest(&worths, modules, looks)?;
+    part_some(&worths, &reach, &mut matching);
     if !are_joined(&matching.zero, reach.zero.needed)
         || !are_joined(&matching.three, reach.three.needed)
     {
@@ -217,6 +233,9 @@ pub(crate) fn weighed_step(
         CanHold remaining.now.counts matching.new.zero matching.new.three most held) }
     ensures low { IfSome result (λ held. AreBelow matching.new.zero modules) }
 {
+    if *looks <= modules {
+        return None;
+    }
     let top = longest.min(most);
     let mut lengths = [0; MAX_TRANSFERS + 1];
     count_lengths(&mut lengths, remaining, most, modules);
@@ -227,7 +246,7 @@ pub(crate) fn weighed_step(
         *looks -= modules + 1;
         let settings = commonest(&lengths, top)?;
         lengths[settings] = 0;
-        if let Some(made) = weighed(remaining, matching, most, modules, settings, looks) {
+        if let Some(made) = weighed(remaining, most, modules, settings, looks) {
             *matching = made;
             return Some(how_long(remaining, matching, most, modules));
         }

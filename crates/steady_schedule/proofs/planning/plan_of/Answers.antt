@@ -13,5 +13,4 @@ of-requires c =
       ascending = c.requires.ascending;
       few = few_needs _ _ c.requires.batch c.requires.schedule none_empty c.requires.needs;
       at_need = c.requires.needs;
-      no_worse = c.requires.no_worse;
     }

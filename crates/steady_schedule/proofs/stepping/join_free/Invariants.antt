@@ -1,10 +1,9 @@
 use Rattle.steady_schedule.specs.Covers.{AreFree, KeepsPartners}
-use Rattle.steady_schedule.specs.Searches.{AreNear, JoinsNear}
+use Rattle.steady_schedule.specs.Searches.{JoinsNear}
 use Rattle.steady_schedule.proofs.stepping.join_free.Given as goal
 
 abbrev pub invariant-loop-zero : goal.invariant-loop-zero
 invariant-loop-zero l = record {
-  near : AreNear l.remaining.zero.near l.matching.zero;
   joins : JoinsNear l.near l.initial.matching.zero l.matching.zero;
   zero : KeepsPartners l.initial.matching.zero l.matching.zero;
   three : KeepsPartners l.initial.matching.three l.matching.three;

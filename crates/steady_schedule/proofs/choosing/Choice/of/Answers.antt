@@ -1,14 +1,9 @@
-use Rattle.std.proofs.Common.{inl, inr}
-use Rattle.steady_schedule.proofs.Matchings.{has_low, partner_low}
+use Rattle.std.proofs.Common.{arith}
+use Rattle.steady_schedule.proofs.Reaches.{each_joined}
 use Rattle.steady_schedule.proofs.choosing.Choice.of.Goals as goal
 
 pub join_all_needed-shorter-requires-clause-each : goal.join_all_needed-shorter-requires-clause-each
-join_all_needed-shorter-requires-clause-each c x y joined =
+join_all_needed-shorter-requires-clause-each c =
+    let reach = c.of-reach.result in
     let m = c.join_just.new.matching in
-    let reach = c.renew in
-    let x_in = has_low m.zero x y m.matched.sized joined in
-    let y_in = partner_low m.zero m.three x y m.matched joined in
-    rw reach.ensures.settings (elim (c.join_just.ensures x y joined) [
-      | inl same ↦ reach.ensures.held.zero x y x_in y_in (c.standing-matching.ensures x y same)
-      | inr near ↦ reach.ensures.held.zero x y x_in y_in near
-    ])
+    each_joined c.args.remaining.now.counts reach.settings reach.zero.near reach.three.near c.none-matching.result.zero m.zero m.three (rw c.of-reach.ensures.settings c.of-reach.ensures.held) m.matched c.join_just.ensures (λ x y joined. absurd (omega (arith, c.none-matching.ensures x y joined)))

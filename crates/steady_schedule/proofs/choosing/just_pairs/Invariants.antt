@@ -1,7 +1,7 @@
 use Rattle.std.proofs.Common.{◌≡◌, ℕ, true, length}
 use Rattle.batch.specs.declared.limits.TheConstants.{MAX_MODULES}
 use Rattle.link_graph.specs.Masks.{has_pair}
-use Rattle.steady_schedule.proofs.choosing.open_pairs.Given as goal
+use Rattle.steady_schedule.proofs.choosing.just_pairs.Given as goal
 
 abbrev pub invariant-loop-module : goal.invariant-loop-module
 invariant-loop-module l = record {
