@@ -120,7 +120,7 @@ fn read_opened<S: System, I: Read>(
     ensures opened { OnOk result (IsOk opened) }
 {
     let apart = opened?;
-    let contents = read_contents(system, alloc, job.files(), input)?;
+    let contents = read_contents(system, alloc, &apart, job.files(), input)?;
     Ok((apart, contents))
 }
 

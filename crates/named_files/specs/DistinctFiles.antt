@@ -5,7 +5,7 @@ use Rattle.command_words.specs.declared.uses.Access.{Access}
 use Rattle.command_words.specs.declared.jobs.Job.{Job}
 use Rattle.command_words.specs.declared.uses.Access.TheVariants.{Port, Read, Told, Write}
 use Rattle.command_words.specs.declared.uses.FileUse.{FileUse}
-use Rattle.command_words.specs.Jobs.{Exclude, file, file_uses}
+use Rattle.command_words.specs.Jobs.{Exclude, all_files, file, file_uses, files_of}
 use Rattle.named_files.specs.declared.place.FileKind.{FileKind}
 use Rattle.named_files.specs.declared.place.FileKind.TheVariants.{Device, Null, Plain}
 use Rattle.named_files.specs.declared.place.Place.{Place}
@@ -71,6 +71,10 @@ pub record AreSeenApart (leads : Leading) (uses : List FileUse) : Type 0 where
   pub pairs : HaveNoClash leads uses
   pub out : IsNoneOf leads (codes "/dev/stdout") uses
   pub err : IsNoneOf leads (codes "/dev/stderr") uses
+
+-- the job reads a file of this name
+abbrev pub IsReadOf : Job → List ℕ → Type 0
+IsReadOf job = Contains (all_files (files_of job))
 
 -- the job writes its record, or the image that it leaves, to a file of this name
 abbrev pub IsWrittenOf : Job → List ℕ → Type 0

@@ -1,12 +1,15 @@
 //! What a job's files contain, of which one may be standard input.
 
-ghost use Rattle.std.specs.Prelude.{◌≡◌, [], IfOk, IfErr, map, option_map, option_to_list, unwrap_or};
+ghost use Rattle.std.specs.Prelude.{◌≡◌, [], All, IfOk, IfErr, map, option_map, option_to_list, unwrap_or};
 ghost use Rattle.plan_answers.specs.Lent.{bytes_of};
 ghost use Rattle.plan_answers.specs.Schedules.{said_by, source_map};
 ghost use Rattle.command_words.specs.Files.{file_names};
+ghost use Rattle.command_words.specs.Jobs.{files_of};
 ghost use Rattle.named_files.specs.Contents.{AreContents, AreRead, IsFileRead, contents_in};
+ghost use Rattle.named_files.specs.DistinctFiles.{IsReadOf};
 ghost use Rattle.named_files.specs.Notes.{IsRefused};
 
+use crate::distinct_files::DistinctFiles;
 use crate::notes::{NoAnswer, unread};
 use crate::system::System;
 use command_words::{JobFiles, Text};
@@ -29,20 +32,22 @@ pub struct Contents {
 pub fn read_contents<S: System, I: Read>(
     system: &S,
     alloc: Global,
+    apart: &DistinctFiles,
     files: JobFiles<'_>,
     input: &mut I,
 ) -> Result<Contents, NoAnswer>
+    requires { file_names files ≡ files_of apart.now }
     ensures contents { IfOk result (λ contents. AreContents (S.holds system.now)
         (I.remaining input.old) (file_names files.entry) (contents_in contents)
         (I.remaining input.new)) }
     ensures note { IfErr result (λ missed. IsRefused missed) }
 {
     Ok(Contents {
-        image: read_option(system, alloc, files.image, input)?,
-        list: read_option(system, alloc, files.list, input)?,
-        schedule: read_option(system, alloc, files.schedule, input)?,
-        wiring: read_option(system, alloc, files.wiring, input)?,
-        scripts: read_files(system, alloc, files.scripts, input)?,
+        image: read_option(system, alloc, apart, files.image, input)?,
+        list: read_option(system, alloc, apart, files.list, input)?,
+        schedule: read_option(system, alloc, apart, files.schedule, input)?,
+        wiring: read_option(system, alloc, apart, files.wiring, input)?,
+        scripts: read_files(system, alloc, apart, files.scripts, input)?,
     })
 }
 
@@ -50,16 +55,18 @@ pub fn read_contents<S: System, I: Read>(
 fn read_option<S: System, I: Read>(
     system: &S,
     alloc: Global,
+    apart: &DistinctFiles,
     name: Option<&Text>,
     input: &mut I,
 ) -> Result<Option<Vec<u8>>, NoAnswer>
+    requires { All (IsReadOf apart.now) (option_to_list (bytes_of name)) }
     ensures content { IfOk result (λ file. AreRead (S.holds system.now) (I.remaining input.old)
         (option_to_list (bytes_of name.entry))
         (option_to_list (option_map (λ file. file.items) file)) (I.remaining input.new)) }
     ensures note { IfErr result (λ missed. IsRefused missed) }
 {
     match name {
-        Some(name) => Ok(Some(read_file(system, alloc, name, input)?)),
+        Some(name) => Ok(Some(read_file(system, alloc, apart, name, input)?)),
         None => Ok(None),
     }
 }
@@ -68,16 +75,18 @@ fn read_option<S: System, I: Read>(
 fn read_files<S: System, I: Read>(
     system: &S,
     alloc: Global,
+    apart: &DistinctFiles,
     names: &[Text],
     input: &mut I,
 ) -> Result<Vec<Vec<u8>>, NoAnswer>
+    requires { All (IsReadOf apart.now) names.now }
     ensures content { IfOk result (λ files. AreRead (S.holds system.now) (I.remaining input.old)
         names.now (map (λ file. file.items) files.items) (I.remaining input.new)) }
     ensures note { IfErr result (λ missed. IsRefused missed) }
 {
     let mut files = Vec::new(alloc);
     for name in names {
-        let file = read_file(system, alloc, name, input)?;
+        let file = read_file(system, alloc, apart, name, input)?;
         files.push(file).map_err(|_| AllocError)?;
     }
     Ok(files)
@@ -87,14 +96,16 @@ fn read_files<S: System, I: Read>(
 fn read_file<S: System, I: Read>(
     system: &S,
     alloc: Global,
+    apart: &DistinctFiles,
     name: &Text,
     input: &mut I,
 ) -> Result<Vec<u8>, NoAnswer>
+    requires { IsReadOf apart.now name.now }
     ensures content { IfOk result (λ file. IsFileRead (S.holds system.now) (I.remaining input.old)
         name.now file.items (I.remaining input.new)) }
     ensures note { IfErr result (λ missed. IsRefused missed) }
 {
-    match read_bytes(system, alloc, name, input) {
+    match read_bytes(system, alloc, apart, name, input) {
         Ok(file) => Ok(file),
         Err(error) => Err(unread(alloc, name, &error)),
     }
@@ -104,14 +115,16 @@ fn read_file<S: System, I: Read>(
 fn read_bytes<S: System, I: Read>(
     system: &S,
     alloc: Global,
+    apart: &DistinctFiles,
     name: &Text,
     input: &mut I,
 ) -> io::Result<Vec<u8>>
+    requires { IsReadOf apart.now name.now }
     ensures { IfOk result (λ file. IsFileRead (S.holds system.now) (I.remaining input.old)
         name.now file.items (I.remaining input.new)) }
 {
     if !name.is_input() {
-        return system.read(name.as_str());
+        return system.read(apart, name.as_str());
     }
     let mut file = Vec::new(alloc);
     input.read_to_end(&mut file)?;

@@ -21,7 +21,7 @@ impl System for HostRuntime {
 
     ghost received = { λ file. closed file.named (Some file.sent) file.stands };
 
-    fn read(&self, name: &str) -> io::Result<Vec<u8>> {
+    fn read(&self, _apart: &DistinctFiles, name: &str) -> io::Result<Vec<u8>> {
         fs::read(self, name)
     }
 

@@ -1,7 +1,7 @@
 //! What the program asks of the system by name.
 
 ghost use Rattle.std.specs.Prelude.{◌≡◌, ◌≤◌, ℕ, false, is_ok, length, take, List, [], Some, IfOk, OnOk, OnErr};
-ghost use Rattle.named_files.specs.DistinctFiles.{IsWrittenOf};
+ghost use Rattle.named_files.specs.DistinctFiles.{IsReadOf, IsWrittenOf};
 ghost use Rattle.named_files.specs.Streams.{Closed, IsLeftOf, gone_to};
 
 use crate::client_streams::ClientFiles;
@@ -34,8 +34,9 @@ pub trait System: Places + ClientFiles + Sync {
     /// What is known of the stream of which this is left.
     ghost received: { Self.Receipt → Closed };
 
-    /// Reads the file of this name to its end.
-    fn read(&self, name: &str) -> io::Result<Vec<u8>>
+    /// Reads the file of this name to its end. It is one that the job reads.
+    fn read(&self, apart: &DistinctFiles, name: &str) -> io::Result<Vec<u8>>
+        requires { IsReadOf apart.now name.now }
         ensures { IfOk result (λ bytes. holds self.now name.now bytes.items) };
 
     /// Opens the file of this name, to be written after what it holds, and reads that. It is made

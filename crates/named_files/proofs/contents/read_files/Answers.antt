@@ -1,5 +1,6 @@
-use Rattle.std.proofs.Common.{ℕ, Vec, is_ok, map, ap}
+use Rattle.std.proofs.Common.{ℕ, Vec, is_ok, map, ap, subst, sym}
 use Rattle.std.specs.Global.{Global}
+use Rattle.named_files.specs.DistinctFiles.{IsReadOf}
 use Rattle.named_files.proofs.Reading.{mapped_more, pushed_items, read_one_more}
 use Rattle.named_files.proofs.contents.read_files.Goals as goal
 
@@ -9,3 +10,7 @@ loop-name-preserved g c =
     let grown = mapped_more (λ (v : Vec ℕ Global). v.items) c.loop-name.files.items c.push.new.self.items c.in_ok-file.file pushed in
     read_one_more (g.S.System.holds c.args.system.now) (g.I.Read.remaining c.args.input.now) (g.I.Read.remaining c.loop-name.input) (g.I.Read.remaining c.read_file.new.input) c.args.names.now (map (λ (v : Vec ℕ Global). v.items) c.loop-name.files.items) _ c.loop-name.name-index c.name-item.result c.in_ok-file.file.items
     c.loop-name-test.true c.name-item.is grown c.loop-name.invariant c.in_ok-file.ensures.content
+
+pub read_file-requires-after_bounds : goal.read_file-requires-after_bounds
+read_file-requires-after_bounds g c κs within =
+    subst (IsReadOf c.args.apart.now) (sym c.name-item.is) (c.requires c.loop-name.name-index _ c.loop-name-test.true)
