@@ -21,11 +21,14 @@ import time
 from chip import ENQUIRE, PORTS, RESET, TOP, TURNS, Chip
 from far import Far, Pipes, Pty, Tee
 
-sys.path.insert(0, f"{TOP}/tools/hosts")
+sys.path[:0] = [f"{TOP}/tools", f"{TOP}/tools/hosts"]
 
 import plain  # noqa: E402
 import switching  # noqa: E402
-from hosts import EXCHANGE, LIMIT, start, try_cases  # noqa: E402
+import harness  # noqa: E402
+from pipe_clients import EXCHANGE, PROCESSES  # noqa: E402
+
+LIMIT, start = harness.SECONDS, PROCESSES.start
 
 EXAMPLES = f"{TOP}/examples"
 THREE = f"{EXAMPLES}/three-transfers.txt"
@@ -1046,7 +1049,9 @@ CASES = [
 
 def main():
     chosen = [case for case in CASES if not sys.argv[1:] or any(word in case.__name__ for word in sys.argv[1:])]
-    sys.exit(try_cases("ends", chosen) or not chosen)
+    report = harness.Report("ends")
+    harness.run_cases(report, chosen, PROCESSES)
+    report.finish(1, f"{len(chosen)} cases, {{tried}} things looked at, {{wrong}} cases wrong")
 
 
 if __name__ == "__main__":

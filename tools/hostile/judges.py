@@ -15,6 +15,7 @@ import shutil
 import subprocess
 import sys
 import tempfile
+from pathlib import Path
 from runpy import run_path
 from types import SimpleNamespace
 
@@ -35,8 +36,11 @@ import calls
 import check_prices
 import tables
 
-JUDGES = ("edits", "hosts/hosts", "least", "python/run", "rack/run", "rows/run", "said", "texts/run")
-edits, hosts, least, python, rack, rows, said, texts = (SimpleNamespace(**run_path(f"{TOP}/tools/{name}.py")) for name in JUDGES)
+sys.path[:0] = [f"{TOP}/tools", f"{TOP}/tools/rows"]
+import harness
+import reading
+JUDGES = ("edits", "least", "python/run", "rack/run", "rows/run", "said", "texts/run")
+edits, least, python, rack, rows, said, texts = (SimpleNamespace(**run_path(f"{TOP}/tools/{name}.py")) for name in JUDGES)
 
 THREE = b"batch 3\npush 0 0 1 0\npush 0 1 2 0\npush 1 1 2 1\n"
 PLAN = b"settings 2\nsetting 0 2\nsetting 1\nbusiest link 0 module 0\nnamed 0 1\n"
@@ -131,9 +135,9 @@ def is_obeyed(batch, schedule, answer):
 
 def is_row(out, err, told=b"", status=1):
     """Whether a row takes what came of a line, by a section of each form, or by what the line itself tells."""
-    row = rows.Row("judges", "judges")
-    says = [(["out"], b"refused a\n"), (["err", "begins"], b"exchange: "), (["err", "has"], b"b"), (["err", "ends"], b"c\n")]
-    row.status, row.wanted = 1, [] if told else says
+    says = [("out", b"refused a\n"), ("err begins", b"exchange: "), ("err has", b"b"), ("err ends", b"c\n")]
+    row = reading.Row("judges", "judges", status=1)
+    row.wanted = [] if told else [reading.Section(head.split(), text) for head, text in says]
     return not rows.judge(row, told, rows.Ended(out, err, status, None))
 
 
@@ -143,18 +147,17 @@ def is_read(text):
         file.write(text)
         file.flush()
         try:
-            return len(rows.read_rows(os.path.relpath(file.name, f"{TOP}/rows"))) == 1
-        except rows.Unreadable:
+            return len(reading.read_rows(Path(file.name), "judges")) == 1
+        except reading.Unreadable:
             return False
 
 
 def is_run(*lines):
     """Whether a row takes what comes of these lines. It has two pipes, which are read in their order, and an input that nobody may read."""
-    row = rows.Row("judges", "judges")
-    row.lines, row.told, row.there = lines, [b""] * len(lines), [(["pipe", "a"], b"1"), (["pipe", "b"], b"2")]
-    row.wanted = [(["out", "begins"], b"12")]
-    with contextlib.redirect_stdout(io.StringIO()):
-        return rows.try_row(row, TOP) == (True, False)
+    pipes = [reading.Section(["pipe", name], text) for name, text in (("a", b"1"), ("b", b"2"))]
+    wanted = [reading.Section(["out", "begins"], b"12")]
+    row = reading.Row("judges", "judges", [*lines], [b""] * len(lines), pipes, wanted)
+    return rows.faults_of(row, Path(TOP)) == []
 
 
 def is_told(told, script=SCRIPT):
@@ -212,8 +215,10 @@ def is_table(text, *changes):
 
 def is_well(*things):
     """Whether a case of tools/hosts or tools/ends is well that looks at these things."""
+    report = harness.Report("judges")
     with contextlib.redirect_stdout(io.StringIO()):
-        return not hosts.try_cases("judges", [lambda: iter(things)])
+        harness.run_cases(report, [lambda: iter(things)], harness.Processes())
+    return not report.wrong
 
 
 def is_told_well(text, told=None):

@@ -7,12 +7,13 @@ import signal
 import sys
 
 import plain
-from program import EXCHANGE, LIMIT, TOP, Ended, end, start
+from program import EXCHANGE, TOP, Ended, end, start
 from sessions import COMMANDS
 
-sys.path.insert(0, f"{TOP}/tools/hosts")
+sys.path[:0] = [f"{TOP}/tools", f"{TOP}/tools/hosts"]
 
-from hosts import Client, Late, give_up  # noqa: E402
+from pipe_clients import Client, make_pipes  # noqa: E402
+from harness import Late, limit  # noqa: E402
 
 
 def commands(script):
@@ -71,18 +72,13 @@ def talk(clients):
 
 def host(shape, names, scripts, draw, *options):
     """Starts a host of clients of these names, which go through these scripts: how it ended, and what each was told."""
-    for name in names:
-        os.mkfifo(f"{name}.in")
-        os.mkfifo(f"{name}.out")
+    make_pipes(names)
     process, *ends = start([EXCHANGE, "host", shape, *names, *options])
-    signal.signal(signal.SIGALRM, give_up)
-    signal.alarm(LIMIT)
     try:
-        clients = [Live(name, script, draw) for name, script in zip(names, scripts)]
-        talk(clients)
+        with limit():
+            clients = [Live(name, script, draw) for name, script in zip(names, scripts)]
+            talk(clients)
     except Late:
         os.kill(process, signal.SIGKILL)
         return Ended(b"", b"it hangs", end(process, *ends).status), []
-    finally:
-        signal.alarm(0)
     return end(process, *ends), [client.heard for client in clients]

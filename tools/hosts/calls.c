@@ -1,7 +1,7 @@
 // Notes what a program that is started with this library in LD_PRELOAD asks of files, in its order,
 // and lets some calls fail or wait.
 //
-// The calls: open, stat (by a name), look (of an open file), lock, cut, write, sync (of a file or a
+// The calls: open, stat (by a name), look (of an open file), lock, cut, read, write, sync (of a file or a
 // folder), rename, unlink. NAME is the last part of the file's name.
 //
 // CALLS_LOG=FILE    a line is put there as a call begins, and one as it ends: `begin` or `end`, the
@@ -66,6 +66,9 @@ static const char *name_of(int file, char *text, size_t size) {
     snprintf(path, sizeof path, "/proc/self/fd/%d", file);
     ssize_t n = readlink(path, text, size - 1);
     text[n < 0 ? 0 : n] = 0;
+    // A pipe or a socket has its kind for a name.
+    char *number = strstr(text, ":[");
+    if (number) *number = 0;
     return last_of(text);
 }
 
@@ -89,7 +92,7 @@ static int begins(const char *call, const char *name, long count) {
     if (is_due(&waits, call, name)) {
         int pipe = syscall(SYS_openat, AT_FDCWD, waits.rest, O_RDONLY);
         char byte;
-        while (read(pipe, &byte, 1) > 0) {
+        while (syscall(SYS_read, pipe, &byte, 1) > 0) {
         }
         close(pipe);
     }
@@ -145,6 +148,15 @@ int ftruncate(int file, off_t size) {
     if (!real) real = next("ftruncate");
     if (begins("cut", name, size)) return -1;
     return ends("cut", name, real(file, size));
+}
+
+ssize_t read(int file, void *bytes, size_t count) {
+    static ssize_t (*real)(int, void *, size_t);
+    char text[4096];
+    const char *name = name_of(file, text, sizeof text);
+    if (!real) real = next("read");
+    if (begins("read", name, count)) return -1;
+    return ends("read", name, real(file, bytes, count));
 }
 
 ssize_t write(int file, const void *bytes, size_t count) {

@@ -16,7 +16,12 @@ import shutil
 import subprocess
 import sys
 
-from hosts import EXCHANGE, LIMIT, TOP, Client, Host, start, try_cases
+from pathlib import Path
+
+sys.path.insert(0, str(Path(__file__).resolve().parents[1]))
+
+import harness  # noqa: E402
+from pipe_clients import EXCHANGE, PROCESSES, Client, Host  # noqa: E402
 
 SESSION = "session 0\nword 000000ff\n"
 
@@ -40,7 +45,7 @@ def ended_so(words, given=os.devnull, **environment):
     """What the program prints on both streams, and its status, where files do as this environment says."""
     environment["LD_PRELOAD"] = os.environ["LIBRARIES"]
     with open(given) as file:
-        run = subprocess.run([EXCHANGE, *words.split()], stdin=file, capture_output=True, timeout=LIMIT, env=environment)
+        run = subprocess.run([EXCHANGE, *words.split()], stdin=file, capture_output=True, timeout=harness.SECONDS, env=environment)
     return run.stdout.decode(errors="replace"), run.stderr.decode(), run.returncode
 
 
@@ -48,7 +53,7 @@ def beside(call, script):
     """Has a script run as this call begins, which waits for its end."""
     if not os.path.exists("gate"):
         os.mkfifo("gate")
-    start(["sh", "-c", f"exec 3>gate; {script}"])
+    PROCESSES.start(["sh", "-c", f"exec 3>gate; {script}"])
     return {"CALLS_WAIT": f"{call}:gate"}
 
 
@@ -60,10 +65,10 @@ def noted():
     sync stands here: it says whether the name still leads there."""
     kept = []
     for line in read("calls").splitlines():
-        when, call, name, count = re.sub(r"pipe:\S+", "stdout", line).split()
+        when, call, name, count = re.sub(r"\bpipe\b", "stdout", line).split()
         text = f"{call} {name}"
         is_late = call != "stat" or kept[-1:] in ([f"lock {name}"], [f"sync {name}"])
-        if when == "end" and int(count) >= 0 and call != "look" and is_late and name != "null" and text != (kept or [""])[-1]:
+        if when == "end" and int(count) >= 0 and call not in ("look", "read") and is_late and name != "null" and text != (kept or [""])[-1]:
             kept.append(text)
     os.unlink("calls")
     return kept
@@ -145,7 +150,7 @@ def orders_of_sessions():
 def orders_of_readers():
     """What asks for no sessions opens each file once, in this order, and writes standard output alone."""
     for name in "three-transfers.txt", "three-transfers.plan.txt", "patterns/gather.moves.txt", "before.img", "two-clients.record.txt":
-        shutil.copy(f"{TOP}/examples/{name}", ".")
+        shutil.copy(harness.EXAMPLES / name, ".")
     batch, schedule = "three-transfers.txt", "three-transfers.plan.txt"
     words = [f"plan {batch} --steady", f"check {batch} {schedule}", f"draw {batch} {schedule}", f"switch {batch} --schedule {schedule}"]
     words += [f"orders {batch}", "direct gather.moves.txt", f"run 3x2x2 --image before.img {batch}", f"apply 3x2x2 {batch} before.img"]
@@ -322,4 +327,6 @@ CASES = [
 ]  # fmt: skip
 
 if __name__ == "__main__":
-    sys.exit(try_cases("files", CASES))
+    report = harness.Report("files")
+    harness.run_cases(report, CASES, PROCESSES)
+    report.finish(86, f"{len(CASES)} cases, {{tried}} things looked at, {{wrong}} cases wrong")

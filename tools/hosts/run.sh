@@ -18,6 +18,7 @@ cc -O2 -shared -fPIC -o "$work/refuse.so" "$top/tools/hostile/refuse.c" -ldl
 cc -O2 -shared -fPIC -o "$work/calls.so" "$here/calls.c" -ldl
 failed=
 python3 "$here/hosts.py" || failed+=" hosts"
+python3 "$here/turns.py" "$work/calls.so" || failed+=" turns"
 LIBRARIES=$work/refuse.so:$work/calls.so python3 "$here/files.py" || failed+=" files"
 python3 "$here/bursts.py" "$work/calls.so" || failed+=" bursts"
 python3 "$here/flips.py" 3 9 || failed+=" flips"
