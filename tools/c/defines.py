@@ -4,7 +4,7 @@ against the sources.
 
 Statuses stand in crates/exchange_c/src/status.rt, the numbers by which `exchange_why` knows the calls in why.rt, and how many bytes a refusal has
 at most in crates/refusals/src/refusal.rt. A call has the name, the arguments in their order and the result of its function in crates/exchange_c/src,
-where a text is one argument, and the allocator is one too. A state has the fields in their order of its struct in crates/link_ends/src. It needs no
+where a text is one argument, and the allocator is one too. A state has the fields in their order of its struct in crates/link_devices/src. It needs no
 program.
 """
 
@@ -23,7 +23,7 @@ ANSWERS = {"DONE": 0, "REFUSED": 1}
 TYPES = {"u8": "uint8_t", "u32": "uint32_t", "usize": "size_t", "SwitchState": "struct exchange_c004", "BootState": "struct exchange_boot"}
 
 # The files that have the structs of states, and the crates whose constants say their lengths.
-STATES = {"crates/link_ends/src/switch_state.rt": "c004_commands", "crates/link_ends/src/boot_state.rt": "peek_poke"}
+STATES = {"crates/link_devices/src/switch_state.rt": "c004_commands", "crates/link_devices/src/boot_state.rt": "peek_poke"}
 
 
 def read(path):
@@ -37,7 +37,7 @@ def numbers_in(path, form):
 
 
 def name_of_call(variant):
-    """The name that exchange.h has for the call of a variant of `Asked`."""
+    """The name that exchange.h has for the call of a variant of `LibraryCall`."""
     return "OF_" + re.sub(r"(?<=[a-z])(?=[A-Z])", "_", variant).upper()
 
 
@@ -96,7 +96,7 @@ def declared_in_header():
 def main():
     header = numbers_in("include/exchange.h", r"^#define EXCHANGE_(?P<name>\w+) (?P<number>\d+)$")
     statuses = {**ANSWERS, **numbers_in("crates/exchange_c/src/status.rt", r"^pub const (?P<name>\w+): u8 = (?P<number>\d+);$")}
-    asked = numbers_in("crates/exchange_c/src/why.rt", r"^ +(?P<number>\d+) => Some\(Asked::(?P<name>\w+)\),$")
+    asked = numbers_in("crates/exchange_c/src/why.rt", r"^ +(?P<number>\d+) => Some\(LibraryCall::(?P<name>\w+)\),$")
     named = {name_of_call(variant): number for variant, number in asked.items()}
     python, numbers = of_python()
     of_states = {name: getattr(states, name) for name in statuses if hasattr(states, name)}

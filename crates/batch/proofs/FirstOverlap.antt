@@ -4,8 +4,8 @@ use Rattle.std.proofs.lemmas.Bool.{cases_lt, cases_eq}
 use Rattle.std.proofs.lemmas.List.{get_or-replicate}
 use Rattle.batch.specs.declared.transfer.Transfer.{Transfer}
 use Rattle.batch.specs.declared.transfer.Place.{Place}
-use Rattle.batch.specs.declared.overlap.TheConstants.{MAX_PLACES}
-use Rattle.batch.specs.Extent.{widest}
+use Rattle.batch.specs.declared.overlap.TheConstants.{MAX_RACK_BLOCKS}
+use Rattle.batch.specs.ShapeView.{widest}
 use Rattle.batch.specs.Places.{HasPlace, place_index}
 use Rattle.batch.specs.Overlap.{destination_at, Overlap, IsApart, IsPairUpTo, IsFirstOverlap}
 use Rattle.batch.proofs.Places.{place_index_below, same_place_from_index}
@@ -72,9 +72,9 @@ IsFirstFrom ts n first =
     (λ pair. Overlap ts pair.0 pair.1 × ((k l : ℕ) → n ≤ k → Overlap ts k l → IsPairUpTo pair.0 pair.1 k l))
 
 -- beyond the last transfer
-pub none_next : (ts : List Transfer) → AreNextWriters ts (length ts) (replicate MAX_PLACES None)
+pub none_next : (ts : List Transfer) → AreNextWriters ts (length ts) (replicate MAX_RACK_BLOCKS None)
 none_next ts p hp =
-    subst (IsNextWriter ts (length ts) p) (sym (get_or-replicate MAX_PLACES (place_index widest p) None None (place_index_below widest p hp)))
+    subst (IsNextWriter ts (length ts) p) (sym (get_or-replicate MAX_RACK_BLOCKS (place_index widest p) None None (place_index_below widest p hp)))
     (λ k l m e. absurd (omega arith))
 
 -- one more transfer, in front of them

@@ -6,7 +6,7 @@ use Rattle.std.proofs.lemmas.List.Elements.{Contains-append_left, Contains-get_o
 use Rattle.std.proofs.lemmas.List.Quantifiers.{all_pairs_push}
 use Rattle.batch.specs.declared.transfer.Place.{Place}
 use Rattle.batch.specs.declared.transfer.Transfer.{Transfer}
-use Rattle.batch.specs.Extent.{widest}
+use Rattle.batch.specs.ShapeView.{widest}
 use Rattle.batch.specs.Places.{HasPlace, place_index, destination_of}
 use Rattle.batch.specs.Overlap.{source_at, destination_at}
 use Rattle.batch.specs.Held.{same_place, is_written, IsHeldSource, HasHeldSource, AreHeldSources}

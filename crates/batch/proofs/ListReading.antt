@@ -4,7 +4,7 @@ use Rattle.std.specs.List.{flat_map}
 use Rattle.std.proofs.lemmas.List.{append-nil, flat_map_more, length_push}
 use Rattle.std.proofs.lemmas.List.Elements.{All-push}
 use Rattle.batch.specs.declared.fault.BatchFault.{BatchFault}
-use Rattle.batch.specs.Extent.{Extent}
+use Rattle.batch.specs.ShapeView.{ShapeView}
 use Rattle.batch.specs.Numbers.{IsNumber, number, line_feed}
 use Rattle.batch.specs.Lists.{Form, head, line, IsWithin, Denotes}
 use Rattle.batch.specs.ListFaults.{IsHeaded, IsLineFault, IsGoodUpTo, IsFirstFault, at_line, NeedsMemory}
@@ -15,7 +15,7 @@ headed form text heading rest None same parts read = tt
 headed form text heading rest (Some x) same parts read =
     (read.0, parts ∙ ap (λ (y : List ℕ). y ++ rest) same ∙ ap (λ (y : List ℕ). form.heading ++ y) read.1 ∙ sym (append_assoc form.heading (number x.0 line_feed) x.1.now))
 
-module _ {Thing : Type 0} (form : Form Thing) (shape : Extent) where
+module _ {Thing : Type 0} (form : Form Thing) (shape : ShapeView) where
   pub one_more : (text : List ℕ) (n t : ℕ) (xs : List Thing) (rest : List ℕ) (x : Thing) (after : List ℕ) (all : List Thing) → IsGoodUpTo form shape text n xs rest → length xs ≡ t → t < n → IsWithin form shape x × (rest ≡ line form x ++ after) → all ≡ xs ++ x ∷ []
       → IsGoodUpTo form shape text n all after
   one_more text n t xs rest x after all so_far counted less next pushed = record {

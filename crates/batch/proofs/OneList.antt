@@ -6,7 +6,7 @@ use Rattle.std.proofs.lemmas.List.{append-nil, append_cancel_left, length-append
 use Rattle.std.proofs.lemmas.List.Elements.{All-head, All-tail}
 use Rattle.batch.specs.declared.fault.BatchFault.{BatchFault}
 use Rattle.batch.specs.declared.fault.BatchFault.TheVariants.{Line, TooMany, NoModule, NoBlock, Count}
-use Rattle.batch.specs.Extent.{Extent, IsShape}
+use Rattle.batch.specs.ShapeView.{ShapeView, IsShape}
 use Rattle.batch.specs.Numbers.{IsNumber, number, line_feed}
 use Rattle.batch.specs.Lists.{Form, head, line, HasModules, HasBlocks, IsWithin, Denotes}
 use Rattle.batch.specs.ListFaults.{IsSpellable, BeginsWithLine, IsLineFault, IsHeadFault, IsGoodUpTo, IsFirstFault, at_head, at_line, at_end}
@@ -17,12 +17,12 @@ module _ {Thing : Type 0} (form : Form Thing) where
   one_head n m x y ln lm same =
       one_number n m line_feed x y ln lm ends_line (append_cancel_left form.heading _ _ (sym (append_assoc form.heading (number n line_feed) x) ∙ same ∙ append_assoc form.heading (number m line_feed) y))
 
-  pub spellable : (shape : Extent) (valid : IsShape shape) (x : Thing) → IsWithin form shape x → IsSpellable form x
+  pub spellable : (shape : ShapeView) (valid : IsShape shape) (x : Thing) → IsWithin form shape x → IsSpellable form x
   spellable shape valid x w =
       ((omega (arith, w.0.0, valid.few_modules), omega (arith, w.1.0, valid.few_blocks)), (omega (arith, w.0.1, valid.few_modules), omega (arith, w.1.1, valid.few_blocks)))
 
   -- the one list of more lines goes on from the other
-  record GoesOn (shape : Extent) (xs ys : List Thing) (r s : List ℕ) : Type 0 where
+  record GoesOn (shape : ShapeView) (xs ys : List Thing) (r s : List ℕ) : Type 0 where
     pub more : List Thing
     pub within : All (IsWithin form shape) more
     pub list : ys ≡ xs ++ more
@@ -38,7 +38,7 @@ module _ {Thing : Type 0} (form : Form Thing) where
   same_head text TooMany _ p q = absurd q
   same_head text _ g p q = absurd p
 
-module _ {Thing : Type 0} (form : Form Thing) (tells : Tells form) (shape : Extent) (valid : IsShape shape) where
+module _ {Thing : Type 0} (form : Form Thing) (tells : Tells form) (shape : ShapeView) (valid : IsShape shape) where
   goes_on : (xs ys : List Thing) (r s : List ℕ) → All (IsWithin form shape) xs → All (IsWithin form shape) ys → length xs ≤ length ys → flat_map (line form) xs ++ r ≡ flat_map (line form) ys ++ s → GoesOn form shape xs ys r s
   goes_on [] ys r s wx wy le same = record { more = ys; within = wy; list = refl; rest = same }
   goes_on (x ∷ xs) [] r s wx wy le same = absurd (omega arith)

@@ -2,7 +2,7 @@
 use Rattle.std.specs.Prelude.{List, ℕ}
 use Rattle.batch.specs.declared.fault.BatchFault.{BatchFault}
 use Rattle.batch.specs.declared.transfer.Transfer.{Transfer}
-use Rattle.batch.specs.Extent.{Extent}
+use Rattle.batch.specs.ShapeView.{ShapeView}
 use Rattle.batch.specs.ListFaults as lists
 use Rattle.batch.specs.Text.{batch_form}
 
@@ -12,9 +12,9 @@ IsSpellable = lists.IsSpellable batch_form
 
 -- the first fault of the text: of its first line, of a transfer's line after good ones, or after
 -- the last
-abbrev pub IsFirstFault : Extent → List ℕ → BatchFault → Type 0
+abbrev pub IsFirstFault : ShapeView → List ℕ → BatchFault → Type 0
 IsFirstFault = lists.IsFirstFault batch_form
 
 -- the line of a transfer stands in the text, as it should
-abbrev pub NeedsMemory : Extent → List ℕ → Type 0
+abbrev pub NeedsMemory : ShapeView → List ℕ → Type 0
 NeedsMemory = lists.NeedsMemory batch_form

@@ -1,4 +1,4 @@
-pub mod Extent
+pub mod ShapeView
 pub mod Places
 pub mod Numbers
 pub mod Lists

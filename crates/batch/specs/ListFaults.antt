@@ -5,7 +5,7 @@ use Rattle.batch.specs.declared.limits.TheConstants.{MAX_TRANSFERS}
 use Rattle.batch.specs.declared.fault.BatchFault.{BatchFault}
 use Rattle.batch.specs.declared.fault.BatchFault.TheVariants.{Line, TooMany, NoModule, NoBlock, Count, NoMemory}
 use Rattle.batch.specs.declared.transfer.Place.{Place}
-use Rattle.batch.specs.Extent.{Extent}
+use Rattle.batch.specs.ShapeView.{ShapeView}
 use Rattle.batch.specs.Numbers.{IsNumber}
 use Rattle.batch.specs.Lists.{Form, place_text, head, line, HasModules, HasBlocks, IsWithin}
 
@@ -55,7 +55,7 @@ module _ {Thing : Type 0} (form : Form Thing) where
   IsHeadFault text TooMany = AnnouncesTooMany text
   IsHeadFault text _ = ⊥
 
-module _ {Thing : Type 0} (form : Form Thing) (shape : Extent) where
+module _ {Thing : Type 0} (form : Form Thing) (shape : ShapeView) where
   -- the text begins with the line of a thing, a module of which the shape hasn't
   pub record NamesNoModule (text : List ℕ) : Type 0 where
     pub thing : Thing

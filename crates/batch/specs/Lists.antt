@@ -4,7 +4,7 @@ use Rattle.std.specs.Prelude.{◌≡◌, ℕ, ◌<◌, ◌≤◌, List, ◌++◌
 use Rattle.std.specs.List.{flat_map}
 use Rattle.batch.specs.declared.limits.TheConstants.{MAX_TRANSFERS}
 use Rattle.batch.specs.declared.transfer.Place.{Place}
-use Rattle.batch.specs.Extent.{Extent}
+use Rattle.batch.specs.ShapeView.{ShapeView}
 use Rattle.batch.specs.Numbers.{number, space, line_feed}
 
 -- how things are listed: what stands before their count, what the line of each begins with, and the
@@ -35,21 +35,21 @@ module _ {Thing : Type 0} (form : Form Thing) where
   list_text xs = head (length xs) ++ flat_map line xs
 
   -- the shape has the modules that a thing names
-  abbrev pub HasModules : Extent → Thing → Type 0
+  abbrev pub HasModules : ShapeView → Thing → Type 0
   HasModules shape x =
       ((form.first x).«module» < shape.modules) × ((form.second x).«module» < shape.modules)
 
   -- the shape has the blocks that it names
-  abbrev pub HasBlocks : Extent → Thing → Type 0
+  abbrev pub HasBlocks : ShapeView → Thing → Type 0
   HasBlocks shape x =
       ((form.first x).block < shape.blocks) × ((form.second x).block < shape.blocks)
 
   -- the shape has both
-  abbrev pub IsWithin : Extent → Thing → Type 0
+  abbrev pub IsWithin : ShapeView → Thing → Type 0
   IsWithin shape x = HasModules shape x × HasBlocks shape x
 
   -- the text is that of these things, which the limit and the shape allow
-  pub record Denotes (shape : Extent) (text : List ℕ) (xs : List Thing) : Type 0 where
+  pub record Denotes (shape : ShapeView) (text : List ℕ) (xs : List Thing) : Type 0 where
     pub spelled : text ≡ list_text xs
     pub few : length xs ≤ MAX_TRANSFERS
     pub within : All (IsWithin shape) xs

@@ -5,7 +5,7 @@ use Rattle.batch.specs.declared.transfer.Kind.TheVariants.{Push, Pull}
 use Rattle.batch.specs.declared.transfer.Kind.{Kind}
 use Rattle.batch.specs.declared.transfer.Place.{Place}
 use Rattle.batch.specs.declared.transfer.Transfer.{Transfer}
-use Rattle.batch.specs.Extent.{Extent}
+use Rattle.batch.specs.ShapeView.{ShapeView}
 
 -- the initiator's block
 abbrev pub own_place : Transfer → Place
@@ -29,10 +29,10 @@ abbrev pub destination_of : Transfer → Place
 destination_of t = by_kind t.kind (far_place t) (own_place t)
 
 -- the shape has the block
-pub record HasPlace (shape : Extent) (p : Place) : Type 0 where
+pub record HasPlace (shape : ShapeView) (p : Place) : Type 0 where
   pub in_modules : p.«module» < shape.modules
   pub in_blocks : p.block < shape.blocks
 
 -- where a block stands among all blocks of the shape, by module and then by block
-abbrev pub place_index : Extent → Place → ℕ
+abbrev pub place_index : ShapeView → Place → ℕ
 place_index shape p = p.«module» * shape.blocks + p.block

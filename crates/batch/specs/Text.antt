@@ -4,7 +4,7 @@ use Rattle.std.specs.Prelude.{ℕ, List, codes}
 use Rattle.batch.specs.declared.transfer.Kind.{Kind}
 use Rattle.batch.specs.declared.transfer.Kind.TheVariants.{Push, Pull}
 use Rattle.batch.specs.declared.transfer.Transfer.{Transfer}
-use Rattle.batch.specs.Extent.{Extent}
+use Rattle.batch.specs.ShapeView.{ShapeView}
 use Rattle.batch.specs.Lists as lists
 use Rattle.batch.specs.Lists.{Form}
 use Rattle.batch.specs.Places.{own_place, far_place}
@@ -36,13 +36,13 @@ abbrev pub batch_text : List Transfer → List ℕ
 batch_text = lists.list_text batch_form
 
 -- the shape has the transfer's modules
-abbrev pub HasModules : Extent → Transfer → Type 0
+abbrev pub HasModules : ShapeView → Transfer → Type 0
 HasModules = lists.HasModules batch_form
 
 -- the shape has the transfer's modules and blocks
-abbrev pub IsWithin : Extent → Transfer → Type 0
+abbrev pub IsWithin : ShapeView → Transfer → Type 0
 IsWithin = lists.IsWithin batch_form
 
 -- the text is that of these transfers, which the limit and the shape allow
-abbrev pub Denotes : Extent → List ℕ → List Transfer → Type 0
+abbrev pub Denotes : ShapeView → List ℕ → List Transfer → Type 0
 Denotes = lists.Denotes batch_form

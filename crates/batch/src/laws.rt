@@ -1,7 +1,7 @@
 //! Laws of shapes and of the text of a batch. None of them does anything.
 
 ghost use Rattle.std.specs.Prelude.{◌≡◌};
-ghost use Rattle.batch.specs.Extent.{widest};
+ghost use Rattle.batch.specs.ShapeView.{widest};
 ghost use Rattle.batch.specs.Laws.{NeverBoth, OneBatch, OneFault, NoneOverlap, OneFirstOverlap, OneShape};
 
 use crate::shape::Shape;

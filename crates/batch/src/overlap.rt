@@ -1,7 +1,7 @@
 //! Whether transfers overlap, and which do first.
 
 ghost use Rattle.std.specs.Prelude.{◌≡◌, ◌<◌, IfNone, IfSome};
-ghost use Rattle.batch.specs.Extent.{widest};
+ghost use Rattle.batch.specs.ShapeView.{widest};
 ghost use Rattle.batch.specs.Places.{HasPlace, place_index};
 ghost use Rattle.batch.specs.Overlap.{IsApart, IsFirstOverlap};
 
@@ -10,7 +10,7 @@ use crate::limits::{MAX_BLOCKS, MAX_MODULES};
 use crate::transfer::Place;
 
 /// How many blocks the widest shape has.
-pub const MAX_PLACES: usize = MAX_MODULES * MAX_BLOCKS;
+pub const MAX_RACK_BLOCKS: usize = MAX_MODULES * MAX_BLOCKS;
 
 impl Batch {
     /// The first two transfers that overlap: both write one block. The first number is as small as
@@ -24,7 +24,7 @@ impl Batch {
         let transfers = self.as_slice();
         // From the last transfer to the first: of each block the next one that writes it, and of
         // the pairs so far the first one.
-        let mut next_writers = [None; MAX_PLACES];
+        let mut next_writers = [None; MAX_RACK_BLOCKS];
         let mut first = None;
         for i in (0..transfers.len()).rev() {
             let index = widest_index(transfers[i].destination());
@@ -41,7 +41,7 @@ impl Batch {
 pub fn widest_index(place: Place) -> usize
     requires { HasPlace widest place }
     ensures value { result ≡ place_index widest place }
-    ensures below { result < MAX_PLACES }
+    ensures below { result < MAX_RACK_BLOCKS }
 {
     place.module * MAX_BLOCKS + place.block
 }

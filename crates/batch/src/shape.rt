@@ -1,5 +1,5 @@
 ghost use Rattle.std.specs.Prelude.{◌≡◌, ◌↔◌, IsOk, IfOk};
-ghost use Rattle.batch.specs.Extent.{extent, IsShape};
+ghost use Rattle.batch.specs.ShapeView.{extent, IsShape};
 
 use crate::fault::ShapeFault;
 use crate::limits::{MAX_BLOCKS, MAX_MODULES, MAX_WORDS};
@@ -16,9 +16,9 @@ pub struct Shape {
 }
 
 impl Model for Shape {
-    ghost use Rattle.batch.specs.Extent.{Extent, extent, IsShape};
+    ghost use Rattle.batch.specs.ShapeView.{ShapeView, extent, IsShape};
 
-    ghost Value = { Extent };
+    ghost Value = { ShapeView };
 
     ghost view = { λ s. extent s.modules s.blocks s.words };
 

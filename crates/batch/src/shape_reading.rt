@@ -1,7 +1,7 @@
 //! The text of a shape.
 
 ghost use Rattle.std.specs.Prelude.{◌≡◌, IfSome, IfNone, IfOk, IfErr};
-ghost use Rattle.batch.specs.Extent.{extent};
+ghost use Rattle.batch.specs.ShapeView.{extent};
 ghost use Rattle.batch.specs.Text.{IsNumber};
 ghost use Rattle.batch.specs.ShapeText.{shape_text, DenotesShape, IsBadShape};
 

@@ -1,14 +1,14 @@
 //! Which blocks a batch writes.
 
 ghost use Rattle.std.specs.Prelude.{◌≡◌, All};
-ghost use Rattle.batch.specs.Extent.{widest};
+ghost use Rattle.batch.specs.ShapeView.{widest};
 ghost use Rattle.batch.specs.Held.{is_written};
 ghost use Rattle.batch.specs.Places.{HasPlace};
 ghost use Rattle.batch.specs.Text.{IsWithin};
 ghost use Rattle.batch.specs.Written.{AreWritten};
 
 use crate::batch::Batch;
-use crate::overlap::{MAX_PLACES, widest_index};
+use crate::overlap::{MAX_RACK_BLOCKS, widest_index};
 use crate::transfer::{Place, Transfer};
 use std::marker::Model;
 
@@ -17,7 +17,7 @@ use std::marker::Model;
 pub struct WrittenBlocks<'a> {
     batch: &'a Batch,
     /// A flag for each block of the widest shape.
-    flags: [bool; MAX_PLACES],
+    flags: [bool; MAX_RACK_BLOCKS],
 }
 
 impl<'a> Model for WrittenBlocks<'a> {
@@ -58,11 +58,11 @@ impl<'a> WrittenBlocks<'a> {
 
 /// A flag for each block of the widest shape, which is up where one of the transfers writes the
 /// block.
-pub(crate) fn flags_of(transfers: &[Transfer]) -> [bool; MAX_PLACES]
+pub(crate) fn flags_of(transfers: &[Transfer]) -> [bool; MAX_RACK_BLOCKS]
     requires { All (IsWithin widest) transfers.now }
     ensures { AreWritten transfers.now result }
 {
-    let mut written = [false; MAX_PLACES];
+    let mut written = [false; MAX_RACK_BLOCKS];
     for transfer in transfers {
         written[widest_index(transfer.destination())] = true;
     }

@@ -7,7 +7,7 @@ use Rattle.std.specs.Map.{lookup}
 use Rattle.batch.specs.declared.limits.TheConstants.{MAX_TRANSFERS, MAX_WORDS}
 use Rattle.batch.specs.declared.transfer.Transfer.{Transfer}
 use Rattle.batch.specs.Equal.{same_transfers}
-use Rattle.batch.specs.Extent.{IsShape}
+use Rattle.batch.specs.ShapeView.{IsShape}
 use Rattle.module_memory.specs.Address.{fault_of}
 use Rattle.module_memory.specs.Store.{Store}
 use Rattle.module_memory.specs.declared.fault.MemoryFault.{MemoryFault}
@@ -15,16 +15,16 @@ use Rattle.schedule_certificate.specs.Plans.{Plan, IsPlan}
 use Rattle.setting_runner.specs.declared.outcome.RunRefusal.TheVariants as run_refusal
 use Rattle.batch_book.specs.declared.limits.TheConstants.{MAX_BATCHES, MAX_NUMBER, RUN_STEP}
 use Rattle.batch_book.specs.declared.entry.Entry.{Entry}
-use Rattle.batch_book.specs.declared.kept.KeptBatch.{KeptBatch}
-use Rattle.batch_book.specs.declared.kept.Stage.{Stage}
-use Rattle.batch_book.specs.declared.kept.Stage.TheVariants as stage
+use Rattle.batch_book.specs.declared.stored_batch.StoredBatch.{StoredBatch}
+use Rattle.batch_book.specs.declared.stored_batch.BatchStage.{BatchStage}
+use Rattle.batch_book.specs.declared.stored_batch.BatchStage.TheVariants as stage
 use Rattle.batch_book.specs.declared.refusal.BookRefusal.TheVariants.{HistoryFull, NoMemory, BookFull, Unknown, Unplanned, Stranger, Already}
 use Rattle.batch_book.specs.declared.reply.Reply.{Reply}
 use Rattle.batch_book.specs.declared.reply.Reply.TheVariants as reply
 use Rattle.batch_book.specs.declared.call.Call.{Call}
 use Rattle.batch_book.specs.declared.call.Call.TheVariants.{Submit, Fetch, Settle, Run, Show, Discard, Peek, Poke}
 use Rattle.batch_book.specs.Machine.{Machine, opened, owned, batch_of, Gives, accept, refuse, fetch, settle_at, settle, show, discard, peek_unless, poke_unless, IsRunOf, IsRunAt, IsRunStep, IsMachineStep}
-use Rattle.batch_book.specs.History.{Account, IsReplay, IsGrown, HasOwnPlan, HaveOwnPlans, IsSound}
+use Rattle.batch_book.specs.History.{BookView, IsReplay, IsGrown, HasOwnPlan, HaveOwnPlans, IsSound}
 use Rattle.batch_book.specs.Replies.{is_logged}
 use Rattle.batch_book.specs.Answering.{IsReplyTo}
 use Rattle.batch_book.specs.Values.{value_of}
@@ -42,11 +42,11 @@ pub record IsAnswer (m : Machine) (call : Call) (r : Reply) : Type 0 where
 
 -- ---- a batch that is found has its own plan
 
-owned_if : (P : KeptBatch → Type 0) (h : KeptBatch) (b : Bool) → P h → IfSome (if b then Some h else None) P
+owned_if : (P : StoredBatch → Type 0) (h : StoredBatch) (b : Bool) → P h → IfSome (if b then Some h else None) P
 owned_if P h true is = is
 owned_if P h false is = tt
 
-owned_keeps : (P : KeptBatch → Type 0) (session : ℕ) (o : Option KeptBatch) → IfSome o P → IfSome (owned session o) P
+owned_keeps : (P : StoredBatch → Type 0) (session : ℕ) (o : Option StoredBatch) → IfSome o P → IfSome (owned session o) P
 owned_keeps P session None is = tt
 owned_keeps P session (Some h) is = owned_if P h (h.owner == session) is
 
@@ -65,29 +65,29 @@ submit_if : (m : Machine) (session : ℕ) (batch : List Transfer) (b : Bool) →
 submit_if m session batch true = quiet m (Submit batch) _ (omega arith) tt
 submit_if m session batch false = quiet m (Submit batch) _ tt tt
 
-fetch_of : (m : Machine) (id : ℕ) (h : Option KeptBatch) → IsAnswer m (Fetch id) (fetch m h).0
+fetch_of : (m : Machine) (id : ℕ) (h : Option StoredBatch) → IsAnswer m (Fetch id) (fetch m h).0
 fetch_of m id None = quiet m (Fetch id) _ tt tt
 fetch_of m id (Some h) = quiet m (Fetch id) _ tt tt
 
-settle_stage : (m : Machine) (id : ℕ) (plan : Plan) (s : Stage) → IsAnswer m (Settle id plan) (settle_at m id plan s).0
+settle_stage : (m : Machine) (id : ℕ) (plan : Plan) (s : BatchStage) → IsAnswer m (Settle id plan) (settle_at m id plan s).0
 settle_stage m id plan stage.Waiting = quiet m (Settle id plan) _ refl tt
 settle_stage m id plan (stage.Planned other) = quiet m (Settle id plan) _ tt tt
 settle_stage m id plan stage.Ran = quiet m (Settle id plan) _ tt tt
 settle_stage m id plan stage.Stopped = quiet m (Settle id plan) _ tt tt
 
-settle_if : (m : Machine) (id : ℕ) (plan : Plan) (s : Stage) (b : Bool) → IsAnswer m (Settle id plan) (if b then settle_at m id plan s else refuse m Stranger).0
+settle_if : (m : Machine) (id : ℕ) (plan : Plan) (s : BatchStage) (b : Bool) → IsAnswer m (Settle id plan) (if b then settle_at m id plan s else refuse m Stranger).0
 settle_if m id plan s true = settle_stage m id plan s
 settle_if m id plan s false = quiet m (Settle id plan) _ tt tt
 
-settle_of : (m : Machine) (id : ℕ) (plan : Plan) (h : Option KeptBatch) → IsAnswer m (Settle id plan) (settle m id plan h).0
+settle_of : (m : Machine) (id : ℕ) (plan : Plan) (h : Option StoredBatch) → IsAnswer m (Settle id plan) (settle m id plan h).0
 settle_of m id plan None = quiet m (Settle id plan) _ tt tt
 settle_of m id plan (Some h) = settle_if m id plan h.stage (same_transfers h.batch plan.batch)
 
-show_of : (m : Machine) (id : ℕ) (h : Option KeptBatch) → IsAnswer m (Show id) (show m h).0
+show_of : (m : Machine) (id : ℕ) (h : Option StoredBatch) → IsAnswer m (Show id) (show m h).0
 show_of m id None = quiet m (Show id) _ tt tt
 show_of m id (Some h) = quiet m (Show id) _ tt tt
 
-discard_of : (m : Machine) (id : ℕ) (h : Option KeptBatch) → IsAnswer m (Discard id) (discard m id h).0
+discard_of : (m : Machine) (id : ℕ) (h : Option StoredBatch) → IsAnswer m (Discard id) (discard m id h).0
 discard_of m id None = quiet m (Discard id) _ tt tt
 discard_of m id (Some h) = quiet m (Discard id) _ tt tt
 
@@ -130,13 +130,13 @@ run_of m id plan (reply.Stopped run setting cause moved) n shape good is =
     quiet m (Run id) _ (record { number = omega arith; few_settings = omega arith }) number
 run_of m id plan r n shape good is = absurd is
 
-run_at : (m : Machine) (id : ℕ) (s : Stage) (r : Reply) (n : Machine) → IsShape m.store.shape → ((plan : Plan) → s ≡ stage.Planned plan → IsPlan plan) → IsRunAt m id s r n → IsAnswer m (Run id) r
+run_at : (m : Machine) (id : ℕ) (s : BatchStage) (r : Reply) (n : Machine) → IsShape m.store.shape → ((plan : Plan) → s ≡ stage.Planned plan → IsPlan plan) → IsRunAt m id s r n → IsAnswer m (Run id) r
 run_at m id stage.Waiting r n shape good is = gives m (Run id) (refuse m Unplanned) r n (quiet m (Run id) _ tt tt) is
 run_at m id (stage.Planned plan) r n shape good is = run_of m id plan r n shape (good plan refl) is
 run_at m id stage.Ran r n shape good is = gives m (Run id) (refuse m Already) r n (quiet m (Run id) _ tt tt) is
 run_at m id stage.Stopped r n shape good is = gives m (Run id) (refuse m Already) r n (quiet m (Run id) _ tt tt) is
 
-run : (m : Machine) (id : ℕ) (h : Option KeptBatch) (r : Reply) (n : Machine) → IsShape m.store.shape → IfSome h HasOwnPlan → IsRunStep m id h r n → IsAnswer m (Run id) r
+run : (m : Machine) (id : ℕ) (h : Option StoredBatch) (r : Reply) (n : Machine) → IsShape m.store.shape → IfSome h HasOwnPlan → IsRunStep m id h r n → IsAnswer m (Run id) r
 run m id None r n shape good is = gives m (Run id) (refuse m Unknown) r n (quiet m (Run id) _ tt tt) is
 run m id (Some h) r n shape good is = run_at m id h.stage r n shape (λ plan staged. (good plan staged).0) is
 
@@ -167,12 +167,12 @@ unlogged c (reply.Refused HistoryFull) is = tt
 unlogged c (reply.Refused NoMemory) is = tt
 unlogged c r is = absurd (cc)
 
-replied_by : (old : Account) (session : ℕ) (c : Call) (r : Reply) (new : Account) (b : Bool) → is_logged r ≡ b → IsSound old.machine → (is_logged r ≡ true → IsGrown old session c r new) → IsReplyTo c r
+replied_by : (old : BookView) (session : ℕ) (c : Call) (r : Reply) (new : BookView) (b : Bool) → is_logged r ≡ b → IsSound old.machine → (is_logged r ≡ true → IsGrown old session c r new) → IsReplyTo c r
 replied_by old session c r new true is sound grown = (answered old.machine session c r new.machine sound (grown is).step).fits
 replied_by old session c r new false is sound grown = unlogged c r is
 
 -- the reply is one of its call's, whether the history has it or not
-pub replied : (old : Account) (session : ℕ) (c : Call) (r : Reply) (new : Account) → IsSound old.machine → (is_logged r ≡ true → IsGrown old session c r new) → IsReplyTo c r
+pub replied : (old : BookView) (session : ℕ) (c : Call) (r : Reply) (new : BookView) → IsSound old.machine → (is_logged r ≡ true → IsGrown old session c r new) → IsReplyTo c r
 replied old session c r new = replied_by old session c r new (is_logged r) refl
 
 -- ---- every machine of a book

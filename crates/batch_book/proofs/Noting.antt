@@ -4,7 +4,7 @@ use Rattle.std.proofs.lemmas.Bool.{or_left, or_right}
 use Rattle.std.proofs.lemmas.Grind.{flat_map-append}
 use Rattle.std.proofs.lemmas.List.Elements.{filter-append}
 use Rattle.crossbar.specs.declared.port.ConfigPort.{Ghosts}
-use Rattle.batch.specs.Extent.{Extent}
+use Rattle.batch.specs.ShapeView.{ShapeView}
 use Rattle.setting_runner.specs.Plants.{LeavesPlant, Scheduled}
 use Rattle.setting_runner.specs.Runs.{TellsOutcome}
 use Rattle.setting_runner.specs.declared.plant.Plant.{Plant}
@@ -14,7 +14,7 @@ use Rattle.batch_book.specs.declared.entry.Entry.{Entry}
 use Rattle.batch_book.specs.declared.reply.Reply.{Reply}
 use Rattle.batch_book.specs.declared.unrecorded.Unrecorded.{Unrecorded}
 use Rattle.batch_book.specs.Answering.{IsReplyTo}
-use Rattle.batch_book.specs.History.{Account, AreUnstopped, IsSound, Starts, entry}
+use Rattle.batch_book.specs.History.{BookView, AreUnstopped, IsSound, IsPrefix, entry}
 use Rattle.batch_book.specs.Places.{LogAgrees, notes_of}
 use Rattle.batch_book.specs.Recording.{Applies, IsAnswered, Noted, asked_by, entry_if, entry_of, has_mark, made_by, made_in, mark, marks, note, noted, marked_in, value_made}
 use Rattle.batch_book.specs.Replies.{NeverFail, is_logged, outcome_in}
@@ -88,16 +88,16 @@ told_front (n ∷ ns) = by (has_mark (n ∷ ns)) refl (told_front ns)
 
 -- ---- what a call adds to the history
 
-grown_if : (old new : Account) (session : ℕ) (c : Call) (r : Reply) (b : Bool) → is_logged r ≡ b → IsAnswered old session c r new → new.history ≡ old.history ++ entry_if b (entry session c r)
+grown_if : (old new : BookView) (session : ℕ) (c : Call) (r : Reply) (b : Bool) → is_logged r ≡ b → IsAnswered old session c r new → new.history ≡ old.history ++ entry_if b (entry session c r)
 grown_if old new session c r true is answered = (answered.grown is).history
-grown_if old new session c r false is answered = ap (λ (a : Account). a.history) (answered.unlogged is) ∙ sym (append-nil old.history)
+grown_if old new session c r false is answered = ap (λ (a : BookView). a.history) (answered.unlogged is) ∙ sym (append-nil old.history)
 
-pub grown_by : (old new : Account) (session place : ℕ) (c : Call) (r : Result Reply Unrecorded) → Applies old session c r new → new.history ≡ old.history ++ made_in (noted session place c r)
+pub grown_by : (old new : BookView) (session place : ℕ) (c : Call) (r : Result Reply Unrecorded) → Applies old session c r new → new.history ≡ old.history ++ made_in (noted session place c r)
 grown_by old new session place c (Ok reply) is =
     grown_if old new session c reply (is_logged reply) refl is ∙ ap (λ (es : List Entry). old.history ++ es) (sym (made_noted_if (is_logged reply) session place c reply))
-grown_by old new session place c (Err lost) is = ap (λ (a : Account). a.history) is.1 ∙ sym (append-nil old.history)
+grown_by old new session place c (Err lost) is = ap (λ (a : BookView). a.history) is.1 ∙ sym (append-nil old.history)
 
-pub kept_more : (earlier : List Entry) (notes : List Noted) (old new : Account) (session place : ℕ) (c : Call) (r : Result Reply Unrecorded)
+pub kept_more : (earlier : List Entry) (notes : List Noted) (old new : BookView) (session place : ℕ) (c : Call) (r : Result Reply Unrecorded)
     → Applies old session c r new → old.history ≡ earlier ++ made_in notes → new.history ≡ earlier ++ made_in (notes ++ noted session place c r)
 kept_more earlier notes old new session place c r is kept =
     grown_by old new session place c r is ∙ (ap (λ (es : List Entry). es ++ made_in (noted session place c r)) kept
@@ -268,17 +268,17 @@ greatest_own session (e ∷ es) = greatest_cond e es (own session es) (greatest_
 
 -- ---- a call of the exchange
 
-pub replied_made : (old new : Account) (session : ℕ) (c : Call) (r : Result Reply Unrecorded) → IsSound old.machine → Applies old session c r new → IfOk r (IsReplyTo c)
+pub replied_made : (old new : BookView) (session : ℕ) (c : Call) (r : Result Reply Unrecorded) → IsSound old.machine → Applies old session c r new → IfOk r (IsReplyTo c)
 replied_made old new session c (Ok reply) sound is = replied old session c reply new sound is.grown
 replied_made old new session c (Err lost) sound is = tt
 
-pub heard_made : {N : Type 0} (watcher : N → WatcherView) (run : N → ℕ) (a b : N) (old new : Account) (session : ℕ) (c : Call) (r : Result Reply Unrecorded)
+pub heard_made : {N : Type 0} (watcher : N → WatcherView) (run : N → ℕ) (a b : N) (old new : BookView) (session : ℕ) (c : Call) (r : Result Reply Unrecorded)
     → IsSound old.machine → run a ≡ old.machine.runs + 1 → Applies old session c r new → TellsOutcome (Hears watcher run) a (outcome_in r) b
     → Reaches (watcher a) (value_made r) (watcher b)
 heard_made watcher run a b old new session c (Ok reply) sound next is h = heard watcher run a b old session c reply new sound next is.grown h
 heard_made watcher run a b old new session c (Err lost) sound next is h = stays (watcher a) (watcher b) (ap watcher h)
 
-pub unheard_made : {N : Type 0} (watcher : N → WatcherView) (run : N → ℕ) (a b : N) (old new : Account) (session : ℕ) (c : Call) (r : Result Reply Unrecorded)
+pub unheard_made : {N : Type 0} (watcher : N → WatcherView) (run : N → ℕ) (a b : N) (old new : BookView) (session : ℕ) (c : Call) (r : Result Reply Unrecorded)
     → IsSound old.machine → Applies old session c r new → TellsOutcome (Hears watcher run) a (outcome_in r) b
     → value_made r ≡ 0 → watcher b ≡ watcher a
 unheard_made watcher run a b old new session c (Ok reply) sound is h none = unheard watcher run a b old session c reply new sound is.grown h none
@@ -298,7 +298,7 @@ asked o p session place parts after broken breaks notes list c r reaches quiet s
 }
 
 -- where the reply can be told at once
-pub asked_all : (old new all : SeatState) (c : Call) (r : Result Reply Unrecorded) → IsAsked old c r new → Starts new.log new.asked → all ≡ record new { log = new.asked } → IsAsked old c r all
+pub asked_all : (old new all : SeatState) (c : Call) (r : Result Reply Unrecorded) → IsAsked old c r new → IsPrefix new.log new.asked → all ≡ record new { log = new.asked } → IsAsked old c r all
 asked_all old new all c r is front same =
     subst (IsAsked old c r) (sym same) record {
       seat = record { exchange = is.seat.exchange; session = is.seat.session; parts = is.seat.parts };
@@ -310,11 +310,11 @@ asked_all old new all c r is front same =
       broken = is.broken;
     }
 
-pub unstopped_made : {P W G : Type 0} (seen : Ghosts P) (sure : W → ℕ → Type 0) (shape : Extent) (ran : Option Scheduled) (plant next : Plant P W G) (old new : Account) (session : ℕ) (c : Call) (r : Result Reply Unrecorded)
+pub unstopped_made : {P W G : Type 0} (seen : Ghosts P) (sure : W → ℕ → Type 0) (shape : ShapeView) (ran : Option Scheduled) (plant next : Plant P W G) (old new : BookView) (session : ℕ) (c : Call) (r : Result Reply Unrecorded)
     → LeavesPlant seen sure shape ran (outcome_in r) plant next → Applies old session c r new → (NeverFail seen sure → AreUnstopped old.history) → NeverFail seen sure → AreUnstopped new.history
 unstopped_made seen sure shape ran plant next old new session c (Ok reply) left is before never = by (is_logged reply) refl
   where
     by : (b : Bool) → is_logged reply ≡ b → AreUnstopped new.history
     by true logged = stay_unstopped seen sure shape ran plant next old session c reply new left (is.grown logged) before never
-    by false logged = subst (λ (a : Account). AreUnstopped a.history) (sym (is.unlogged logged)) (before never)
-unstopped_made seen sure shape ran plant next old new session c (Err lost) left is before never = subst (λ (a : Account). AreUnstopped a.history) (sym is.1) (before never)
+    by false logged = subst (λ (a : BookView). AreUnstopped a.history) (sym (is.unlogged logged)) (before never)
+unstopped_made seen sure shape ran plant next old new session c (Err lost) left is before never = subst (λ (a : BookView). AreUnstopped a.history) (sym is.1) (before never)

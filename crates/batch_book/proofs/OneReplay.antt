@@ -1,7 +1,7 @@
 -- Call and reply give the next machine.
 use Rattle.std.proofs.Common.{[], ◌∷◌, ap, ◌∙◌}
 use Rattle.setting_runner.specs.declared.outcome.RunRefusal.TheVariants as run_refusal
-use Rattle.batch_book.specs.declared.kept.Stage.TheVariants as stage
+use Rattle.batch_book.specs.declared.stored_batch.BatchStage.TheVariants as stage
 use Rattle.batch_book.specs.declared.reply.Reply.TheVariants as reply
 use Rattle.batch_book.specs.Machine.{Machine}
 use Rattle.batch_book.specs.Laws.{ShapeStays}

@@ -11,96 +11,96 @@ use Rattle.module_memory.specs.declared.fault.MemoryFault.{MemoryFault}
 use Rattle.schedule_certificate.specs.Plans.{Plan, IsPlan}
 use Rattle.setting_runner.specs.declared.outcome.RunRefusal.TheVariants as run_refusal
 use Rattle.batch_book.specs.declared.limits.TheConstants.{MAX_BATCHES}
-use Rattle.batch_book.specs.declared.kept.KeptBatch.{KeptBatch}
-use Rattle.batch_book.specs.declared.kept.Stage.{Stage}
-use Rattle.batch_book.specs.declared.kept.Stage.TheVariants as stage
+use Rattle.batch_book.specs.declared.stored_batch.StoredBatch.{StoredBatch}
+use Rattle.batch_book.specs.declared.stored_batch.BatchStage.{BatchStage}
+use Rattle.batch_book.specs.declared.stored_batch.BatchStage.TheVariants as stage
 use Rattle.batch_book.specs.declared.refusal.BookRefusal.TheVariants.{BookFull, Stranger}
 use Rattle.batch_book.specs.declared.reply.Reply.{Reply}
 use Rattle.batch_book.specs.declared.reply.Reply.TheVariants as reply
 use Rattle.batch_book.specs.declared.call.Call.{Call}
 use Rattle.batch_book.specs.declared.call.Call.TheVariants.{Submit, Fetch, Settle, Run, Show, Discard, Peek, Poke}
-use Rattle.batch_book.specs.Machine.{Machine, kept_batch, owned, batch_of, staged, accept, refuse, fetch, settle_at, settle, show, discard, peek_unless, poke_unless, IsRunOf, IsRunAt, IsRunStep, IsMachineStep}
+use Rattle.batch_book.specs.Machine.{Machine, stored_batch, owned, batch_of, staged, accept, refuse, fetch, settle_at, settle, show, discard, peek_unless, poke_unless, IsRunOf, IsRunAt, IsRunStep, IsMachineStep}
 use Rattle.batch_book.specs.History.{HasOwnPlan, HaveOwnPlans}
 use Rattle.batch_book.specs.Laws.{PlansStay}
 
 -- ---- stages
 
-abbrev is_planned : Stage → Bool
+abbrev is_planned : BatchStage → Bool
 is_planned (stage.Planned plan) = true
 is_planned s = false
 
-abbrev plan_or : Plan → Stage → Plan
+abbrev plan_or : Plan → BatchStage → Plan
 plan_or plan (stage.Planned other) = other
 plan_or plan s = plan
 
-unplanned : (s : Stage) (owner : ℕ) (batch : List Transfer) → is_planned s ≡ false → HasOwnPlan (kept_batch owner batch s)
+unplanned : (s : BatchStage) (owner : ℕ) (batch : List Transfer) → is_planned s ≡ false → HasOwnPlan (stored_batch owner batch s)
 unplanned s owner batch none = λ plan is. absurd (false≢true (sym none ∙ ap is_planned is))
 
-planned : (plan : Plan) (owner : ℕ) (batch : List Transfer) → IsPlan plan → plan.batch ≡ batch → HasOwnPlan (kept_batch owner batch (stage.Planned plan))
+planned : (plan : Plan) (owner : ℕ) (batch : List Transfer) → IsPlan plan → plan.batch ≡ batch → HasOwnPlan (stored_batch owner batch (stage.Planned plan))
 planned plan owner batch good same = λ other is. subst (λ (p : Plan). IsPlan p × (p.batch ≡ batch)) (ap (plan_or plan) is) (good, same)
 
 -- ---- entries
 
-abbrev Own : ℕ × KeptBatch → Type 0
+abbrev Own : ℕ × StoredBatch → Type 0
 Own e = HasOwnPlan e.1
 
-set_step : (x : ℕ × KeptBatch) (xs ys : List (ℕ × KeptBatch)) (w : KeptBatch) → HasOwnPlan w → All Own (x ∷ xs) → All Own ys → (b : Bool) → All Own (cond b ((x.0, w) ∷ xs) (x ∷ ys))
+set_step : (x : ℕ × StoredBatch) (xs ys : List (ℕ × StoredBatch)) (w : StoredBatch) → HasOwnPlan w → All Own (x ∷ xs) → All Own ys → (b : Bool) → All Own (cond b ((x.0, w) ∷ xs) (x ∷ ys))
 set_step x xs ys w good all rest true = All-cons Own (x.0, w) xs good (All-tail Own x xs all)
 set_step x xs ys w good all rest false = All-cons Own x ys (All-head Own x xs all) rest
 
-own_set : (k : ℕ → Bool) (es : List (ℕ × KeptBatch)) (w : KeptBatch) → HasOwnPlan w → All Own es → All Own (set_value k es w)
+own_set : (k : ℕ → Bool) (es : List (ℕ × StoredBatch)) (w : StoredBatch) → HasOwnPlan w → All Own es → All Own (set_value k es w)
 own_set k [] w good all = all
 own_set k (x ∷ xs) w good all = set_step x xs (set_value k xs w) w good all (own_set k xs w good (All-tail Own x xs all)) (k x.0)
 
-removed_step : (x : ℕ × KeptBatch) (xs ys : List (ℕ × KeptBatch)) → All Own (x ∷ xs) → All Own ys → (b : Bool) → All Own (cond b xs (x ∷ ys))
+removed_step : (x : ℕ × StoredBatch) (xs ys : List (ℕ × StoredBatch)) → All Own (x ∷ xs) → All Own ys → (b : Bool) → All Own (cond b xs (x ∷ ys))
 removed_step x xs ys all rest true = All-tail Own x xs all
 removed_step x xs ys all rest false = All-cons Own x ys (All-head Own x xs all) rest
 
-own_removed : (k : ℕ → Bool) (es : List (ℕ × KeptBatch)) → All Own es → All Own (remove_entry k es)
+own_removed : (k : ℕ → Bool) (es : List (ℕ × StoredBatch)) → All Own es → All Own (remove_entry k es)
 own_removed k [] all = all
 own_removed k (x ∷ xs) all = removed_step x xs (remove_entry k xs) all (own_removed k xs (All-tail Own x xs all)) (k x.0)
 
-own_staged : (id : ℕ) (s : Stage) (es : List (ℕ × KeptBatch)) (h : Option KeptBatch) → is_planned s ≡ false → All Own es → All Own (staged id s es h)
+own_staged : (id : ℕ) (s : BatchStage) (es : List (ℕ × StoredBatch)) (h : Option StoredBatch) → is_planned s ≡ false → All Own es → All Own (staged id s es h)
 own_staged id s es None none all = all
-own_staged id s es (Some h) none all = own_set (nat_eq id) es (kept_batch h.owner h.batch s) (unplanned s h.owner h.batch none) all
+own_staged id s es (Some h) none all = own_set (nat_eq id) es (stored_batch h.owner h.batch s) (unplanned s h.owner h.batch none) all
 
 -- ---- steps
 
-settled_at : (m : Machine) (id : ℕ) (plan : Plan) (h : KeptBatch) (s : Stage) → lookup (nat_eq id) m.batches ≡ Some h → IsPlan plan → h.batch ≡ plan.batch → HaveOwnPlans m → HaveOwnPlans (settle_at m id plan s).1
+settled_at : (m : Machine) (id : ℕ) (plan : Plan) (h : StoredBatch) (s : BatchStage) → lookup (nat_eq id) m.batches ≡ Some h → IsPlan plan → h.batch ≡ plan.batch → HaveOwnPlans m → HaveOwnPlans (settle_at m id plan s).1
 settled_at m id plan h stage.Waiting found good same all =
-    subst (λ (o : Option KeptBatch). All Own (staged id (stage.Planned plan) m.batches o)) (sym found)
-    (own_set (nat_eq id) m.batches (kept_batch h.owner h.batch (stage.Planned plan)) (planned plan h.owner h.batch good (sym same)) all)
+    subst (λ (o : Option StoredBatch). All Own (staged id (stage.Planned plan) m.batches o)) (sym found)
+    (own_set (nat_eq id) m.batches (stored_batch h.owner h.batch (stage.Planned plan)) (planned plan h.owner h.batch good (sym same)) all)
 settled_at m id plan h (stage.Planned other) found good same all = all
 settled_at m id plan h stage.Ran found good same all = all
 settled_at m id plan h stage.Stopped found good same all = all
 
-settled_if : (m : Machine) (id : ℕ) (plan : Plan) (h : KeptBatch) (b : Bool) → same_transfers h.batch plan.batch ≡ b → lookup (nat_eq id) m.batches ≡ Some h → IsPlan plan → HaveOwnPlans m
+settled_if : (m : Machine) (id : ℕ) (plan : Plan) (h : StoredBatch) (b : Bool) → same_transfers h.batch plan.batch ≡ b → lookup (nat_eq id) m.batches ≡ Some h → IsPlan plan → HaveOwnPlans m
     → HaveOwnPlans (if b then settle_at m id plan h.stage else refuse m Stranger).1
 settled_if m id plan h true same found good all = settled_at m id plan h h.stage found good ((same_transfers-Decides h.batch plan.batch).0 same) all
 settled_if m id plan h false same found good all = all
 
-settled_by : (m : Machine) (id : ℕ) (plan : Plan) (h : KeptBatch) (b : Bool) → lookup (nat_eq id) m.batches ≡ Some h → IsPlan plan → HaveOwnPlans m
+settled_by : (m : Machine) (id : ℕ) (plan : Plan) (h : StoredBatch) (b : Bool) → lookup (nat_eq id) m.batches ≡ Some h → IsPlan plan → HaveOwnPlans m
     → HaveOwnPlans (settle m id plan (if b then Some h else None)).1
 settled_by m id plan h true found good all = settled_if m id plan h (same_transfers h.batch plan.batch) refl found good all
 settled_by m id plan h false found good all = all
 
-settled : (m : Machine) (session id : ℕ) (plan : Plan) (o : Option KeptBatch) → lookup (nat_eq id) m.batches ≡ o → IsPlan plan → HaveOwnPlans m → HaveOwnPlans (settle m id plan (owned session o)).1
+settled : (m : Machine) (session id : ℕ) (plan : Plan) (o : Option StoredBatch) → lookup (nat_eq id) m.batches ≡ o → IsPlan plan → HaveOwnPlans m → HaveOwnPlans (settle m id plan (owned session o)).1
 settled m session id plan None found good all = all
 settled m session id plan (Some h) found good all = settled_by m id plan h (h.owner == session) found good all
 
 submitted : (m : Machine) (session : ℕ) (batch : List Transfer) (b : Bool) → HaveOwnPlans m → HaveOwnPlans (if b then accept m session batch else refuse m BookFull).1
-submitted m session batch true all = All-push Own m.batches (m.given + 1, kept_batch session batch stage.Waiting) all (unplanned stage.Waiting session batch refl)
+submitted m session batch true all = All-push Own m.batches (m.given + 1, stored_batch session batch stage.Waiting) all (unplanned stage.Waiting session batch refl)
 submitted m session batch false all = all
 
-fetched : (m : Machine) (h : Option KeptBatch) → HaveOwnPlans m → HaveOwnPlans (fetch m h).1
+fetched : (m : Machine) (h : Option StoredBatch) → HaveOwnPlans m → HaveOwnPlans (fetch m h).1
 fetched m None all = all
 fetched m (Some h) all = all
 
-shown : (m : Machine) (h : Option KeptBatch) → HaveOwnPlans m → HaveOwnPlans (show m h).1
+shown : (m : Machine) (h : Option StoredBatch) → HaveOwnPlans m → HaveOwnPlans (show m h).1
 shown m None all = all
 shown m (Some h) all = all
 
-discarded : (m : Machine) (id : ℕ) (h : Option KeptBatch) → HaveOwnPlans m → HaveOwnPlans (discard m id h).1
+discarded : (m : Machine) (id : ℕ) (h : Option StoredBatch) → HaveOwnPlans m → HaveOwnPlans (discard m id h).1
 discarded m id None all = all
 discarded m id (Some h) all = own_removed (nat_eq id) m.batches all
 
@@ -122,13 +122,13 @@ run_of m id plan (reply.Ran run settings words) n all is = behind n _ is.2 (own_
 run_of m id plan (reply.Stopped run setting cause moved) n all is = behind n _ is.2 (own_staged id stage.Stopped m.batches (lookup (nat_eq id) m.batches) refl all)
 run_of m id plan r n all is = absurd is
 
-run_at : (m : Machine) (id : ℕ) (s : Stage) (r : Reply) (n : Machine) → HaveOwnPlans m → IsRunAt m id s r n → HaveOwnPlans n
+run_at : (m : Machine) (id : ℕ) (s : BatchStage) (r : Reply) (n : Machine) → HaveOwnPlans m → IsRunAt m id s r n → HaveOwnPlans n
 run_at m id stage.Waiting r n all is = behind n _ is.1 all
 run_at m id (stage.Planned plan) r n all is = run_of m id plan r n all is
 run_at m id stage.Ran r n all is = behind n _ is.1 all
 run_at m id stage.Stopped r n all is = behind n _ is.1 all
 
-run : (m : Machine) (id : ℕ) (h : Option KeptBatch) (r : Reply) (n : Machine) → HaveOwnPlans m → IsRunStep m id h r n → HaveOwnPlans n
+run : (m : Machine) (id : ℕ) (h : Option StoredBatch) (r : Reply) (n : Machine) → HaveOwnPlans m → IsRunStep m id h r n → HaveOwnPlans n
 run m id None r n all is = behind n _ is.1 all
 run m id (Some h) r n all is = run_at m id h.stage r n all is
 

@@ -2,7 +2,7 @@
 use Rattle.std.proofs.Common.{◌≡◌, ◌+◌, ℕ, List, Option, Some, Result, Ok, Err, IfOk, refl, sym, ap, ◌∙◌, subst}
 use Rattle.std.specs.Prelude.{◌↔◌}
 use Rattle.std.proofs.lemmas.Bool.{false≢true}
-use Rattle.batch.specs.Extent.{Extent}
+use Rattle.batch.specs.ShapeView.{ShapeView}
 use Rattle.batch.specs.declared.transfer.Transfer.{Transfer}
 use Rattle.batch.specs.Overlap.{IsApart, IsFirstOverlap}
 use Rattle.module_memory.specs.Store.{Store}
@@ -17,15 +17,15 @@ use Rattle.setting_runner.specs.declared.plant.Plant.{Plant}
 use Rattle.setting_runner.specs.declared.outcome.RunRefusal.TheVariants as run_refusal
 use Rattle.batch_book.specs.declared.reply.Reply.{Reply}
 use Rattle.batch_book.specs.declared.reply.Reply.TheVariants as reply
-use Rattle.batch_book.specs.declared.kept.KeptBatch.{KeptBatch}
-use Rattle.batch_book.specs.declared.kept.Stage.{Stage}
-use Rattle.batch_book.specs.declared.kept.Stage.TheVariants as stage
-use Rattle.batch_book.specs.Holdings.{EndsRun}
+use Rattle.batch_book.specs.declared.stored_batch.StoredBatch.{StoredBatch}
+use Rattle.batch_book.specs.declared.stored_batch.BatchStage.{BatchStage}
+use Rattle.batch_book.specs.declared.stored_batch.BatchStage.TheVariants as stage
+use Rattle.batch_book.specs.BatchStore.{EndsRun}
 use Rattle.batch_book.specs.Replies.{outcome_in}
 use Rattle.batch_book.specs.Machine.{Machine, HasBegun, batch_of, IsRunStep, IsRunAt, IsRunOf}
 
 -- what the contract of a run says of refusals
-pub record AreRefusals (extent : Extent) (batch : List Transfer) (o : Outcome) : Type 0 where
+pub record AreRefusals (extent : ShapeView) (batch : List Transfer) (o : Outcome) : Type 0 where
   pub overlap : (i j : ℕ) → (o ≡ outcome.Refused (run_refusal.Overlap i j)) ↔ IsFirstOverlap batch i j
   pub shape : (o ≡ outcome.Refused run_refusal.Shape) ↔ (IsApart batch × IsMisfit extent batch)
   pub free : (IsRefusedRun o → ⊥) → CanMove extent batch
@@ -74,7 +74,7 @@ as_told P m id (outcome.Refused run_refusal.NoMemory) (Err e) next any is holds 
 -- ---- the plant
 
 -- it makes no difference to the plant why a run was refused
-pub refused_so : {P W G : Type 0} (seen : Ghosts P) (sure : W → ℕ → Type 0) (shape : Extent) (ran : Option Scheduled) (old new : Plant P W G) (why other : RunRefusal)
+pub refused_so : {P W G : Type 0} (seen : Ghosts P) (sure : W → ℕ → Type 0) (shape : ShapeView) (ran : Option Scheduled) (old new : Plant P W G) (why other : RunRefusal)
     → LeavesPlant seen sure shape ran (outcome.Refused why) old new → LeavesPlant seen sure shape ran (outcome.Refused other) old new
 refused_so seen sure shape ran old new why other is =
     record { cause = is.cause; switches = is.switches; traffic = is.traffic; refused = is.refused; uncalled = is.uncalled; others = is.others; counted = is.counted; honesty = is.honesty }
@@ -82,9 +82,9 @@ refused_so seen sure shape ran old new why other is =
 -- ---- the step of a run
 
 -- the run of a batch that is held and planned
-pub ran_step : {E : Type 0} (m : Machine) (session id : ℕ) (h : KeptBatch) (plan : Plan) (r : Result Reply E) (next : Machine)
+pub ran_step : {E : Type 0} (m : Machine) (session id : ℕ) (h : StoredBatch) (plan : Plan) (r : Result Reply E) (next : Machine)
     → batch_of m session id ≡ Some h → h.stage ≡ stage.Planned plan → IfOk r (λ reply. IsRunOf m id plan reply next)
     → IfOk r (λ reply. IsRunStep m id (batch_of m session id) reply next)
 ran_step m session id h plan r next own staged step =
-    subst (λ (x : Option KeptBatch). IfOk r (λ reply. IsRunStep m id x reply next)) (sym own)
-    (subst (λ (x : Stage). IfOk r (λ reply. IsRunAt m id x reply next)) (sym staged) step)
+    subst (λ (x : Option StoredBatch). IfOk r (λ reply. IsRunStep m id x reply next)) (sym own)
+    (subst (λ (x : BatchStage). IfOk r (λ reply. IsRunAt m id x reply next)) (sym staged) step)

@@ -8,7 +8,7 @@ use Rattle.batch_book.specs.declared.entry.Entry.{Entry}
 use Rattle.batch_book.specs.declared.reply.Reply.{Reply}
 use Rattle.batch_book.specs.declared.reply.Reply.TheVariants.{Ran, Stopped}
 use Rattle.batch_book.specs.declared.call.Call.{Call}
-use Rattle.batch_book.specs.History.{Account, IsGrown, IsSound}
+use Rattle.batch_book.specs.History.{BookView, IsGrown, IsSound}
 use Rattle.batch_book.specs.Replies.{is_logged, outcome_of}
 use Rattle.batch_book.specs.Seats.{SeatState, Reaches}
 use Rattle.batch_book.specs.Values.{value_at, value_of, greatest}
@@ -53,7 +53,7 @@ numbered : (a b : WatcherView) (run number k : ℕ) → number ≡ run → Reach
 numbered a b run number k is h = subst (λ n. Reaches a (value_at n k) b) (sym is) h
 
 -- after a call the word was raised from the watcher to the reply's value
-pub heard : {N : Type 0} (watcher : N → WatcherView) (run : N → ℕ) (a b : N) (old : Account) (session : ℕ) (c : Call) (r : Reply) (new : Account)
+pub heard : {N : Type 0} (watcher : N → WatcherView) (run : N → ℕ) (a b : N) (old : BookView) (session : ℕ) (c : Call) (r : Reply) (new : BookView)
     → IsSound old.machine → run a ≡ old.machine.runs + 1 → (is_logged r ≡ true → IsGrown old session c r new) → TellsOutcome (Hears watcher run) a (outcome_of r) b
     → Reaches (watcher a) (value_of r) (watcher b)
 heard watcher run a b old session c (Ran number settings words) new sound next grown h =
@@ -64,7 +64,7 @@ heard watcher run a b old session c r new sound next grown h = stays (watcher a)
 
 -- where the reply tells of no run, the watcher is as it was: a run's number isn't 0, nor is its
 -- value
-pub unheard : {N : Type 0} (watcher : N → WatcherView) (run : N → ℕ) (a b : N) (old : Account) (session : ℕ) (c : Call) (r : Reply) (new : Account)
+pub unheard : {N : Type 0} (watcher : N → WatcherView) (run : N → ℕ) (a b : N) (old : BookView) (session : ℕ) (c : Call) (r : Reply) (new : BookView)
     → IsSound old.machine → (is_logged r ≡ true → IsGrown old session c r new) → TellsOutcome (Hears watcher run) a (outcome_of r) b
     → value_of r ≡ 0 → watcher b ≡ watcher a
 unheard watcher run a b old session c (Ran number settings words) new sound grown h none =

@@ -7,9 +7,9 @@ use Rattle.module_memory.specs.declared.fault.MemoryFault.{MemoryFault}
 use Rattle.schedule_certificate.specs.Plans.{Plan}
 use Rattle.setting_runner.specs.declared.outcome.RunRefusal.TheVariants as run_refusal
 use Rattle.batch_book.specs.declared.limits.TheConstants.{MAX_BATCHES}
-use Rattle.batch_book.specs.declared.kept.KeptBatch.{KeptBatch}
-use Rattle.batch_book.specs.declared.kept.Stage.{Stage}
-use Rattle.batch_book.specs.declared.kept.Stage.TheVariants as stage
+use Rattle.batch_book.specs.declared.stored_batch.StoredBatch.{StoredBatch}
+use Rattle.batch_book.specs.declared.stored_batch.BatchStage.{BatchStage}
+use Rattle.batch_book.specs.declared.stored_batch.BatchStage.TheVariants as stage
 use Rattle.batch_book.specs.declared.refusal.BookRefusal.TheVariants.{BookFull, Unknown, Unplanned, Stranger, Already}
 use Rattle.batch_book.specs.declared.reply.Reply.{Reply}
 use Rattle.batch_book.specs.declared.reply.Reply.TheVariants as reply
@@ -58,29 +58,29 @@ submit_if m session batch false = stays m _ m refl refl
 small_submit : (m : Machine) (session : ℕ) (batch : List Transfer) → IsSmallAnswer m (submit m session batch)
 small_submit m session batch = submit_if m session batch (nat_lt (length m.batches) MAX_BATCHES)
 
-small_fetch : (m : Machine) (h : Option KeptBatch) → IsSmallAnswer m (fetch m h)
+small_fetch : (m : Machine) (h : Option StoredBatch) → IsSmallAnswer m (fetch m h)
 small_fetch m None = stays m _ m refl refl
 small_fetch m (Some h) = stays m _ m refl refl
 
-small_settle_at : (m : Machine) (id : ℕ) (plan : Plan) (s : Stage) → IsSmallAnswer m (settle_at m id plan s)
+small_settle_at : (m : Machine) (id : ℕ) (plan : Plan) (s : BatchStage) → IsSmallAnswer m (settle_at m id plan s)
 small_settle_at m id plan stage.Waiting = moves m _ _ refl (omega arith) (omega arith) refl refl
 small_settle_at m id plan (stage.Planned other) = stays m _ m refl refl
 small_settle_at m id plan stage.Ran = stays m _ m refl refl
 small_settle_at m id plan stage.Stopped = stays m _ m refl refl
 
-settle_if : (m : Machine) (id : ℕ) (plan : Plan) (s : Stage) (b : Bool) → IsSmallAnswer m (if b then settle_at m id plan s else refuse m Stranger)
+settle_if : (m : Machine) (id : ℕ) (plan : Plan) (s : BatchStage) (b : Bool) → IsSmallAnswer m (if b then settle_at m id plan s else refuse m Stranger)
 settle_if m id plan s true = small_settle_at m id plan s
 settle_if m id plan s false = stays m _ m refl refl
 
-small_settle : (m : Machine) (id : ℕ) (plan : Plan) (h : Option KeptBatch) → IsSmallAnswer m (settle m id plan h)
+small_settle : (m : Machine) (id : ℕ) (plan : Plan) (h : Option StoredBatch) → IsSmallAnswer m (settle m id plan h)
 small_settle m id plan None = stays m _ m refl refl
 small_settle m id plan (Some h) = settle_if m id plan h.stage (same_transfers h.batch plan.batch)
 
-small_show : (m : Machine) (h : Option KeptBatch) → IsSmallAnswer m (show m h)
+small_show : (m : Machine) (h : Option StoredBatch) → IsSmallAnswer m (show m h)
 small_show m None = stays m _ m refl refl
 small_show m (Some h) = stays m _ m refl refl
 
-small_discard : (m : Machine) (id : ℕ) (h : Option KeptBatch) → IsSmallAnswer m (discard m id h)
+small_discard : (m : Machine) (id : ℕ) (h : Option StoredBatch) → IsSmallAnswer m (discard m id h)
 small_discard m id None = stays m _ m refl refl
 small_discard m id (Some h) = moves m _ _ refl (omega arith) (omega arith) refl refl
 
@@ -105,13 +105,13 @@ small_run_of m id plan (reply.Stopped run setting cause moved) n is =
     moves m _ n refl (omega arith) (omega arith) is.1.store.same_shape is.1.store.same_length
 small_run_of m id plan r n is = absurd is
 
-small_run_at : (m : Machine) (id : ℕ) (s : Stage) (r : Reply) (n : Machine) → IsRunAt m id s r n → IsSmall m r n
+small_run_at : (m : Machine) (id : ℕ) (s : BatchStage) (r : Reply) (n : Machine) → IsRunAt m id s r n → IsSmall m r n
 small_run_at m id stage.Waiting r n is = gives m (refuse m Unplanned) r n (stays m _ m refl refl) is
 small_run_at m id (stage.Planned plan) r n is = small_run_of m id plan r n is
 small_run_at m id stage.Ran r n is = gives m (refuse m Already) r n (stays m _ m refl refl) is
 small_run_at m id stage.Stopped r n is = gives m (refuse m Already) r n (stays m _ m refl refl) is
 
-small_run : (m : Machine) (id : ℕ) (h : Option KeptBatch) (r : Reply) (n : Machine) → IsRunStep m id h r n → IsSmall m r n
+small_run : (m : Machine) (id : ℕ) (h : Option StoredBatch) (r : Reply) (n : Machine) → IsRunStep m id h r n → IsSmall m r n
 small_run m id None r n is = gives m (refuse m Unknown) r n (stays m _ m refl refl) is
 small_run m id (Some h) r n is = small_run_at m id h.stage r n is
 

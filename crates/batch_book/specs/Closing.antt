@@ -8,7 +8,7 @@ use Rattle.batch_book.specs.declared.close.SeatMissing.{SeatMissing}
 use Rattle.batch_book.specs.declared.entry.Entry.{Entry}
 use Rattle.batch_book.specs.Seats.{SeatState, parts_of, entries_of, AskedAgrees, IsRecorded}
 use Rattle.batch_book.specs.Exchanges.{Exchange}
-use Rattle.batch_book.specs.History.{Account, AreUnstopped}
+use Rattle.batch_book.specs.History.{BookView, AreUnstopped}
 use Rattle.batch_book.specs.Replies.{NeverFail}
 use Rattle.batch_book.specs.Values.{greatest}
 
@@ -19,19 +19,19 @@ use Rattle.batch_book.specs.Values.{greatest}
 -- the history. Where port and wires never fail, no run of it stopped. Unless an entry was lost all
 -- stand where they belong.
 pub record AreClosed {P W : Type 0} (seen : Ghosts P) (sure : W → ℕ → Type 0) (opening : Store)
-    (earlier : List Entry) (seats : List SeatState) (book : Account) : Type 0 where
+    (earlier : List Entry) (seats : List SeatState) (book : BookView) : Type 0 where
   pub made : List Entry
   pub standing : List Entry
   pub all_parts : parts_of seats ≡ ALL_PARTS
   pub opened : book.opening ≡ opening
   pub are : book.history ≡ earlier ++ made
-  pub stand : book.stands ≡ earlier ++ standing
+  pub stand : book.durable ≡ earlier ++ standing
   pub asked : All (AskedAgrees made) seats
   pub recorded : All (IsRecorded standing) seats
   pub counted : length made ≡ entries_of seats
   pub none_ahead : All (λ s. s.seen ≤ greatest book.history) seats
   pub unstopped : NeverFail seen sure → AreUnstopped book.history
-  pub all : book.whole ≡ true → book.stands ≡ book.history
+  pub all : book.whole ≡ true → book.durable ≡ book.history
 
 -- A seat is missing just where the seats hold fewer than all parts; then nothing has changed. Else
 -- the exchange is closed. `Line` are the wires that a `W` makes, `E` and `Q` what an `H` parts into.

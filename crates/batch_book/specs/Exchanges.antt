@@ -3,13 +3,13 @@ use Rattle.std.specs.Prelude.{◌≡◌, ℕ, ◌+◌, ◌-◌, ◌<◌, ◌==�
 use Rattle.std.specs.Coded.{Coded, code_by, coded×, coded_ℕ}
 use Rattle.atomic_table.specs.Seated.{TableId, table_id_coded}
 use Rattle.progress_word.specs.declared.limits.TheConstants.{ALL_PARTS}
-use Rattle.batch.specs.Extent.{Extent, extent}
+use Rattle.batch.specs.ShapeView.{ShapeView, extent}
 use Rattle.batch_book.specs.Seats.{SeatState, parts_of}
 
 -- which exchange it is, by its progress word, and the shape of its rack
 pub record Exchange : Type 0 where
   pub word : TableId
-  pub shape : Extent
+  pub shape : ShapeView
 
 abbrev pub exchange_coded : Coded Exchange
 exchange_coded =

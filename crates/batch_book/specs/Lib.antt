@@ -1,7 +1,7 @@
 pub mod Replies
 pub mod Machine
 pub mod Running
-pub mod Holdings
+pub mod BatchStore
 pub mod History
 pub mod Past
 pub mod Recording

@@ -19,16 +19,16 @@ use Rattle.batch_book.specs.declared.reply.Reply.{Reply}
 use Rattle.batch_book.specs.declared.reply.Reply.TheVariants.{Accepted, Fetched, Settled, Ran, Stopped, RunRefused, Shown, Discarded, Word, Poked, Refused}
 use Rattle.batch_book.specs.declared.refusal.BookRefusal.{BookRefusal}
 use Rattle.batch_book.specs.declared.refusal.BookRefusal.TheVariants.{BookFull, Unknown, Unplanned, Stranger, Already, Memory}
-use Rattle.batch_book.specs.declared.kept.BatchState.{BatchState}
-use Rattle.batch_book.specs.declared.kept.BatchState.TheVariants as state
-use Rattle.batch_book.specs.declared.kept.Stage.{Stage}
-use Rattle.batch_book.specs.declared.kept.Stage.TheVariants as stage
-use Rattle.batch_book.specs.declared.kept.KeptBatch.{KeptBatch}
+use Rattle.batch_book.specs.declared.stored_batch.BatchState.{BatchState}
+use Rattle.batch_book.specs.declared.stored_batch.BatchState.TheVariants as state
+use Rattle.batch_book.specs.declared.stored_batch.BatchStage.{BatchStage}
+use Rattle.batch_book.specs.declared.stored_batch.BatchStage.TheVariants as stage
+use Rattle.batch_book.specs.declared.stored_batch.StoredBatch.{StoredBatch}
 
 -- the batches that are kept with their numbers, in order of acceptance; how many numbers batches
 -- and runs were given so far; and the words
 pub record Machine : Type 0 where
-  pub batches : List (ℕ × KeptBatch)
+  pub batches : List (ℕ × StoredBatch)
   pub given : ℕ
   pub runs : ℕ
   pub store : Store
@@ -39,32 +39,32 @@ opened store = record { batches = []; given = 0; runs = 0; store = store }
 
 -- ---- what is kept
 
-abbrev pub kept_batch : ℕ → List Transfer → Stage → KeptBatch
-kept_batch owner batch stage = record { owner = owner; batch = batch; stage = stage }
+abbrev pub stored_batch : ℕ → List Transfer → BatchStage → StoredBatch
+stored_batch owner batch stage = record { owner = owner; batch = batch; stage = stage }
 
 -- what is kept, where this session has it
-abbrev pub owned : ℕ → Option KeptBatch → Option KeptBatch
+abbrev pub owned : ℕ → Option StoredBatch → Option StoredBatch
 owned session None = None
 owned session (Some h) = if h.owner == session then Some h else None
 
 -- the session's batch of this number
-abbrev pub batch_of : Machine → ℕ → ℕ → Option KeptBatch
+abbrev pub batch_of : Machine → ℕ → ℕ → Option StoredBatch
 batch_of m session id = owned session (lookup (nat_eq id) m.batches)
 
 -- the stage without its plan
-abbrev pub state_of : Stage → BatchState
+abbrev pub state_of : BatchStage → BatchState
 state_of stage.Waiting = state.Waiting
 state_of (stage.Planned plan) = state.Planned
 state_of stage.Ran = state.Ran
 state_of stage.Stopped = state.Stopped
 
 -- the batches, of which the one that was found under a number is at another stage
-abbrev pub staged : ℕ → Stage → List (ℕ × KeptBatch) → Option KeptBatch → List (ℕ × KeptBatch)
+abbrev pub staged : ℕ → BatchStage → List (ℕ × StoredBatch) → Option StoredBatch → List (ℕ × StoredBatch)
 staged id s batches None = batches
-staged id s batches (Some h) = set_value (nat_eq id) batches (kept_batch h.owner h.batch s)
+staged id s batches (Some h) = set_value (nat_eq id) batches (stored_batch h.owner h.batch s)
 
 -- the batches, of which the one of this number is at another stage
-abbrev pub set_stage : ℕ → Stage → List (ℕ × KeptBatch) → List (ℕ × KeptBatch)
+abbrev pub set_stage : ℕ → BatchStage → List (ℕ × StoredBatch) → List (ℕ × StoredBatch)
 set_stage id s batches = staged id s batches (lookup (nat_eq id) batches)
 
 -- ---- the refusals of each call, in the order in which they are tested
@@ -91,7 +91,7 @@ abbrev pub accept : Machine → ℕ → List Transfer → Reply × Machine
 accept m session batch = (
   Accepted (m.given + 1),
   record m {
-    batches = m.batches ++ (m.given + 1, kept_batch session batch stage.Waiting) ∷ [];
+    batches = m.batches ++ (m.given + 1, stored_batch session batch stage.Waiting) ∷ [];
     given = m.given + 1;
   },
 )
@@ -100,27 +100,27 @@ abbrev pub submit : Machine → ℕ → List Transfer → Reply × Machine
 submit m session batch =
     if nat_lt (length m.batches) MAX_BATCHES then accept m session batch else refuse m BookFull
 
-abbrev pub fetch : Machine → Option KeptBatch → Reply × Machine
+abbrev pub fetch : Machine → Option StoredBatch → Reply × Machine
 fetch m None = refuse m Unknown
 fetch m (Some h) = (Fetched h.batch, m)
 
-abbrev pub settle_at : Machine → ℕ → Plan → Stage → Reply × Machine
+abbrev pub settle_at : Machine → ℕ → Plan → BatchStage → Reply × Machine
 settle_at m id plan stage.Waiting = (
   Settled (length plan.settings),
   record m { batches = set_stage id (stage.Planned plan) m.batches },
 )
 settle_at m id plan s = refuse m Already
 
-abbrev pub settle : Machine → ℕ → Plan → Option KeptBatch → Reply × Machine
+abbrev pub settle : Machine → ℕ → Plan → Option StoredBatch → Reply × Machine
 settle m id plan None = refuse m Unknown
 settle m id plan (Some h) =
     if same_transfers h.batch plan.batch then settle_at m id plan h.stage else refuse m Stranger
 
-abbrev pub show : Machine → Option KeptBatch → Reply × Machine
+abbrev pub show : Machine → Option StoredBatch → Reply × Machine
 show m None = refuse m Unknown
 show m (Some h) = (Shown (length h.batch) (state_of h.stage), m)
 
-abbrev pub discard : Machine → ℕ → Option KeptBatch → Reply × Machine
+abbrev pub discard : Machine → ℕ → Option StoredBatch → Reply × Machine
 discard m id None = refuse m Unknown
 discard m id (Some h) = (Discarded, record m { batches = remove_entry (nat_eq id) m.batches })
 
@@ -143,7 +143,7 @@ poke m «module» address word =
 -- ---- runs
 
 -- what a run leaves that began: its batch is at this stage, and these are the words
-abbrev pub run_to : Machine → ℕ → Stage → Store → Machine
+abbrev pub run_to : Machine → ℕ → BatchStage → Store → Machine
 run_to m id s store =
     record { batches = set_stage id s m.batches; given = m.given; runs = m.runs + 1; store = store }
 
@@ -167,12 +167,12 @@ IsRunOf m id plan (Stopped run setting cause moved) next =
     × (next ≡ run_to m id stage.Stopped next.store)
 IsRunOf m id plan reply next = ⊥
 
-abbrev pub IsRunAt : Machine → ℕ → Stage → Reply → Machine → Type 0
+abbrev pub IsRunAt : Machine → ℕ → BatchStage → Reply → Machine → Type 0
 IsRunAt m id stage.Waiting reply next = Gives (refuse m Unplanned) reply next
 IsRunAt m id (stage.Planned plan) reply next = IsRunOf m id plan reply next
 IsRunAt m id s reply next = Gives (refuse m Already) reply next
 
-abbrev pub IsRunStep : Machine → ℕ → Option KeptBatch → Reply → Machine → Type 0
+abbrev pub IsRunStep : Machine → ℕ → Option StoredBatch → Reply → Machine → Type 0
 IsRunStep m id None reply next = Gives (refuse m Unknown) reply next
 IsRunStep m id (Some h) reply next = IsRunAt m id h.stage reply next
 

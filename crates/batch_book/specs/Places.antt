@@ -1,8 +1,8 @@
 -- The places of entries, where what waits and the record have locks of their own.
 use Rattle.std.specs.Prelude.{◌≡◌, ℕ, ◌+◌, Bool, true, ◌&&◌, if◌then◌else◌, nat_eq, nat_le, List, [], ◌∷◌, filter, take, Option, Some, None, is_none}
-use Rattle.own_lists.specs.Lists.{own_of}
+use Rattle.session_lists.specs.Lists.{own_of}
 use Rattle.batch_book.specs.declared.entry.Entry.{Entry}
-use Rattle.batch_book.specs.History.{Starts}
+use Rattle.batch_book.specs.History.{IsPrefix}
 use Rattle.batch_book.specs.Recording.{Noted, made_in, marked_in}
 use Rattle.batch_book.specs.Seats.{SeatState, own}
 
@@ -44,7 +44,7 @@ last_place before (n ∷ ns) = last_place (if is_none n.lists then before else n
 abbrev pub AreMarkedUpTo : ℕ → List Noted → Type 0
 AreMarkedUpTo front notes =
     (session : ℕ)
-    → Starts (marked_in (notes_of session notes)) (own session (take front (made_in notes)))
+    → IsPrefix (marked_in (notes_of session notes)) (own session (take front (made_in notes)))
 
 -- what could be told to a seat is what was noted of it
 abbrev pub LogAgrees : List Noted → SeatState → Type 0

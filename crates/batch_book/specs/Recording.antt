@@ -6,22 +6,22 @@ use Rattle.batch_book.specs.declared.call.Call.{Call}
 use Rattle.batch_book.specs.declared.entry.Entry.{Entry}
 use Rattle.batch_book.specs.declared.reply.Reply.{Reply}
 use Rattle.batch_book.specs.declared.unrecorded.Unrecorded.{Unrecorded}
-use Rattle.batch_book.specs.History.{Account, IsGrown, entry}
+use Rattle.batch_book.specs.History.{BookView, IsGrown, entry}
 use Rattle.batch_book.specs.Replies.{is_logged}
 use Rattle.batch_book.specs.Values.{value_of}
 
 -- ---- the book
 
 -- A call was made: the history has its entry, where it has such.
-pub record IsAnswered (old : Account) (session : ℕ) (call : Call) (reply : Reply)
-    (new : Account) : Type 0 where
+pub record IsAnswered (old : BookView) (session : ℕ) (call : Call) (reply : Reply)
+    (new : BookView) : Type 0 where
   pub was_whole : old.whole ≡ true
   pub whole : new.whole ≡ true
   pub grown : is_logged reply ≡ true → IsGrown old session call reply new
   pub unlogged : is_logged reply ≡ false → new ≡ old
 
 -- it was made, or an entry was lost before, and it wasn't
-abbrev pub Applies : Account → ℕ → Call → Result Reply Unrecorded → Account → Type 0
+abbrev pub Applies : BookView → ℕ → Call → Result Reply Unrecorded → BookView → Type 0
 Applies old session call (Ok reply) new = IsAnswered old session call reply new
 Applies old session call (Err lost) new = (old.whole ≡ false) × (new ≡ old)
 
@@ -48,9 +48,9 @@ note session place call reply =
 abbrev pub mark : ℕ → Noted
 mark session = record { session = session; made = None; place = 0; lists = None }
 
-abbrev pub side_note : ℕ → ℕ → (all handed : List Entry) → Noted
-side_note session place all handed =
-    record { session = session; made = None; place = place; lists = Some (all, handed) }
+abbrev pub side_note : ℕ → ℕ → (all queued : List Entry) → Noted
+side_note session place all queued =
+    record { session = session; made = None; place = place; lists = Some (all, queued) }
 
 abbrev pub entry_of : ℕ → Option (Call × Reply) → List Entry
 entry_of session None = []

@@ -3,17 +3,17 @@ use Rattle.std.specs.Prelude.{ℕ, Option, Some, None}
 use Rattle.setting_runner.specs.Plants.{Scheduled}
 use Rattle.batch_book.specs.declared.call.Call.{Call}
 use Rattle.batch_book.specs.declared.call.Call.TheVariants.{Run}
-use Rattle.batch_book.specs.declared.kept.Stage.{Stage}
-use Rattle.batch_book.specs.declared.kept.Stage.TheVariants as stage
-use Rattle.batch_book.specs.declared.kept.KeptBatch.{KeptBatch}
+use Rattle.batch_book.specs.declared.stored_batch.BatchStage.{BatchStage}
+use Rattle.batch_book.specs.declared.stored_batch.BatchStage.TheVariants as stage
+use Rattle.batch_book.specs.declared.stored_batch.StoredBatch.{StoredBatch}
 use Rattle.batch_book.specs.Machine.{Machine, batch_of}
 
 -- the plan by which a batch can be run
-abbrev pub plan_at : Stage → Option Scheduled
+abbrev pub plan_at : BatchStage → Option Scheduled
 plan_at (stage.Planned plan) = Some (plan.batch, plan.settings)
 plan_at s = None
 
-abbrev pub plan_in : Option KeptBatch → Option Scheduled
+abbrev pub plan_in : Option StoredBatch → Option Scheduled
 plan_in None = None
 plan_in (Some h) = plan_at h.stage
 

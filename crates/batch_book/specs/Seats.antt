@@ -2,12 +2,12 @@
 use Rattle.std.specs.Prelude.{◌≡◌, ℕ, ◌≤◌, ◌==◌, if◌then◌else◌, max, ◌||◌, Bool, true, List, [], ◌++◌, length, sum_by, Option, Some, Result, Ok, Err, is_err}
 use Rattle.atomic_table.specs.Seated.{TableId}
 use Rattle.progress_word.specs.Watchers.{WatcherView}
-use Rattle.own_lists.specs.Lists.{own_of}
+use Rattle.session_lists.specs.Lists.{own_of}
 use Rattle.batch_book.specs.declared.call.Call.{Call}
 use Rattle.batch_book.specs.declared.entry.Entry.{Entry}
 use Rattle.batch_book.specs.declared.reply.Reply.{Reply}
 use Rattle.batch_book.specs.declared.unrecorded.Unrecorded.{Unrecorded}
-use Rattle.batch_book.specs.History.{Starts}
+use Rattle.batch_book.specs.History.{IsPrefix}
 use Rattle.batch_book.specs.Recording.{asked_by, value_made}
 use Rattle.batch_book.specs.Values.{greatest}
 
@@ -51,16 +51,16 @@ pub record IsAsked (old : SeatState) (call : Call) (made : Result Reply Unrecord
     (new : SeatState) : Type 0 where
   pub seat : IsSameSeat old new
   pub asked : new.asked ≡ old.asked ++ asked_by old.session call made
-  pub log : Starts old.log new.log
+  pub log : IsPrefix old.log new.log
   pub later : old.seen ≤ new.seen
   pub seen : value_made made ≤ new.seen
   pub quiet : value_made made ≡ 0 → new.seen ≡ old.seen
   pub broken : new.broken ≡ is_err made || old.broken
 
 -- all that the seat has asked could be told to it; or the record is broken
-abbrev pub IsSettled : SeatState → Result (Unit {0}) Unrecorded → SeatState → Type 0
-IsSettled old (Ok done) new = new ≡ record old { log = old.asked }
-IsSettled old (Err lost) new = new ≡ record old { broken = true }
+abbrev pub IsSynced : SeatState → Result (Unit {0}) Unrecorded → SeatState → Type 0
+IsSynced old (Ok done) new = new ≡ record old { log = old.asked }
+IsSynced old (Err lost) new = new ≡ record old { broken = true }
 
 -- the entries of whose runs a session's seat has told the word: what it asked, and for the first
 -- seat those too that the book had before
@@ -89,7 +89,7 @@ AskedAgrees made seat = seat.asked ≡ own seat.session made
 
 -- what could be told to the seat are the first of its session's entries that stand where they belong
 abbrev pub IsRecorded : List Entry → SeatState → Type 0
-IsRecorded standing seat = Starts seat.log (own seat.session standing)
+IsRecorded standing seat = IsPrefix seat.log (own seat.session standing)
 
 -- a watcher from which the word was raised to a value, or needn't be
 pub record Reaches (old : WatcherView) (value : ℕ) (new : WatcherView) : Type 0 where

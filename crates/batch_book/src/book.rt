@@ -4,11 +4,11 @@ ghost use Rattle.std.specs.Option.{option_copied};
 ghost use Rattle.std.specs.Prelude.{◌+◌, ◌≡◌, ◌↔◌, ◌≤◌, [], true, false, List, IfOk, IfErr, OnOk, OnErr, length};
 ghost use Rattle.setting_runner.specs.Plants.{LeavesPlant};
 ghost use Rattle.setting_runner.specs.Runs.{TellsOutcome};
-ghost use Rattle.batch_book.specs.Holdings.{batch_in};
+ghost use Rattle.batch_book.specs.BatchStore.{batch_in};
 ghost use Rattle.batch_book.specs.Machine.{opened, batch_of};
 ghost use Rattle.batch_book.specs.Running.{plan_to_run};
 ghost use Rattle.batch_book.specs.Replies.{is_logged, outcome_of, outcome_in};
-ghost use Rattle.batch_book.specs.History.{new_account, IsReplay, IsLegal, IsFull, IsGrown, IsSound, IsKeptBook, Starts, account, has_book_room};
+ghost use Rattle.batch_book.specs.History.{new_book_view, IsReplay, IsLegal, IsFull, IsGrown, IsSound, IsSoundBook, IsPrefix, book_view, has_book_room};
 ghost use Rattle.batch_book.specs.declared.entry.Entry.{Entry};
 ghost use Rattle.batch_book.specs.Recording.{Applies, IsAnswered};
 ghost use Rattle.batch_book.specs.Values.{greatest};
@@ -18,8 +18,8 @@ use crate::entry::Entry;
 use crate::entry_log::EntryLog;
 use crate::ghost_history::GhostHistory;
 use crate::history::History;
-use crate::holdings::Holdings;
-use crate::kept_history::Kept;
+use crate::batch_store::BatchStore;
+use crate::memory_history::MemoryHistory;
 use crate::limits::{MAX_ENTRIES, MAX_NUMBER};
 use crate::logged::{LoggedCall, LoggedReply};
 use crate::pending_entries::PendingEntries;
@@ -41,19 +41,19 @@ use std::thread::Threads;
 /// A book without its history. Contracts see the words that it was opened with, and the machine.
 #[derive(Drop)]
 pub struct BareBook {
-    holdings: Holdings,
+    batch_store: BatchStore,
     opening: Rack,
     furthest: u64,
 }
 
 impl Model for BareBook {
-    ghost use Rattle.batch_book.specs.History.{Bare};
+    ghost use Rattle.batch_book.specs.History.{BareBookView};
 
-    ghost Value = { Bare };
+    ghost Value = { BareBookView };
 
     ghost view = { λ b. record {
       opening = b.opening;
-      machine = b.holdings;
+      machine = b.batch_store;
       furthest = b.furthest;
     } };
 }
@@ -63,7 +63,7 @@ impl BareBook {
     pub fn rack(&self) -> &Rack
         ensures { result.now ≡ self.now.machine.store }
     {
-        self.holdings.rack()
+        self.batch_store.rack()
     }
 }
 
@@ -71,8 +71,8 @@ impl BareBook {
 /// what was asked and answered. Contracts see the words that it was opened with, the history, its
 /// first entries, which stand where they belong, the machine that this has led to, step by step, and
 /// whether the others can still be put there.
-pub struct Book<H: EntryLog = Kept> {
-    holdings: Holdings,
+pub struct Book<H: EntryLog = MemoryHistory> {
+    batch_store: BatchStore,
     opening: Rack,
     history: H,
     // How far the runs of the history have come.
@@ -83,7 +83,7 @@ pub struct Book<H: EntryLog = Kept> {
 impl<H: EntryLog + Drop> Drop for Book<H> {
     fn drop(self) {
         let Book {
-            holdings: _,
+            batch_store: _,
             opening: _,
             history: _,
             furthest: _,
@@ -93,29 +93,29 @@ impl<H: EntryLog + Drop> Drop for Book<H> {
 
 impl<H: EntryLog> Model for Book<H> {
     ghost use Rattle.std.specs.Prelude.{◌≡◌};
-    ghost use Rattle.batch_book.specs.History.{Account, account, IsKeptBook};
+    ghost use Rattle.batch_book.specs.History.{BookView, book_view, IsSoundBook};
     ghost use Rattle.batch_book.specs.Values.{greatest};
 
-    ghost Value = { Account };
+    ghost Value = { BookView };
 
-    ghost view = { λ b. account b.opening (H.pushed b.history) (H.stands b.history) b.holdings
+    ghost view = { λ b. book_view b.opening (H.pushed b.history) (H.durable b.history) b.batch_store
         (H.whole b.history) };
 
-    ghost invariant = { λ b. IsKeptBook H.limited H.loses
-        (account b.opening (H.pushed b.history) (H.stands b.history) b.holdings
+    ghost invariant = { λ b. IsSoundBook H.limited H.loses
+        (book_view b.opening (H.pushed b.history) (H.durable b.history) b.batch_store
         (H.whole b.history))
         × (b.furthest ≡ greatest (H.pushed b.history)) };
 }
 
-impl Book<Kept> {
+impl Book<MemoryHistory> {
     /// A book of this rack, with no batch and no entry. It takes memory, and time, for a copy of
     /// the rack and for as many batches as it may hold; where there is no memory the rack comes
     /// back as it was.
-    pub fn new(alloc: Global, rack: Rack) -> Result<Book<Kept>, (Rack, AllocError)>
-        ensures ok { IfOk result (λ book. book ≡ new_account rack) }
+    pub fn new(alloc: Global, rack: Rack) -> Result<Book<MemoryHistory>, (Rack, AllocError)>
+        ensures ok { IfOk result (λ book. book ≡ new_book_view rack) }
         ensures unchanged { IfErr result (λ refused. refused.0 ≡ rack) }
     {
-        match Book::with(alloc, rack, Kept::new(alloc)) {
+        match Book::with(alloc, rack, MemoryHistory::new(alloc)) {
             Ok(book) => Ok(book),
             Err((rack, _, error)) => Err((rack, error)),
         }
@@ -138,18 +138,18 @@ impl<H: EntryLog> Book<H> {
     /// The same, with this history, which is empty.
     pub fn with(alloc: Global, rack: Rack, history: H) -> Result<Book<H>, (Rack, H, AllocError)>
         requires empty { H.pushed history ≡ [] }
-        requires none { H.stands history ≡ [] }
+        requires none { H.durable history ≡ [] }
         requires whole { H.whole history ≡ true }
-        ensures ok { IfOk result (λ book. book ≡ new_account rack) }
+        ensures ok { IfOk result (λ book. book ≡ new_book_view rack) }
         ensures unchanged { IfErr result (λ back. (back.0 ≡ rack) × (back.1 ≡ history)) }
     {
         let opening = match rack.copy() {
             Ok(opening) => opening,
             Err(error) => return Err((rack, history, error)),
         };
-        match Holdings::new(alloc, rack) {
-            Ok(holdings) => Ok(Book {
-                holdings,
+        match BatchStore::new(alloc, rack) {
+            Ok(batch_store) => Ok(Book {
+                batch_store,
                 opening,
                 history,
                 furthest: 0,
@@ -162,9 +162,9 @@ impl<H: EntryLog> Book<H> {
     /// it lead, and the batches and memories are where all of them lead.
     pub fn log(&self) -> &H
         ensures pushed { H.pushed result.now ≡ self.now.history }
-        ensures stands { H.stands result.now ≡ self.now.stands }
+        ensures durable { H.durable result.now ≡ self.now.durable }
         ensures whole { H.whole result.now ≡ self.now.whole }
-        ensures all { H.loses ≡ false → self.now.stands ≡ self.now.history }
+        ensures all { H.loses ≡ false → self.now.durable ≡ self.now.history }
         ensures replay { IsReplay (opened self.now.opening) self.now.history self.now.machine }
     {
         &self.history
@@ -172,21 +172,21 @@ impl<H: EntryLog> Book<H> {
 
     /// The book without its history, and that.
     pub fn part(self) -> (BareBook, H)
-        ensures kept { IsKeptBook H.limited H.loses (account result.0.opening (H.pushed result.1)
-            (H.stands result.1) result.0.machine (H.whole result.1)) }
-        ensures same { account result.0.opening (H.pushed result.1) (H.stands result.1)
+        ensures kept { IsSoundBook H.limited H.loses (book_view result.0.opening (H.pushed result.1)
+            (H.durable result.1) result.0.machine (H.whole result.1)) }
+        ensures same { book_view result.0.opening (H.pushed result.1) (H.durable result.1)
             result.0.machine (H.whole result.1) ≡ self }
         ensures furthest { result.0.furthest ≡ greatest (H.pushed result.1) }
     {
         let Book {
-            holdings,
+            batch_store,
             opening,
             history,
             furthest,
         } = self;
         (
             BareBook {
-                holdings,
+                batch_store,
                 opening,
                 furthest,
             },
@@ -196,19 +196,19 @@ impl<H: EntryLog> Book<H> {
 
     /// The book that goes on with this history.
     pub fn go_on(bare: BareBook, history: H) -> Book<H>
-        requires kept { IsKeptBook H.limited H.loses (account bare.opening (H.pushed history)
-            (H.stands history) bare.machine (H.whole history)) }
+        requires kept { IsSoundBook H.limited H.loses (book_view bare.opening (H.pushed history)
+            (H.durable history) bare.machine (H.whole history)) }
         requires furthest { bare.furthest ≡ greatest (H.pushed history) }
-        ensures { result ≡ account bare.opening (H.pushed history) (H.stands history)
+        ensures { result ≡ book_view bare.opening (H.pushed history) (H.durable history)
             bare.machine (H.whole history) }
     {
         let BareBook {
-            holdings,
+            batch_store,
             opening,
             furthest,
         } = bare;
         Book {
-            holdings,
+            batch_store,
             opening,
             history,
             furthest,
@@ -219,14 +219,14 @@ impl<H: EntryLog> Book<H> {
     pub fn batch(&self, session: usize, id: usize) -> Option<&Batch>
         ensures { option_copied result ≡ batch_in (batch_of self.now.machine session id) }
     {
-        self.holdings.batch(session, id)
+        self.batch_store.batch(session, id)
     }
 
     /// The rack, with the words that the history leaves.
     pub fn rack(&self) -> &Rack
         ensures { result.now ≡ self.now.machine.store }
     {
-        self.holdings.rack()
+        self.batch_store.rack()
     }
 
     /// A copy of the rack that the book was made with.
@@ -250,8 +250,8 @@ impl<H: EntryLog> Book<H> {
         ensures sound { IsSound self.now.machine }
     {
         // Its contract has the bounds of the shape, of which `sound` tells.
-        let _shape = self.holdings.rack().shape();
-        self.holdings.runs() + 1
+        let _shape = self.batch_store.rack().shape();
+        self.batch_store.runs() + 1
     }
 
     /// Whether there is room for another entry, whatever it tells.
@@ -259,7 +259,7 @@ impl<H: EntryLog> Book<H> {
         ensures room { result ≡ has_book_room H.limited self.now }
         ensures full { result ≡ false → IsFull H.limited self.now }
     {
-        self.history.has_room() && self.holdings.has_numbers()
+        self.history.has_room() && self.batch_store.has_numbers()
     }
 
     /// One call of a session, and its reply: the history has both then, but where there was no room
@@ -295,7 +295,7 @@ impl<H: EntryLog> Book<H> {
 
         // One step of the machine, and one entry more.
         ensures step { Applies self.old session call result self.new }
-        ensures waits { H.loses ≡ true → self.new.stands ≡ self.old.stands }
+        ensures waits { H.loses ≡ true → self.new.durable ≡ self.old.durable }
         ensures opening { self.new.opening ≡ self.old.opening }
         ensures full { IfOk result (λ reply.
             (reply ≡ Reply.Refused BookRefusal.HistoryFull) ↔ IsFull H.limited self.old) }
@@ -313,7 +313,7 @@ impl<H: EntryLog> Book<H> {
         if !self.has_room() {
             return Ok(Reply::Refused(BookRefusal::HistoryFull));
         }
-        match self.enter(rt, session, call, plant, notice) {
+        match self.apply_in_room(rt, session, call, plant, notice) {
             Ok(reply) => Ok(reply),
             Err(_) => Ok(Reply::Refused(BookRefusal::NoMemory)),
         }
@@ -322,7 +322,7 @@ impl<H: EntryLog> Book<H> {
     /// One call of a session, where there is room for its entry. For want of memory nothing
     /// changes.
     #[inline(always)]
-    fn enter<R: Threads + Sync, P: ConfigPort, W: WireMaker + Sync, G: Gate + Sync, N: Notice>(
+    fn apply_in_room<R: Threads + Sync, P: ConfigPort, W: WireMaker + Sync, G: Gate + Sync, N: Notice>(
         &mut self,
         rt: &R,
         session: usize,
@@ -335,7 +335,7 @@ impl<H: EntryLog> Book<H> {
 
         ensures step { IfOk result (λ reply. IsAnswered self.old session call reply self.new) }
         ensures logged { IfOk result (λ reply. is_logged reply ≡ true) }
-        ensures waits { H.loses ≡ true → self.new.stands ≡ self.old.stands }
+        ensures waits { H.loses ≡ true → self.new.durable ≡ self.old.durable }
         ensures opening { self.new.opening ≡ self.old.opening }
         ensures unchanged { OnErr result (self.new ≡ self.old) }
 
@@ -344,10 +344,10 @@ impl<H: EntryLog> Book<H> {
         ensures told { TellsOutcome N.hears notice.old (outcome_in result) notice.new }
     {
         // Its contract has the bounds of the shape, by which the machine is sound.
-        let _shape = self.holdings.rack().shape();
+        let _shape = self.batch_store.rack().shape();
         self.history.draft(session, &call)?;
         let asked = Snapshot::of(&call);
-        let (told, reply) = self.holdings.answer(rt, session, call, plant, notice)?;
+        let (told, reply) = self.batch_store.answer(rt, session, call, plant, notice)?;
         self.furthest = self.furthest.max(reply.value());
         let entry = Entry {
             session,
@@ -358,8 +358,8 @@ impl<H: EntryLog> Book<H> {
         Ok(reply)
     }
 
-    /// The same as [`try_apply`](Book::try_apply) for a history that loses no entry, as [`Kept`]
-    /// and [`Silent`](crate::Silent).
+    /// The same as [`try_apply`](Book::try_apply) for a history that loses no entry, as [`MemoryHistory`]
+    /// and [`NullHistory`](crate::NullHistory).
     pub fn apply<R: Threads + Sync, P: ConfigPort, W: WireMaker + Sync, G: Gate + Sync, N: Notice>(
         &mut self,
         rt: &R,
@@ -399,9 +399,9 @@ impl<E: PendingEntries> Book<E> {
     /// Hands on what waits: puts its text after this one. Where there is no memory for it nothing
     /// changes.
     pub(crate) fn queue_text(&mut self, text: &mut Vec<u8>) -> Result<(), AllocError>
-        ensures all { OnOk result (self.new ≡ record self.old { stands = self.old.history }) }
-        ensures text { OnOk result ((taken : List Entry) → Starts taken self.old.stands
-            → text.old.items ≡ E.texts taken self.old.stands
+        ensures all { OnOk result (self.new ≡ record self.old { durable = self.old.history }) }
+        ensures text { OnOk result ((taken : List Entry) → IsPrefix taken self.old.durable
+            → text.old.items ≡ E.texts taken self.old.durable
             → text.new.items ≡ E.texts taken self.old.history) }
         ensures none { OnErr result (self.new ≡ self.old) }
         ensures same { OnErr result (text.new.items ≡ text.old.items) }
@@ -413,9 +413,9 @@ impl<E: PendingEntries> Book<E> {
 /// A book whose recorder is lent, and that; or the book as it was, where its history loses no entry.
 pub(crate) fn lend<H: History>(book: Book<H>) -> Result<(Book<H::Pending>, H::Recorder), Book<H>>
     requires whole { book.whole ≡ true }
-    requires all { book.stands ≡ book.history }
+    requires all { book.durable ≡ book.history }
     ensures book { IfOk result (λ parts. parts.0 ≡ book) }
-    ensures stands { IfOk result (λ parts. H.Recorder.stands parts.1 ≡ book.history) }
+    ensures durable { IfOk result (λ parts. H.Recorder.durable parts.1 ≡ book.history) }
     ensures tried { IfOk result (λ parts. H.Recorder.tried parts.1 ≡ book.history) }
     ensures texts { OnOk result ((taken all : List Entry)
         → H.Pending.texts taken all ≡ H.Recorder.texts taken all) }
@@ -440,13 +440,13 @@ pub(crate) fn take_back<H: History>(
 ) -> Book<H>
     requires loses { H.loses ≡ true }
     requires limited { H.Pending.limited ≡ H.limited }
-    requires stands { Starts (H.Recorder.stands recorder) (H.Recorder.tried recorder) }
-    requires first { Starts (H.Recorder.tried recorder) book.stands }
-    requires text { text.now ≡ H.Recorder.texts (H.Recorder.tried recorder) book.stands }
+    requires durable { IsPrefix (H.Recorder.durable recorder) (H.Recorder.tried recorder) }
+    requires first { IsPrefix (H.Recorder.tried recorder) book.durable }
+    requires text { text.now ≡ H.Recorder.texts (H.Recorder.tried recorder) book.durable }
     ensures opening { result.opening ≡ book.opening }
     ensures history { result.history ≡ book.history }
-    ensures more { Starts (H.Recorder.stands recorder) result.stands }
-    ensures all { result.whole ≡ true → result.stands ≡ result.history }
+    ensures more { IsPrefix (H.Recorder.durable recorder) result.durable }
+    ensures all { result.whole ≡ true → result.durable ≡ result.history }
 {
     let (bare, pending) = book.part();
     let Some(history) = H::take_back(pending, recorder, text) else {

@@ -20,10 +20,10 @@ use crate::naming::ExchangeName;
 use crate::noted::NotedEntry;
 use crate::pending_entries::PendingEntries;
 use crate::reply::Reply;
-use crate::seat::{Place, Seat};
+use crate::seat::{SeatInner, Seat};
 use crate::unrecorded::Unrecorded;
 use crossbar::ConfigPort;
-use own_lists::OwnList;
+use session_lists::OwnList;
 use peek_poke::WireMaker;
 use progress_word::ProgressWord;
 use schedule_certificate::Gate;
@@ -44,7 +44,7 @@ pub struct BookState<L: ExchangeName, P: ConfigPort, W: WireMaker, G, E: Pending
     pub pushed: u64,
     pub ghost its: { option_map_or (λ o. o.session) own 0 ≡ BOOK_SIDE },
     pub ghost lists: { side_lists L.earlier (option_map_or (λ o. o.list) own [])
-        ≡ (book.history, book.stands) },
+        ≡ (book.history, book.durable) },
     pub ghost many: { length book.history ≡ length L.earlier + pushed },
     pub ghost waits: { E.loses ≡ true },
     pub ghost opened: { book.opening ≡ L.opening },
@@ -76,7 +76,7 @@ impl<
         let Some(place) = seat.place.take() else {
             unreachable!()
         };
-        let lost = waiting.lock(rt).is_lost();
+        let lost = waiting.lock(rt).has_write_failed();
         if lost || self.pushed == u64::MAX {
             seat.place = Some(place.break_off());
             return Err(Unrecorded);
@@ -93,9 +93,9 @@ impl<
         waiting: &Mutex<CommitQueue<L, E>>,
         word: &ProgressWord,
         session: usize,
-        place: Place<L>,
+        place: SeatInner<L>,
         call: Call,
-    ) -> (Result<Reply, Unrecorded>, Place<L>)
+    ) -> (Result<Reply, Unrecorded>, SeatInner<L>)
         requires word { place.access.watcher.word ≡ word.now }
         requires session { place.own.session ≡ session }
         requires few { self.old.pushed < 18446744073709551615 }
@@ -108,11 +108,11 @@ impl<
             (marked_in result.1.own.list) result.1.access.parts result.1.broken) }
         ensures session { result.1.own.session ≡ session }
     {
-        let Place {
+        let SeatInner {
             access,
             own,
             last,
-            waits: _,
+            has_pending: _,
             broken,
         } = place;
         let ExchangeAccess {
@@ -164,11 +164,11 @@ impl<
         let broken = is_broken(&made, broken);
         (
             made,
-            Place {
+            SeatInner {
                 access,
                 own,
                 last,
-                waits: true,
+                has_pending: true,
                 broken,
             },
         )
@@ -201,7 +201,7 @@ fn note_made<L: ExchangeName, E: PendingEntries, R: Wait>(
     requires few { before.pushed < 18446744073709551615 }
     requires grown { book.old.history ≡ (side_lists L.earlier before.its.list).0
         ++ made_in (noted session (before.pushed + 1) call.value made.now) }
-    requires stands { book.old.stands ≡ (side_lists L.earlier before.its.list).1 }
+    requires durable { book.old.durable ≡ (side_lists L.earlier before.its.list).1 }
     requires many { length (side_lists L.earlier before.its.list).0
         ≡ length L.earlier + before.pushed }
     requires low { are_up_to before.last before.own.list ≡ true }
@@ -211,7 +211,7 @@ fn note_made<L: ExchangeName, E: PendingEntries, R: Wait>(
     ensures list { result.own.list ≡ before.own.list
         ++ noted session (before.pushed + 1) call.value made.now }
     ensures side { result.its.session ≡ BOOK_SIDE }
-    ensures lists { side_lists L.earlier result.its.list ≡ (book.new.history, book.new.stands) }
+    ensures lists { side_lists L.earlier result.its.list ≡ (book.new.history, book.new.durable) }
     ensures many { length book.new.history ≡ length L.earlier + result.pushed }
     ensures low { are_up_to result.last result.own.list ≡ true }
     ensures amount { share.new.amount ≡ share.old.amount
@@ -232,7 +232,7 @@ fn note_made<L: ExchangeName, E: PendingEntries, R: Wait>(
             let place = pushed + 1;
             let (own, its) = waiting
                 .lock(rt)
-                .enter(book, place, share, (own, its), session, call, reply);
+                .enqueue(book, place, share, (own, its), session, call, reply);
             Noting {
                 own,
                 its,

@@ -41,7 +41,7 @@ pub(crate) fn apply<
     requires parts { 0 < watcher.parts }
     ensures reply { IfOk result.0 (IsReplyTo call) }
     ensures step { Applies book.old session call result.0 book.new }
-    ensures waits { H.loses ≡ true → book.new.stands ≡ book.old.stands }
+    ensures waits { H.loses ≡ true → book.new.durable ≡ book.old.durable }
     ensures opening { book.new.opening ≡ book.old.opening }
     ensures reaches { Reaches watcher (value_made result.0) result.1 }
     ensures quiet { value_made result.0 ≡ 0 → result.1 ≡ watcher }

@@ -13,23 +13,23 @@ use crate::book_state::BookState;
 use crate::commit_queue::CommitQueue;
 use crate::entry_log::EntryLog;
 use crate::history::History;
-use crate::kept_history::Kept;
+use crate::memory_history::MemoryHistory;
 use crate::lists::have_all_parts;
-use crate::locked::Locked;
+use crate::locked::LockedBook;
 use crate::naming::ExchangeName;
 use crate::noted::NotedEntry;
-use crate::seat::{Place, Seat};
-use crate::shared::{Shared, Sides};
-use crate::writer_state::{Detached, WriterState};
+use crate::seat::{SeatInner, Seat};
+use crate::shared::{Shared, Locks};
+use crate::writer_state::{GroupCommit, WriterState};
 use crossbar::ConfigPort;
-use own_lists::Keeper;
+use session_lists::Keeper;
 use peek_poke::WireMaker;
 use progress_word::{ALL_PARTS, ProgressWord};
 use setting_runner::Plant;
 
 /// What an exchange leaves.
 #[derive(Drop)]
-pub struct Closed<P, W, G, H: EntryLog = Kept> {
+pub struct Closed<P, W, G, H: EntryLog = MemoryHistory> {
     /// The book, with the history and the rack.
     pub book: Book<H>,
     /// What runs were made with.
@@ -38,7 +38,7 @@ pub struct Closed<P, W, G, H: EntryLog = Kept> {
 
 /// The seats aren't all seats of the exchange. All is as it was.
 #[derive(Drop)]
-pub struct SeatMissing<L: ExchangeName, P: ConfigPort, W: WireMaker, G, H: History = Kept> {
+pub struct SeatMissing<L: ExchangeName, P: ConfigPort, W: WireMaker, G, H: History = MemoryHistory> {
     pub exchange: Shared<L, P, W, G, H>,
     pub seats: Vec<Seat<L>>,
 }
@@ -63,17 +63,17 @@ impl<L: ExchangeName, P: ConfigPort, W: WireMaker, G, H: History> Shared<L, P, W
                 seats,
             });
         }
-        let (sides, word) = self.into_parts();
-        match sides {
-            Sides::One(locked) => Ok(close_one(locked.into_inner(), &word, seats)),
-            Sides::Each(sides) => {
-                let Detached {
+        let (locks, word) = self.into_parts();
+        match locks {
+            Locks::Single(locked) => Ok(close_one(locked.into_inner(), &word, seats)),
+            Locks::Group(locks) => {
+                let GroupCommit {
                     book,
                     waiting,
                     odd: _,
                     even: _,
                     record,
-                } = sides;
+                } = locks;
                 Ok(close_each(
                     book.into_inner(),
                     waiting.into_inner(),
@@ -88,7 +88,7 @@ impl<L: ExchangeName, P: ConfigPort, W: WireMaker, G, H: History> Shared<L, P, W
 
 // What is left of an exchange with one lock.
 fn close_one<L: ExchangeName, P: ConfigPort, W: WireMaker, G, H: EntryLog>(
-    locked: Locked<L, P, W, G, H>,
+    locked: LockedBook<L, P, W, G, H>,
     word: &ProgressWord,
     seats: Vec<Seat<L>>,
 ) -> Closed<P, W, G, H>
@@ -97,7 +97,7 @@ fn close_one<L: ExchangeName, P: ConfigPort, W: WireMaker, G, H: EntryLog>(
     requires seats { All (λ s. s.exchange ≡ Some word.now) seats.items }
     ensures { AreClosed P.ConfigPort W.is_sure L.opening L.earlier seats.items result.book }
 {
-    let Locked {
+    let LockedBook {
         book,
         plant,
         mut entries,
@@ -137,14 +137,14 @@ fn close_each<L: ExchangeName, P: ConfigPort, W: WireMaker, G, H: History>(
         text,
         count: _,
         front: _,
-        gathers: _,
+        groups_writes: _,
         due: _,
         nap: _,
         writes: _,
         round: _,
         taken_over: _,
         late: _,
-        handed: _,
+        queued: _,
         mut entries,
         mut keeper,
         of: _,
@@ -180,13 +180,13 @@ fn compared<L: ExchangeName>(keeper: &mut Keeper<NotedEntry, L>, seat: Seat<L>) 
     ensures parts { result.parts ≡ seat.parts }
     ensures amount { result.share.amount ≡ length seat.asked }
 {
-    let Place {
+    let SeatInner {
         access,
         own,
         last: _,
-        waits: _,
+        has_pending: _,
         broken: _,
-    } = seat.into_place();
+    } = seat.into_inner();
     keeper.compare(own);
     access
 }

@@ -3,11 +3,11 @@
 ghost use Rattle.std.specs.Prelude.{◌≡◌, ◌+◌, ◌++◌, ◌∷◌, ◌≤◌, ◌<◌, ◌||◌, [], true, List, length, IsSome};
 ghost use Rattle.batch_book.specs.declared.entry.Entry.{Entry};
 ghost use Rattle.batch_book.specs.declared.limits.TheConstants.{BOOK_SIDE, RECORD_SIDE};
-ghost use Rattle.batch_book.specs.History.{Starts};
+ghost use Rattle.batch_book.specs.History.{IsPrefix};
 ghost use Rattle.batch_book.specs.Places.{are_placed, last_place, notes_of, AreMarkedUpTo};
 ghost use Rattle.batch_book.specs.Recording.{made_in, note, marked_in};
 ghost use Rattle.batch_book.specs.Replies.{is_logged};
-ghost use Rattle.batch_book.specs.Seats.{IsSettled};
+ghost use Rattle.batch_book.specs.Seats.{IsSynced};
 ghost use Rattle.batch_book.specs.Sides.{side_lists, stood_in, taken_in};
 
 use crate::book::Book;
@@ -18,9 +18,9 @@ use crate::naming::ExchangeName;
 use crate::noted::NotedEntry;
 use crate::pending_entries::PendingEntries;
 use crate::reply::Reply;
-use crate::seat::{Place, Seat, mark};
+use crate::seat::{SeatInner, Seat, mark};
 use crate::unrecorded::Unrecorded;
-use own_lists::{Keeper, OwnList};
+use session_lists::{Keeper, OwnList};
 use std::marker::PhantomData;
 use std::mem;
 use std::snapshot::Snapshot;
@@ -47,7 +47,7 @@ pub struct CommitQueue<L: ExchangeName, E: PendingEntries> {
     pub front: u64,
     // Whether who writes waits for more entries first, up to which place some may soon come, and how
     // many microseconds it naps meanwhile: none where a writing is quick.
-    pub gathers: bool,
+    pub groups_writes: bool,
     pub due: u64,
     pub nap: u64,
     // Whether a seat writes.
@@ -57,19 +57,19 @@ pub struct CommitQueue<L: ExchangeName, E: PendingEntries> {
     pub taken_over: u64,
     // Whether there was no memory to hand an entry on. Then it may go with a later writing.
     pub late: bool,
-    pub handed: Snapshot<GhostHistory>,
+    pub queued: Snapshot<GhostHistory>,
     pub entries: ledger::Book<L>,
     pub keeper: Keeper<NotedEntry, L>,
     pub of: PhantomData<E>,
     pub ghost counted: { length (made_in keeper.history) ≡ entries.total },
     pub ghost placed: { are_placed 0 keeper.history ≡ true },
     pub ghost known: { side_lists L.earlier (notes_of BOOK_SIDE keeper.history)
-        ≡ (L.earlier ++ made_in keeper.history, handed.value) },
-    pub ghost first: { Starts handed.value (L.earlier ++ made_in keeper.history) },
-    pub ghost many: { length handed.value ≡ length L.earlier + count },
-    pub ghost taken: { Starts (taken_in L.earlier keeper.history) handed.value },
+        ≡ (L.earlier ++ made_in keeper.history, queued.value) },
+    pub ghost first: { IsPrefix queued.value (L.earlier ++ made_in keeper.history) },
+    pub ghost many: { length queued.value ≡ length L.earlier + count },
+    pub ghost taken: { IsPrefix (taken_in L.earlier keeper.history) queued.value },
     pub ghost waits: { text.items
-        ≡ E.texts (taken_in L.earlier keeper.history) handed.value },
+        ≡ E.texts (taken_in L.earlier keeper.history) queued.value },
     pub ghost stood: { stood_in keeper.history ≡ front },
     pub ghost told: { AreMarkedUpTo front keeper.history },
 }
@@ -77,7 +77,7 @@ pub struct CommitQueue<L: ExchangeName, E: PendingEntries> {
 impl<L: ExchangeName, E: PendingEntries> CommitQueue<L, E> {
     /// Whether a writing has failed: not all that was taken over stands, and no seat writes. Then no
     /// call is made any more.
-    pub fn is_lost(&self) -> bool {
+    pub fn has_write_failed(&self) -> bool {
         !self.writes && self.front < self.taken_over
     }
 
@@ -97,12 +97,12 @@ impl<L: ExchangeName, E: PendingEntries> CommitQueue<L, E> {
 
     /// Whether who sleeps may do so where its entry's writing doesn't wake it.
     pub fn wakes_all(&self) -> bool {
-        self.is_lost() || self.late
+        self.has_write_failed() || self.late
     }
 
     /// Whether entries up to this place have to be written. Then the seat that asks writes them.
     pub fn begin(&mut self, place: u64) -> bool {
-        if self.is_lost() || place <= self.front {
+        if self.has_write_failed() || place <= self.front {
             return false;
         }
         self.writes = true;
@@ -123,7 +123,7 @@ impl<L: ExchangeName, E: PendingEntries> CommitQueue<L, E> {
 
     /// Notes a call whose entry has this place, and takes in what the book's side hands on. Where
     /// there is no memory for that it waits at the book.
-    pub fn enter(
+    pub fn enqueue(
         &mut self,
         book: &mut Book<E>,
         place: u64,
@@ -139,7 +139,7 @@ impl<L: ExchangeName, E: PendingEntries> CommitQueue<L, E> {
         requires parts { 0 < share.old.parts }
         requires grown { book.old.history ≡ (side_lists L.earlier lists.1.list).0
             ++ made_in (note session place call.value reply.now ∷ []) }
-        requires stands { book.old.stands ≡ (side_lists L.earlier lists.1.list).1 }
+        requires durable { book.old.durable ≡ (side_lists L.earlier lists.1.list).1 }
         requires place { length book.old.history ≡ length L.earlier + place }
         ensures history { book.new.history ≡ book.old.history }
         ensures opening { book.new.opening ≡ book.old.opening }
@@ -148,7 +148,7 @@ impl<L: ExchangeName, E: PendingEntries> CommitQueue<L, E> {
             ++ note session place call.value reply.now ∷ [] }
         ensures side { result.1.session ≡ BOOK_SIDE }
         ensures lists { side_lists L.earlier result.1.list
-            ≡ (book.new.history, book.new.stands) }
+            ≡ (book.new.history, book.new.durable) }
         ensures amount { share.new.amount ≡ share.old.amount + 1 }
         ensures parts { share.new.parts ≡ share.old.parts }
     {
@@ -162,12 +162,12 @@ impl<L: ExchangeName, E: PendingEntries> CommitQueue<L, E> {
             book,
             place,
             &mut self.text,
-            &mut self.handed,
+            &mut self.queued,
             &mut self.count,
         );
         self.late |= self.count != place;
         let all = Snapshot::of(&book.past());
-        let note = NotedEntry::side(BOOK_SIDE, 0, &all, &Snapshot::of(&self.handed));
+        let note = NotedEntry::side(BOOK_SIDE, 0, &all, &Snapshot::of(&self.queued));
         let its = self.keeper.add(its, &note);
         (own, its)
     }
@@ -182,7 +182,7 @@ impl<L: ExchangeName, E: PendingEntries> CommitQueue<L, E> {
         requires side { own.session ≡ RECORD_SIDE }
         requires spare { spare.old.items ≡ [] }
         requires none { (all : List Entry) → E.texts all all ≡ [] }
-        ensures first { Starts (side_lists L.earlier own.list).0 result.0.value.value }
+        ensures first { IsPrefix (side_lists L.earlier own.list).0 result.0.value.value }
         ensures text { spare.new.items
             ≡ E.texts (side_lists L.earlier own.list).0 result.0.value.value }
         ensures count { length result.0.value.value ≡ length L.earlier + result.1 }
@@ -191,7 +191,7 @@ impl<L: ExchangeName, E: PendingEntries> CommitQueue<L, E> {
         ensures place { last_place 0 result.2.list ≡ last_place 0 own.list }
     {
         let own = self.keeper.compare(own);
-        let all = Snapshot::of(&self.handed);
+        let all = Snapshot::of(&self.queued);
         let note = NotedEntry::side(RECORD_SIDE, self.front, &all, &all);
         let own = self.keeper.add(own, &note);
         mem::swap(&mut self.text, spare);
@@ -202,7 +202,7 @@ impl<L: ExchangeName, E: PendingEntries> CommitQueue<L, E> {
 
     /// Notes up to which place all entries stand where they belong, of those that the record's side
     /// has taken over.
-    pub fn stand(
+    pub fn mark_durable(
         &mut self,
         own: OwnList<NotedEntry, L>,
         taken: &HistorySnapshot,
@@ -223,9 +223,9 @@ impl<L: ExchangeName, E: PendingEntries> CommitQueue<L, E> {
 
     /// Notes that all that the seat has asked can be told, if it stands where it belongs; else the
     /// record of its calls is broken.
-    pub fn settle(&mut self, seat: &mut Seat<L>) -> Result<(), Unrecorded>
+    pub fn sync(&mut self, seat: &mut Seat<L>) -> Result<(), Unrecorded>
         requires { IsSome seat.old.exchange }
-        ensures { IsSettled seat.old result seat.new }
+        ensures { IsSynced seat.old result seat.new }
     {
         let session = seat.session;
         let Some(place) = seat.place.take() else {
@@ -241,7 +241,7 @@ impl<L: ExchangeName, E: PendingEntries> CommitQueue<L, E> {
     }
 
     // Notes that all which a session has asked can be told.
-    fn mark(&mut self, session: usize, place: Place<L>) -> Place<L>
+    fn mark(&mut self, session: usize, place: SeatInner<L>) -> SeatInner<L>
         requires session { place.own.session ≡ session }
         requires covered { place.last ≤ self.old.front }
         ensures access { result.access ≡ place.access }
@@ -250,19 +250,19 @@ impl<L: ExchangeName, E: PendingEntries> CommitQueue<L, E> {
         ensures session { result.own.session ≡ session }
         ensures broken { result.broken ≡ place.broken }
     {
-        let Place {
+        let SeatInner {
             access,
             own,
             last,
-            waits,
+            has_pending,
             broken,
         } = place;
         let own = self.keeper.compare(own);
-        let place = Place {
+        let place = SeatInner {
             access,
             own,
             last,
-            waits,
+            has_pending,
             broken,
         };
         mark(&mut self.keeper, session, place)
@@ -274,26 +274,26 @@ fn drain_into<L: ExchangeName, E: PendingEntries>(
     book: &mut Book<E>,
     place: u64,
     text: &mut Vec<u8>,
-    handed: &mut Snapshot<GhostHistory>,
+    queued: &mut Snapshot<GhostHistory>,
     count: &mut u64,
 )
-    requires handed { handed.old.value ≡ book.old.stands }
-    requires first { Starts book.old.stands book.old.history }
+    requires queued { queued.old.value ≡ book.old.durable }
+    requires first { IsPrefix book.old.durable book.old.history }
     requires place { length book.old.history ≡ length L.earlier + place }
-    requires many { length book.old.stands ≡ length L.earlier + count.old }
+    requires many { length book.old.durable ≡ length L.earlier + count.old }
     ensures history { book.new.history ≡ book.old.history }
     ensures opening { book.new.opening ≡ book.old.opening }
-    ensures handed { handed.new.value ≡ book.new.stands }
-    ensures more { Starts book.old.stands book.new.stands }
-    ensures first { Starts book.new.stands book.new.history }
-    ensures many { length book.new.stands ≡ length L.earlier + count.new }
-    ensures text { (taken : List Entry) → Starts taken book.old.stands
-        → text.old.items ≡ E.texts taken book.old.stands
-        → text.new.items ≡ E.texts taken book.new.stands }
+    ensures queued { queued.new.value ≡ book.new.durable }
+    ensures more { IsPrefix book.old.durable book.new.durable }
+    ensures first { IsPrefix book.new.durable book.new.history }
+    ensures many { length book.new.durable ≡ length L.earlier + count.new }
+    ensures text { (taken : List Entry) → IsPrefix taken book.old.durable
+        → text.old.items ≡ E.texts taken book.old.durable
+        → text.new.items ≡ E.texts taken book.new.durable }
 {
     match book.queue_text(text) {
         Ok(()) => {
-            *handed = book.past();
+            *queued = book.past();
             *count = place;
         }
         Err(_) => {}

@@ -17,7 +17,7 @@ pub trait EntryLog {
     ghost pushed: { Self → List Entry };
 
     /// The first of them, which stand where they belong; or were handed on to who writes them.
-    ghost stands: { Self → List Entry };
+    ghost durable: { Self → List Entry };
 
     /// Whether none of them is lost.
     ghost whole: { Self → Bool };
@@ -43,7 +43,7 @@ pub trait EntryLog {
     /// Drafts the entry of a call of a session, and takes the room for its reply. Nothing is pushed.
     fn draft(&mut self, session: usize, call: &Call) -> Result<(), AllocError>
         ensures pushed { pushed self.new ≡ pushed self.old }
-        ensures stands { stands self.new ≡ stands self.old }
+        ensures durable { durable self.new ≡ durable self.old }
         ensures whole { whole self.new ≡ whole self.old }
         ensures drafted { OnOk result (drafted self.new session call.now) };
 
@@ -52,7 +52,7 @@ pub trait EntryLog {
         requires drafted { drafted self.old entry.session entry.call }
         requires answers { IsReplyTo entry.call entry.reply }
         ensures pushed { pushed self.new ≡ pushed self.old ++ entry ∷ [] }
-        ensures waits { loses ≡ true → stands self.new ≡ stands self.old }
-        ensures all { loses ≡ false → stands self.new ≡ pushed self.new }
+        ensures waits { loses ≡ true → durable self.new ≡ durable self.old }
+        ensures all { loses ≡ false → durable self.new ≡ pushed self.new }
         ensures whole { whole self.new ≡ whole self.old };
 }

@@ -2,7 +2,7 @@
 
 ghost use Rattle.std.specs.Prelude.{◌≡◌, true, false, List, IfOk, IfErr, IfSome, IsSome, OnOk, OnErr};
 ghost use Rattle.batch_book.specs.declared.entry.Entry.{Entry};
-ghost use Rattle.batch_book.specs.History.{Starts};
+ghost use Rattle.batch_book.specs.History.{IsPrefix};
 
 use crate::entry_log::EntryLog;
 use crate::pending_entries::PendingEntries;
@@ -23,11 +23,11 @@ pub trait History: EntryLog {
     /// Lends its recorder. A history that loses no entry comes back as it is.
     fn lend(self) -> Result<(Self::Pending, Self::Recorder), Self>
         requires whole { Self.whole self ≡ true }
-        requires all { Self.stands self ≡ Self.pushed self }
+        requires all { Self.durable self ≡ Self.pushed self }
         ensures pushed { IfOk result (λ parts. Self.Pending.pushed parts.0 ≡ Self.pushed self) }
-        ensures handed { IfOk result (λ parts. Self.Pending.stands parts.0 ≡ Self.pushed self) }
+        ensures queued { IfOk result (λ parts. Self.Pending.durable parts.0 ≡ Self.pushed self) }
         ensures whole { IfOk result (λ parts. Self.Pending.whole parts.0 ≡ true) }
-        ensures stands { IfOk result (λ parts. Self.Recorder.stands parts.1 ≡ Self.pushed self) }
+        ensures durable { IfOk result (λ parts. Self.Recorder.durable parts.1 ≡ Self.pushed self) }
         ensures tried { IfOk result (λ parts. Self.Recorder.tried parts.1 ≡ Self.pushed self) }
         ensures texts { OnOk result ((taken all : List Entry)
             → Self.Pending.texts taken all ≡ Self.Recorder.texts taken all) }
@@ -40,16 +40,16 @@ pub trait History: EntryLog {
     /// recorder hasn't got: this text of the entries that were handed on, and that of the others.
     /// Nothing, where it lends no recorder.
     fn take_back(pending: Self::Pending, recorder: Self::Recorder, text: &[u8]) -> Option<Self>
-        requires stands { Starts (Self.Recorder.stands recorder) (Self.Recorder.tried recorder) }
-        requires first { Starts (Self.Recorder.tried recorder) (Self.Pending.stands pending) }
-        requires front { Starts (Self.Pending.stands pending) (Self.Pending.pushed pending) }
+        requires durable { IsPrefix (Self.Recorder.durable recorder) (Self.Recorder.tried recorder) }
+        requires first { IsPrefix (Self.Recorder.tried recorder) (Self.Pending.durable pending) }
+        requires front { IsPrefix (Self.Pending.durable pending) (Self.Pending.pushed pending) }
         requires text { text.now ≡ Self.Recorder.texts (Self.Recorder.tried recorder)
-            (Self.Pending.stands pending) }
+            (Self.Pending.durable pending) }
         ensures some { Self.loses ≡ true → IsSome result }
         ensures pushed { IfSome result (λ back. Self.pushed back ≡ Self.Pending.pushed pending) }
         ensures more { IfSome result (λ back.
-            Starts (Self.Recorder.stands recorder) (Self.stands back)) }
-        ensures front { IfSome result (λ back. Starts (Self.stands back) (Self.pushed back)) }
+            IsPrefix (Self.Recorder.durable recorder) (Self.durable back)) }
+        ensures front { IfSome result (λ back. IsPrefix (Self.durable back) (Self.pushed back)) }
         ensures all { IfSome result (λ back.
-            Self.whole back ≡ true → Self.stands back ≡ Self.pushed back) };
+            Self.whole back ≡ true → Self.durable back ≡ Self.pushed back) };
 }

@@ -7,7 +7,7 @@
 //! that each reply in it is one that the machine may give there, and that batches and memories are
 //! where the history leads. A history leads to one machine (`laws::replays`).
 //!
-//! The entries go where the book's [`EntryLog`] puts them: [`Kept`] has them in memory, [`Silent`]
+//! The entries go where the book's [`EntryLog`] puts them: [`MemoryHistory`] has them in memory, [`NullHistory`]
 //! is known to contracts alone, and others may write them, many at a time. Where that fails they are
 //! [`Unrecorded`], and no later call is made ([`Book::try_apply`], `Applies` of
 //! `specs/Recording.antt`).
@@ -15,12 +15,12 @@
 //! A [`Shared`] is one exchange for many sessions: a book under a lock, and a word that says how
 //! far the runs have come, which is read without the lock. Each session calls from its own
 //! [`Seat`]. Contracts see the list of what it asked, and of that what could be told: the entries
-//! that stood where they belong as [`Shared::settle`] was called. Where all seats are given back and
+//! that stood where they belong as [`Shared::sync`] was called. Where all seats are given back and
 //! the exchange closes, what each asked is the history filtered to its session, and what could be
 //! told to it stands where it belongs (`AreClosed` of `specs/Closing.antt`).
 //!
 //! A [`History`] whose entries wait until they are written lends its [`Recorder`]
-//! ([`History::lend`]). Then the recorder has a lock of its own, and [`Shared::settle`] doesn't take
+//! ([`History::lend`]). Then the recorder has a lock of its own, and [`Shared::sync`] doesn't take
 //! that of the book: so it waits for no run.
 #![tactic(auto)]
 
@@ -35,9 +35,9 @@ mod entry;
 mod entry_log;
 mod ghost_history;
 mod history;
-mod holdings;
-mod kept;
-mod kept_history;
+mod batch_store;
+mod stored_batch;
+mod memory_history;
 mod limits;
 mod lists;
 mod locked;
@@ -55,7 +55,7 @@ mod reply;
 mod seat;
 mod shared;
 mod shared_batch;
-mod silent;
+mod null_history;
 mod unrecorded;
 mod writer_state;
 
@@ -66,8 +66,8 @@ pub use entry::Entry;
 pub use entry_log::EntryLog;
 pub use ghost_history::{GhostHistory, HistorySnapshot};
 pub use history::History;
-pub use kept::{BatchState, KeptBatch, Stage};
-pub use kept_history::Kept;
+pub use stored_batch::{BatchState, StoredBatch, BatchStage};
+pub use memory_history::MemoryHistory;
 pub use limits::{MAX_BATCHES, MAX_ENTRIES, MAX_NUMBER, RUN_STEP};
 pub use logged::{LoggedCall, LoggedReply};
 pub use naming::{ExchangeBlank, ExchangeName};
@@ -83,5 +83,5 @@ pub use reply::Reply;
 pub use seat::Seat;
 pub use shared::Shared;
 pub use shared_batch::SharedBatch;
-pub use silent::Silent;
+pub use null_history::NullHistory;
 pub use unrecorded::Unrecorded;

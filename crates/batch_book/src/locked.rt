@@ -15,10 +15,10 @@ use crate::entry_log::EntryLog;
 use crate::naming::ExchangeName;
 use crate::noted::{NotedEntry, note_call};
 use crate::reply::Reply;
-use crate::seat::{Place, Seat, mark};
+use crate::seat::{SeatInner, Seat, mark};
 use crate::unrecorded::Unrecorded;
 use crossbar::ConfigPort;
-use own_lists::Keeper;
+use session_lists::Keeper;
 use peek_poke::WireMaker;
 use progress_word::ProgressWord;
 use schedule_certificate::Gate;
@@ -32,7 +32,7 @@ use std::thread::Threads;
 /// that the exchange's name says. The book was opened with the words that the name says. Where port
 /// and wires never fail, no run of the book has stopped.
 #[derive(Drop)]
-pub struct Locked<L: ExchangeName, P: ConfigPort, W: WireMaker, G, H: EntryLog> {
+pub struct LockedBook<L: ExchangeName, P: ConfigPort, W: WireMaker, G, H: EntryLog> {
     pub book: Book<H>,
     pub plant: Plant<P, W, G>,
     pub entries: ledger::Book<L>,
@@ -44,7 +44,7 @@ pub struct Locked<L: ExchangeName, P: ConfigPort, W: WireMaker, G, H: EntryLog> 
     pub ghost unstopped: { NeverFail P.ConfigPort W.is_sure → AreUnstopped book.history },
 }
 
-impl<L: ExchangeName, P: ConfigPort, W: WireMaker + Sync, G: Gate + Sync, H: EntryLog> Locked<
+impl<L: ExchangeName, P: ConfigPort, W: WireMaker + Sync, G: Gate + Sync, H: EntryLog> LockedBook<
     L,
     P,
     W,
@@ -77,7 +77,7 @@ impl<L: ExchangeName, P: ConfigPort, W: WireMaker + Sync, G: Gate + Sync, H: Ent
     }
 
     /// Notes that all that the seat has asked can be told.
-    pub fn settle(&mut self, seat: &mut Seat<L>)
+    pub fn sync(&mut self, seat: &mut Seat<L>)
         requires { IsSome seat.old.exchange }
         ensures book { self.new.book ≡ self.old.book }
         ensures seat { seat.new ≡ record seat.old { log = seat.old.asked } }
@@ -90,7 +90,7 @@ impl<L: ExchangeName, P: ConfigPort, W: WireMaker + Sync, G: Gate + Sync, H: Ent
     }
 
     // Notes that all that a session has asked can be told.
-    fn mark(&mut self, session: usize, place: Place<L>) -> Place<L>
+    fn mark(&mut self, session: usize, place: SeatInner<L>) -> SeatInner<L>
         requires session { place.own.session ≡ session }
         ensures book { self.new.book ≡ self.old.book }
         ensures access { result.access ≡ place.access }
@@ -108,9 +108,9 @@ impl<L: ExchangeName, P: ConfigPort, W: WireMaker + Sync, G: Gate + Sync, H: Ent
         rt: &R,
         word: &ProgressWord,
         session: usize,
-        place: Place<L>,
+        place: SeatInner<L>,
         call: Call,
-    ) -> (Result<Reply, Unrecorded>, Place<L>)
+    ) -> (Result<Reply, Unrecorded>, SeatInner<L>)
         requires word { place.access.watcher.word ≡ word.now }
         requires session { place.own.session ≡ session }
         ensures reply { IfOk result.0 (IsReplyTo call) }
@@ -124,11 +124,11 @@ impl<L: ExchangeName, P: ConfigPort, W: WireMaker + Sync, G: Gate + Sync, H: Ent
         ensures session { result.1.own.session ≡ session }
         ensures loses { OnErr result.0 (H.loses ≡ true) }
     {
-        let Place {
+        let SeatInner {
             access,
             own,
             last,
-            waits: _,
+            has_pending: _,
             broken,
         } = place;
         let ExchangeAccess {
@@ -164,11 +164,11 @@ impl<L: ExchangeName, P: ConfigPort, W: WireMaker + Sync, G: Gate + Sync, H: Ent
         let broken = is_broken(&made, broken);
         (
             made,
-            Place {
+            SeatInner {
                 access,
                 own,
                 last,
-                waits: true,
+                has_pending: true,
                 broken,
             },
         )

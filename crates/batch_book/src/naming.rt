@@ -4,7 +4,7 @@ ghost use Rattle.std.specs.Prelude.{◌≡◌, IfOk};
 ghost use Rattle.progress_word.specs.declared.limits.TheConstants.{ALL_PARTS};
 
 use crate::noted::NotedEntry;
-use own_lists::{Fresh, HistoryName};
+use session_lists::{Fresh, HistoryName};
 use progress_word::ALL_PARTS;
 use std::alloc::{AllocError, Global};
 use std::marker::Brand;

@@ -8,7 +8,7 @@ use crate::ghost_history::HistorySnapshot;
 use crate::naming::ExchangeName;
 use crate::reply::Reply;
 use crate::unrecorded::Unrecorded;
-use own_lists::{Keeper, OfSession, OwnList};
+use session_lists::{Keeper, SessionItem, OwnList};
 use std::marker::Model;
 use std::snapshot::Snapshot;
 use std::sync::ledger;
@@ -39,7 +39,7 @@ impl Model for NotedEntry {
     } };
 }
 
-impl OfSession for NotedEntry {
+impl SessionItem for NotedEntry {
     ghost session = { λ n. n.session };
 }
 
@@ -74,15 +74,15 @@ impl NotedEntry {
         side: usize,
         place: u64,
         all: &HistorySnapshot,
-        handed: &HistorySnapshot,
+        queued: &HistorySnapshot,
     ) -> NotedEntry
-        ensures { result ≡ side_note side place all.now.value.value handed.now.value.value }
+        ensures { result ≡ side_note side place all.now.value.value queued.now.value.value }
     {
         NotedEntry {
             session: Snapshot::of(&side),
             made: None,
             place: Snapshot::of(&place),
-            lists: Some((Snapshot::of(all), Snapshot::of(handed))),
+            lists: Some((Snapshot::of(all), Snapshot::of(queued))),
         }
     }
 }

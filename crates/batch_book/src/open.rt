@@ -5,7 +5,7 @@ ghost use Rattle.exchange_limits.specs.declared.limits.TheConstants.{MAX_SESSION
 ghost use Rattle.progress_word.specs.declared.limits.TheConstants.{ALL_PARTS};
 ghost use Rattle.progress_word.specs.Watchers.{watcher_view};
 ghost use Rattle.batch_book.specs.Exchanges.{AreNew};
-ghost use Rattle.batch_book.specs.History.{AreUnstopped, new_account};
+ghost use Rattle.batch_book.specs.History.{AreUnstopped, new_book_view};
 ghost use Rattle.batch_book.specs.declared.limits.TheConstants.{BOOK_SIDE, RECORD_SIDE};
 ghost use Rattle.batch_book.specs.Naming.{IsNamed};
 ghost use Rattle.batch_book.specs.Replies.{NeverFail};
@@ -16,18 +16,18 @@ use crate::book::{Book, lend};
 use crate::book_state::BookState;
 use crate::commit_queue::CommitQueue;
 use crate::history::History;
-use crate::kept_history::Kept;
-use crate::locked::Locked;
+use crate::memory_history::MemoryHistory;
+use crate::locked::LockedBook;
 use crate::naming::{ExchangeBlank, ExchangeName};
 use crate::noted::NotedEntry;
 use crate::recorder::Recorder;
 use crate::seat::Seat;
-use crate::shared::{Shared, Sides};
-use crate::writer_state::{Detached, WriterState};
+use crate::shared::{Shared, Locks};
+use crate::writer_state::{GroupCommit, WriterState};
 use crossbar::ConfigPort;
 use exchange_limits::MAX_SESSIONS;
 use module_memory::Rack;
-use own_lists::{Keeper, OwnList};
+use session_lists::{Keeper, OwnList};
 use peek_poke::WireMaker;
 use progress_word::{ALL_PARTS, ProgressWord, Watcher};
 use setting_runner::Plant;
@@ -50,7 +50,7 @@ pub enum SharedFault {
 
 /// What an exchange of so many sessions takes memory for, beside its book.
 #[derive(Drop)]
-struct Places<L: ExchangeName> {
+struct SeatStorage<L: ExchangeName> {
     word: ProgressWord,
     watcher: Watcher,
     // None yet, but room for all.
@@ -63,9 +63,9 @@ struct Places<L: ExchangeName> {
     ghost few: { sessions ≤ MAX_SESSIONS },
 }
 
-impl<L: ExchangeName> Places<L> {
-    fn new(alloc: Global, sessions: usize) -> Result<Places<L>, SharedFault>
-        ensures sessions { IfOk result (λ places. places.sessions ≡ sessions) }
+impl<L: ExchangeName> SeatStorage<L> {
+    fn new(alloc: Global, sessions: usize) -> Result<SeatStorage<L>, SharedFault>
+        ensures sessions { IfOk result (λ storage. storage.sessions ≡ sessions) }
         ensures bad { IfErr result (λ fault.
             (fault ≡ SharedFault.BadSessions) ↔ ((sessions ≡ 0) ⊎ (MAX_SESSIONS < sessions))) }
     {
@@ -78,7 +78,7 @@ impl<L: ExchangeName> Places<L> {
         let Ok((word, watcher)) = ProgressWord::new(alloc) else {
             return Err(SharedFault::NoMemory);
         };
-        Ok(Places {
+        Ok(SeatStorage {
             word,
             watcher,
             seats,
@@ -87,7 +87,7 @@ impl<L: ExchangeName> Places<L> {
     }
 }
 
-impl<L: ExchangeName, P: ConfigPort, W: WireMaker, G> Shared<L, P, W, G, Kept> {
+impl<L: ExchangeName, P: ConfigPort, W: WireMaker, G> Shared<L, P, W, G, MemoryHistory> {
     /// An exchange over this rack and plant, and a seat for each session, from 1 to
     /// [`MAX_SESSIONS`] of them. The sessions are numbered from 0, in the order of the seats. Blank
     /// and rack are those that the exchange is named by.
@@ -101,10 +101,10 @@ impl<L: ExchangeName, P: ConfigPort, W: WireMaker, G> Shared<L, P, W, G, Kept> {
         plant: Plant<P, W, G>,
         sessions: usize,
     ) -> Result<
-        (Shared<L, P, W, G, Kept>, Vec<Seat<L>>),
+        (Shared<L, P, W, G, MemoryHistory>, Vec<Seat<L>>),
         (ExchangeBlank, Rack, Plant<P, W, G>, SharedFault),
     >
-        requires { IsNamed L.name L.parts L.table L.opening L.earlier blank (new_account rack) }
+        requires { IsNamed L.name L.parts L.table L.opening L.earlier blank (new_book_view rack) }
         ensures sessions { OnOk result ((1 ≤ sessions) × (sessions ≤ MAX_SESSIONS)) }
         ensures shape { IfOk result (λ made. made.0.shape ≡ rack.shape) }
         ensures seats { IfOk result (λ made. AreNew made.0.word 0 sessions made.1.items) }
@@ -114,12 +114,12 @@ impl<L: ExchangeName, P: ConfigPort, W: WireMaker, G> Shared<L, P, W, G, Kept> {
         ensures bad { IfErr result (λ back.
             (back.3 ≡ SharedFault.BadSessions) ↔ ((sessions ≡ 0) ⊎ (MAX_SESSIONS < sessions))) }
     {
-        let places = match Places::new(alloc, sessions) {
-            Ok(places) => places,
+        let storage = match SeatStorage::new(alloc, sessions) {
+            Ok(storage) => storage,
             Err(fault) => return Err((blank, rack, plant, fault)),
         };
         match Book::new(alloc, rack) {
-            Ok(book) => Ok(assemble(alloc, blank, book, plant, places)),
+            Ok(book) => Ok(assemble(alloc, blank, book, plant, storage)),
             Err((rack, _)) => Err((blank, rack, plant, SharedFault::NoMemory)),
         }
     }
@@ -149,8 +149,8 @@ impl<L: ExchangeName, P: ConfigPort, W: WireMaker, G, H: History> Shared<L, P, W
         ensures bad { IfErr result (λ back.
             (back.3 ≡ SharedFault.BadSessions) ↔ ((sessions ≡ 0) ⊎ (MAX_SESSIONS < sessions))) }
     {
-        match Places::new(alloc, sessions) {
-            Ok(places) => Ok(assemble(alloc, blank, book, plant, places)),
+        match SeatStorage::new(alloc, sessions) {
+            Ok(storage) => Ok(assemble(alloc, blank, book, plant, storage)),
             Err(fault) => Err((blank, book, plant, fault)),
         }
     }
@@ -162,19 +162,19 @@ fn assemble<L: ExchangeName, P: ConfigPort, W: WireMaker, G, H: History>(
     blank: ExchangeBlank,
     book: Book<H>,
     plant: Plant<P, W, G>,
-    places: Places<L>,
+    storage: SeatStorage<L>,
 ) -> (Shared<L, P, W, G, H>, Vec<Seat<L>>)
     requires named { IsNamed L.name L.parts L.table L.opening L.earlier blank book }
     requires unstopped { NeverFail P.ConfigPort W.is_sure → AreUnstopped book.history }
     ensures shape { result.0.shape ≡ book.machine.store.shape }
-    ensures seats { AreNew result.0.word (greatest book.history) places.sessions result.1.items }
+    ensures seats { AreNew result.0.word (greatest book.history) storage.sessions result.1.items }
 {
-    let Places {
+    let SeatStorage {
         word,
         mut watcher,
         seats,
         sessions,
-    } = places;
+    } = storage;
     let shape = book.rack().shape();
     word.raise(&mut watcher, book.furthest());
     word.load(&mut watcher);
@@ -187,8 +187,8 @@ fn assemble<L: ExchangeName, P: ConfigPort, W: WireMaker, G, H: History>(
         parts: ALL_PARTS,
     };
     let seats = deal(&word, &mut keeper, seats, all, sessions);
-    let sides = part(alloc, book, plant, entries, keeper, sessions);
-    (Shared::of(sides, word, shape), seats)
+    let locks = part(alloc, book, plant, entries, keeper, sessions);
+    (Shared::of(locks, word, shape), seats)
 }
 
 // What lies under one lock, or under three where the history lends its recorder.
@@ -199,10 +199,10 @@ fn part<L: ExchangeName, P: ConfigPort, W: WireMaker, G, H: History>(
     entries: ledger::Book<L>,
     keeper: Keeper<NotedEntry, L>,
     sessions: usize,
-) -> Sides<L, P, W, G, H>
+) -> Locks<L, P, W, G, H>
     requires opening { book.opening ≡ L.opening }
     requires earlier { book.history ≡ L.earlier }
-    requires stand { book.stands ≡ L.earlier }
+    requires stand { book.durable ≡ L.earlier }
     requires whole { book.whole ≡ true }
     requires unstopped { NeverFail P.ConfigPort W.is_sure → AreUnstopped book.history }
     requires none { entries.total ≡ 0 }
@@ -213,7 +213,7 @@ fn part<L: ExchangeName, P: ConfigPort, W: WireMaker, G, H: History>(
     let (book, recorder) = match lend(book) {
         Ok(parts) => parts,
         Err(book) => {
-            return Sides::One(Mutex::new(Locked {
+            return Locks::Single(Mutex::new(LockedBook {
                 book,
                 plant,
                 entries,
@@ -223,12 +223,12 @@ fn part<L: ExchangeName, P: ConfigPort, W: WireMaker, G, H: History>(
     };
     let mut keeper = keeper;
     let (own, its) = deal_sides(&mut keeper, sessions);
-    let handed = book.past();
+    let queued = book.past();
     let taken = Snapshot::of(&book.past());
-    let gathers = recorder.gathers();
+    let groups_writes = recorder.groups_writes();
     // Asked for only for its contract, which says that no text is after all entries.
     recorder.is_whole();
-    Sides::Each(Detached {
+    Locks::Group(GroupCommit {
         book: Mutex::new(BookState {
             book,
             plant,
@@ -239,14 +239,14 @@ fn part<L: ExchangeName, P: ConfigPort, W: WireMaker, G, H: History>(
             text: Vec::new(alloc),
             count: 0,
             front: 0,
-            gathers,
+            groups_writes,
             due: 0,
             nap: 0,
             writes: false,
             round: 0,
             taken_over: 0,
             late: false,
-            handed,
+            queued,
             entries,
             keeper,
             of: PhantomData,
@@ -271,7 +271,7 @@ fn deal_sides<L: ExchangeName>(
     requires dealt { keeper.old.dealt ≡ sessions }
     requires few { sessions ≤ MAX_SESSIONS }
     ensures history { keeper.new.history ≡ [] }
-    ensures sides { (result.0.session ≡ BOOK_SIDE) × (result.1.session ≡ RECORD_SIDE) }
+    ensures locks { (result.0.session ≡ BOOK_SIDE) × (result.1.session ≡ RECORD_SIDE) }
     ensures lists { (result.0.list ≡ []) × (result.1.list ≡ []) }
 {
     for _list in sessions..MAX_SESSIONS {

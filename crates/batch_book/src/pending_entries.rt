@@ -2,7 +2,7 @@
 
 ghost use Rattle.std.specs.Prelude.{◌≡◌, ℕ, List, OnOk, OnErr};
 ghost use Rattle.batch_book.specs.declared.entry.Entry.{Entry};
-ghost use Rattle.batch_book.specs.History.{Starts};
+ghost use Rattle.batch_book.specs.History.{IsPrefix};
 
 use crate::entry_log::EntryLog;
 use crate::ghost_history::GhostHistory;
@@ -10,7 +10,7 @@ use std::alloc::AllocError;
 use std::snapshot::Snapshot;
 
 /// The entries of a history whose recorder is lent. What waits is handed on, and written by whoever
-/// has the recorder. Of these entries `stands` are those that were handed on.
+/// has the recorder. Of these entries `durable` are those that were handed on.
 pub trait PendingEntries: EntryLog {
     /// After these entries, of all of those, the text of the others.
     ghost texts: { List Entry → List Entry → List ℕ };
@@ -24,10 +24,10 @@ pub trait PendingEntries: EntryLog {
     fn queue_text(&mut self, text: &mut Vec<u8>) -> Result<(), AllocError>
         ensures pushed { Self.pushed self.new ≡ Self.pushed self.old }
         ensures whole { Self.whole self.new ≡ Self.whole self.old }
-        ensures all { OnOk result (Self.stands self.new ≡ Self.pushed self.old) }
-        ensures text { OnOk result ((taken : List Entry) → Starts taken (Self.stands self.old)
-            → text.old.items ≡ texts taken (Self.stands self.old)
+        ensures all { OnOk result (Self.durable self.new ≡ Self.pushed self.old) }
+        ensures text { OnOk result ((taken : List Entry) → IsPrefix taken (Self.durable self.old)
+            → text.old.items ≡ texts taken (Self.durable self.old)
             → text.new.items ≡ texts taken (Self.pushed self.old)) }
-        ensures none { OnErr result (Self.stands self.new ≡ Self.stands self.old) }
+        ensures none { OnErr result (Self.durable self.new ≡ Self.durable self.old) }
         ensures same { OnErr result (text.new.items ≡ text.old.items) };
 }

@@ -2,7 +2,7 @@
 
 ghost use Rattle.std.specs.Prelude.{◌≡◌, [], true, false, ℕ, Bool, List, OnOk, OnErr};
 ghost use Rattle.batch_book.specs.declared.entry.Entry.{Entry};
-ghost use Rattle.batch_book.specs.History.{Starts};
+ghost use Rattle.batch_book.specs.History.{IsPrefix};
 
 use crate::ghost_history::HistorySnapshot;
 use crate::unrecorded::Unrecorded;
@@ -12,7 +12,7 @@ use std::snapshot::Snapshot;
 /// of its own.
 pub trait Recorder {
     /// The entries that stand there, in order.
-    ghost stands: { Self → List Entry };
+    ghost durable: { Self → List Entry };
 
     /// Those that were taken over: some of the last ones may not stand there once a writing has failed.
     ghost tried: { Self → List Entry };
@@ -29,24 +29,24 @@ pub trait Recorder {
         ensures none { (all : List Entry) → texts all all ≡ [] };
 
     /// Whether a writing takes so long that who writes waits for more entries first.
-    fn gathers(&self) -> bool;
+    fn groups_writes(&self) -> bool;
 
     /// Writes the text of all of these entries that weren't taken over yet.
     fn append(&mut self, all: &HistorySnapshot, text: &[u8]) -> Result<(), Unrecorded>
         requires whole { whole self.old ≡ true }
-        requires first { Starts (tried self.old) all.now.value.value }
+        requires first { IsPrefix (tried self.old) all.now.value.value }
         requires text { text.now ≡ texts (tried self.old) all.now.value.value }
         ensures tried { tried self.new ≡ all.now.value.value }
-        ensures stands { OnOk result (stands self.new ≡ all.now.value.value) }
+        ensures durable { OnOk result (durable self.new ≡ all.now.value.value) }
         ensures whole { OnOk result (whole self.new ≡ true) }
-        ensures none { OnErr result (stands self.new ≡ stands self.old) }
+        ensures none { OnErr result (durable self.new ≡ durable self.old) }
         ensures lost { OnErr result (whole self.new ≡ false) };
 }
 
 /// What is in a recorder's place where a history writes all itself. It writes nothing.
 #[derive(Drop)]
 pub struct NoRecorder {
-    stands: Snapshot<HistorySnapshot>,
+    durable: Snapshot<HistorySnapshot>,
     tried: Snapshot<HistorySnapshot>,
     is_whole: bool,
 }
@@ -54,7 +54,7 @@ pub struct NoRecorder {
 impl Recorder for NoRecorder {
     ghost use Rattle.std.specs.Prelude.{[]};
 
-    ghost stands = { λ r. r.stands.value.value.value };
+    ghost durable = { λ r. r.durable.value.value.value };
 
     ghost tried = { λ r. r.tried.value.value.value };
 
@@ -66,7 +66,7 @@ impl Recorder for NoRecorder {
         self.is_whole
     }
 
-    fn gathers(&self) -> bool {
+    fn groups_writes(&self) -> bool {
         false
     }
 

@@ -3,7 +3,7 @@ ghost use Rattle.batch_book.specs.Replies.{is_logged};
 ghost use Rattle.batch_book.specs.Told.{IsKeptOf};
 ghost use Rattle.batch_book.specs.Values.{value_of};
 
-use crate::kept::BatchState;
+use crate::stored_batch::BatchState;
 use crate::limits::{MAX_NUMBER, RUN_STEP};
 use crate::refusal::BookRefusal;
 use batch::Batch;

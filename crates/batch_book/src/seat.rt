@@ -10,7 +10,7 @@ ghost use Rattle.batch_book.specs.Seats.{open_seat, raised_for};
 use crate::access::ExchangeAccess;
 use crate::naming::ExchangeName;
 use crate::noted::NotedEntry;
-use own_lists::{Keeper, OwnList};
+use session_lists::{Keeper, OwnList};
 use progress_word::ALL_PARTS;
 use std::marker::Model;
 
@@ -18,38 +18,38 @@ use std::marker::Model;
 /// entry, whether it may have asked something that can't be told yet, and whether the record of its
 /// calls is broken.
 #[derive(Drop)]
-pub(crate) struct Place<L: ExchangeName> {
+pub(crate) struct SeatInner<L: ExchangeName> {
     pub(crate) access: ExchangeAccess<L>,
     pub(crate) own: OwnList<NotedEntry, L>,
     pub(crate) last: u64,
-    pub(crate) waits: bool,
+    pub(crate) has_pending: bool,
     pub(crate) broken: bool,
     pub(crate) ghost counted: { access.share.amount ≡ length (made_in own.list) },
     pub(crate) ghost highest: { access.watcher.raised
         ≡ greatest (raised_for L.earlier own.session (made_in own.list)) },
     pub(crate) ghost low: { are_up_to last own.list ≡ true },
-    pub(crate) ghost settled: { waits ≡ false → marked_in own.list ≡ made_in own.list },
+    pub(crate) ghost settled: { has_pending ≡ false → marked_in own.list ≡ made_in own.list },
 }
 
-impl<L: ExchangeName> Place<L> {
+impl<L: ExchangeName> SeatInner<L> {
     /// The same where the record of its calls is broken.
-    pub(crate) fn break_off(self) -> Place<L>
+    pub(crate) fn break_off(self) -> SeatInner<L>
         ensures access { result.access ≡ self.access }
         ensures own { result.own ≡ self.own }
         ensures broken { result.broken ≡ true }
     {
-        let Place {
+        let SeatInner {
             access,
             own,
             last,
-            waits,
+            has_pending,
             broken: _,
         } = self;
-        Place {
+        SeatInner {
             access,
             own,
             last,
-            waits,
+            has_pending,
             broken: true,
         }
     }
@@ -59,8 +59,8 @@ impl<L: ExchangeName> Place<L> {
 pub(crate) fn mark<L: ExchangeName>(
     keeper: &mut Keeper<NotedEntry, L>,
     session: usize,
-    place: Place<L>,
-) -> Place<L>
+    place: SeatInner<L>,
+) -> SeatInner<L>
     requires session { place.own.session ≡ session }
     ensures history { keeper.new.history ≡ keeper.old.history ++ mark session ∷ [] }
     ensures access { result.access ≡ place.access }
@@ -69,19 +69,19 @@ pub(crate) fn mark<L: ExchangeName>(
     ensures session { result.own.session ≡ session }
     ensures broken { result.broken ≡ place.broken }
 {
-    let Place {
+    let SeatInner {
         access,
         own,
         last,
-        waits: _,
+        has_pending: _,
         broken,
     } = place;
     let own = keeper.add(own, &NotedEntry::mark(session));
-    Place {
+    SeatInner {
         access,
         own,
         last,
-        waits: false,
+        has_pending: false,
         broken,
     }
 }
@@ -91,7 +91,7 @@ pub(crate) fn mark<L: ExchangeName>(
 pub struct Seat<L: ExchangeName> {
     pub(crate) session: usize,
     // There, but while a call is made.
-    pub(crate) place: Option<Place<L>>,
+    pub(crate) place: Option<SeatInner<L>>,
 }
 
 // Said once, so that no function that lets go of one has to say it again.
@@ -141,11 +141,11 @@ impl<L: ExchangeName> Seat<L> {
     {
         Seat {
             session,
-            place: Some(Place {
+            place: Some(SeatInner {
                 access,
                 own,
                 last: 0,
-                waits: false,
+                has_pending: false,
                 broken: false,
             }),
         }
@@ -170,17 +170,17 @@ impl<L: ExchangeName> Seat<L> {
     }
 
     /// Whether it may have asked something that can't be told yet.
-    pub fn waits(&self) -> bool
+    pub fn has_pending(&self) -> bool
         ensures { result ≡ false → self.now.log ≡ self.now.asked }
     {
         match &self.place {
-            Some(place) => place.waits,
+            Some(place) => place.has_pending,
             None => false,
         }
     }
 
     /// What the seat has of its exchange.
-    pub(crate) fn into_place(self) -> Place<L>
+    pub(crate) fn into_inner(self) -> SeatInner<L>
         requires { IsSome self.exchange }
         ensures word { Some result.access.watcher.word ≡ self.exchange }
         ensures seen { result.access.watcher.seen ≡ self.seen }

@@ -2,20 +2,20 @@
 
 ghost use Rattle.std.specs.Prelude.{◌≡◌, ◌≤◌, ◌<◌, true, false, Some, IfOk, OnErr};
 ghost use Rattle.batch_book.specs.Answering.{IsReplyTo};
-ghost use Rattle.batch_book.specs.Seats.{IsSameSeat, IsAsked, IsSettled, HasRaisedOwn};
+ghost use Rattle.batch_book.specs.Seats.{IsSameSeat, IsAsked, IsSynced, HasRaisedOwn};
 ghost use Rattle.batch_book.specs.Values.{value_at};
 
 use crate::call::Call;
 use crate::history::History;
-use crate::kept_history::Kept;
+use crate::memory_history::MemoryHistory;
 use crate::limits::RUN_STEP;
-use crate::locked::Locked;
+use crate::locked::LockedBook;
 use crate::naming::ExchangeName;
 use crate::reading::Reading;
 use crate::reply::Reply;
 use crate::seat::Seat;
 use crate::unrecorded::Unrecorded;
-use crate::writer_state::Detached;
+use crate::writer_state::GroupCommit;
 use batch::Shape;
 use crossbar::ConfigPort;
 use peek_poke::WireMaker;
@@ -30,13 +30,13 @@ use std::time::Clock;
 
 /// How often a call looks in a row whether the lock is free. That takes some microseconds, in which
 /// most calls of others are done.
-const LOOKS: usize = 30;
+const SPINS: usize = 30;
 
 /// How long it pauses between two looks.
 const PAUSES: usize = 10;
 
 /// How often it lets other threads run, before it sleeps until the lock is free.
-const TURNS: usize = 100;
+const YIELDS: usize = 100;
 
 /// Pauses between two looks.
 fn pause() {
@@ -46,8 +46,8 @@ fn pause() {
 }
 
 // What is under the lock, if it comes free within some looks.
-fn look<T>(lock: &Mutex<T>) -> Option<MutexGuard<'_, T>> {
-    for _ in 0..LOOKS {
+fn try_lock_spinning<T>(lock: &Mutex<T>) -> Option<MutexGuard<'_, T>> {
+    for _ in 0..SPINS {
         if let Some(guard) = lock.try_lock() {
             return Some(guard);
         }
@@ -58,9 +58,9 @@ fn look<T>(lock: &Mutex<T>) -> Option<MutexGuard<'_, T>> {
 
 // What is under the lock, once it is free. Who sleeps for it is woken by a call of the system, which
 // takes longer than most calls of a book. So a thread lets others run some times first.
-fn take<'b, T, R: Wait>(rt: &R, lock: &'b Mutex<T>) -> MutexGuard<'b, T> {
-    for _ in 0..TURNS {
-        if let Some(guard) = look(lock) {
+fn lock_spinning<'b, T, R: Wait>(rt: &R, lock: &'b Mutex<T>) -> MutexGuard<'b, T> {
+    for _ in 0..YIELDS {
+        if let Some(guard) = try_lock_spinning(lock) {
             return guard;
         }
         thread::yield_now();
@@ -72,19 +72,19 @@ fn take<'b, T, R: Wait>(rt: &R, lock: &'b Mutex<T>) -> MutexGuard<'b, T> {
 /// another, and beside them a word that says how far the runs have come. Each session calls from a
 /// [`Seat`] of its own. Contracts see which exchange it is, and the shape of its rack.
 #[derive(Drop)]
-pub struct Shared<L: ExchangeName, P: ConfigPort, W: WireMaker, G, H: History = Kept> {
-    sides: Sides<L, P, W, G, H>,
+pub struct Shared<L: ExchangeName, P: ConfigPort, W: WireMaker, G, H: History = MemoryHistory> {
+    locks: Locks<L, P, W, G, H>,
     word: ProgressWord,
     shape: Shape,
 }
 
 /// What lies under the locks of an exchange.
 #[derive(Drop)]
-pub(crate) enum Sides<L: ExchangeName, P: ConfigPort, W: WireMaker, G, H: History> {
+pub(crate) enum Locks<L: ExchangeName, P: ConfigPort, W: WireMaker, G, H: History> {
     /// All under one, where no entry can be lost.
-    One(Mutex<Locked<L, P, W, G, H>>),
+    Single(Mutex<LockedBook<L, P, W, G, H>>),
     /// The book, what waits and the record under one each, where the recorder is lent.
-    Each(Detached<L, P, W, G, H>),
+    Group(GroupCommit<L, P, W, G, H>),
 }
 
 impl<L: ExchangeName, P: ConfigPort, W: WireMaker, G, H: History> Model for Shared<L, P, W, G, H> {
@@ -99,24 +99,24 @@ impl<L: ExchangeName, P: ConfigPort, W: WireMaker, G, H: History> Model for Shar
 
 impl<L: ExchangeName, P: ConfigPort, W: WireMaker, G, H: History> Shared<L, P, W, G, H> {
     pub(crate) fn of(
-        sides: Sides<L, P, W, G, H>,
+        locks: Locks<L, P, W, G, H>,
         word: ProgressWord,
         shape: Shape,
     ) -> Shared<L, P, W, G, H>
         ensures { (result.word ≡ word) × (result.shape ≡ shape) }
     {
-        Shared { sides, word, shape }
+        Shared { locks, word, shape }
     }
 
-    pub(crate) fn into_parts(self) -> (Sides<L, P, W, G, H>, ProgressWord)
+    pub(crate) fn into_parts(self) -> (Locks<L, P, W, G, H>, ProgressWord)
         ensures { result.1 ≡ self.word }
     {
         let Shared {
-            sides,
+            locks,
             word,
             shape: _,
         } = self;
-        (sides, word)
+        (locks, word)
     }
 
     /// The shape of the rack. It takes no lock.
@@ -128,12 +128,12 @@ impl<L: ExchangeName, P: ConfigPort, W: WireMaker, G, H: History> Shared<L, P, W
 
     /// Whether the seat may have asked something that can't be told yet: never where no entry can be
     /// lost. It takes no lock.
-    pub fn waits(&self, seat: &Seat<L>) -> bool
+    pub fn has_pending(&self, seat: &Seat<L>) -> bool
         ensures { result ≡ true → H.loses ≡ true }
     {
-        match &self.sides {
-            Sides::One(_) => false,
-            Sides::Each(_) => seat.waits(),
+        match &self.locks {
+            Locks::Single(_) => false,
+            Locks::Group(_) => seat.has_pending(),
         }
     }
 
@@ -172,7 +172,7 @@ impl<L: ExchangeName, P: ConfigPort, W: WireMaker + Sync, G: Gate + Sync, H: His
     /// book. Call and reply are added to what the seat asked, where they are in the history. The
     /// seat has then seen what the reply tells of a run, and nothing new where it tells of none.
     ///
-    /// The reply may be told once the seat is [settled](Shared::settle): at once, where no entry can
+    /// The reply may be told once the seat is [settled](Shared::sync): at once, where no entry can
     /// be lost. Where entries were lost before, the call isn't made.
     ///
     /// It waits until the calls of other seats that go before it are done, runs included. It takes
@@ -189,10 +189,10 @@ impl<L: ExchangeName, P: ConfigPort, W: WireMaker + Sync, G: Gate + Sync, H: His
         ensures told { H.loses ≡ false → seat.new.log ≡ seat.new.asked }
         ensures loses { OnErr result (H.loses ≡ true) }
     {
-        match &self.sides {
-            Sides::One(locked) => take(rt, locked).call(rt, &self.word, seat, call),
-            Sides::Each(sides) => {
-                take(rt, &sides.book).call(rt, &sides.waiting, &self.word, seat, call)
+        match &self.locks {
+            Locks::Single(locked) => lock_spinning(rt, locked).call(rt, &self.word, seat, call),
+            Locks::Group(locks) => {
+                lock_spinning(rt, &locks.book).call(rt, &locks.waiting, &self.word, seat, call)
             }
         }
     }
@@ -219,20 +219,20 @@ impl<L: ExchangeName, P: ConfigPort, W: WireMaker + Sync, G: Gate + Sync, H: His
     /// Where the history lends its recorder one seat writes at a time, and others make calls
     /// meanwhile, runs included. Who settles meanwhile sleeps until that one has written, unless all
     /// of its own entries stand.
-    pub fn settle<R: Wait + Clock>(&self, rt: &R, seat: &mut Seat<L>) -> Result<(), Unrecorded>
+    pub fn sync<R: Wait + Clock>(&self, rt: &R, seat: &mut Seat<L>) -> Result<(), Unrecorded>
         requires { seat.old.exchange ≡ Some self.now.word }
-        ensures settled { IsSettled seat.old result seat.new }
+        ensures settled { IsSynced seat.old result seat.new }
         ensures loses { OnErr result (H.loses ≡ true) }
     {
-        if !seat.waits() {
+        if !seat.has_pending() {
             return Ok(());
         }
-        match &self.sides {
-            Sides::One(locked) => {
-                take(rt, locked).settle(seat);
+        match &self.locks {
+            Locks::Single(locked) => {
+                lock_spinning(rt, locked).sync(seat);
                 Ok(())
             }
-            Sides::Each(sides) => sides.settle(rt, seat),
+            Locks::Group(locks) => locks.sync(rt, seat),
         }
     }
 }

@@ -4,9 +4,9 @@ ghost use Rattle.std.specs.Prelude.{◌≡◌, ◌+◌, [], true, List, length, 
 ghost use Rattle.std.specs.Option.{option_map_or};
 ghost use Rattle.batch_book.specs.declared.entry.Entry.{Entry};
 ghost use Rattle.batch_book.specs.declared.limits.TheConstants.{RECORD_SIDE};
-ghost use Rattle.batch_book.specs.History.{Starts};
+ghost use Rattle.batch_book.specs.History.{IsPrefix};
 ghost use Rattle.batch_book.specs.Places.{last_place};
-ghost use Rattle.batch_book.specs.Seats.{IsSettled};
+ghost use Rattle.batch_book.specs.Seats.{IsSynced};
 ghost use Rattle.batch_book.specs.Sides.{side_lists};
 
 use crate::book_state::BookState;
@@ -20,7 +20,7 @@ use crate::recorder::Recorder;
 use crate::seat::Seat;
 use crate::unrecorded::Unrecorded;
 use crossbar::ConfigPort;
-use own_lists::OwnList;
+use session_lists::OwnList;
 use peek_poke::WireMaker;
 use std::sync::{Condvar, Mutex, MutexGuard, Wait};
 use std::thread::{sleep, yield_now};
@@ -29,9 +29,9 @@ use std::time::{Clock, Duration, Instant};
 /// How often a seat lets other threads run while more entries come, before it writes, or while
 /// another writes, before it sleeps: where none waits for the disk a writing is done sooner than who
 /// sleeps is woken.
-const TURNS: usize = 8;
+const YIELDS: usize = 8;
 /// How often it looks where who writes waits for more entries: not at all where that takes long.
-const LOOKS: usize = 2;
+const SPINS: usize = 2;
 
 /// The recorder, all that were taken over, the list of what was noted of these, and a spare buffer.
 #[derive(Drop)]
@@ -44,8 +44,8 @@ pub struct WriterState<L: ExchangeName, H: History> {
     pub ghost known: { (side_lists L.earlier (option_map_or (λ o. o.list) own [])).0
         ≡ taken.value.value },
     pub ghost tried: { H.Recorder.tried recorder ≡ taken.value.value },
-    pub ghost first: { Starts (H.Recorder.stands recorder) taken.value.value },
-    pub ghost many: { length (H.Recorder.stands recorder)
+    pub ghost first: { IsPrefix (H.Recorder.durable recorder) taken.value.value },
+    pub ghost many: { length (H.Recorder.durable recorder)
         ≡ length L.earlier + last_place 0 (option_map_or (λ o. o.list) own []) },
     pub ghost empty: { spare.items ≡ [] },
     pub ghost texts: { (taken all : List Entry)
@@ -65,7 +65,7 @@ impl<L: ExchangeName, H: History> WriterState<L, H> {
         let (all, count, own) = waiting.lock(rt).take_queue(own, &mut self.spare);
         match self.recorder.append(&all, self.spare.as_slice()) {
             Ok(()) => {
-                let own = waiting.lock(rt).stand(own, &all, count);
+                let own = waiting.lock(rt).mark_durable(own, &all, count);
                 self.own = Some(own);
                 self.taken = all;
                 self.spare.clear();
@@ -84,7 +84,7 @@ impl<L: ExchangeName, H: History> WriterState<L, H> {
 /// wait for that of what waits. Nobody waits for one of those two who has the other, or that of what
 /// waits.
 #[derive(Drop)]
-pub struct Detached<L: ExchangeName, P: ConfigPort, W: WireMaker, G, H: History> {
+pub struct GroupCommit<L: ExchangeName, P: ConfigPort, W: WireMaker, G, H: History> {
     pub book: Mutex<BookState<L, P, W, G, H::Pending>>,
     pub waiting: Mutex<CommitQueue<L, H::Pending>>,
     pub odd: Condvar,
@@ -94,7 +94,7 @@ pub struct Detached<L: ExchangeName, P: ConfigPort, W: WireMaker, G, H: History>
     pub ghost limited: { H.Pending.limited ≡ H.limited },
 }
 
-impl<L: ExchangeName, P: ConfigPort, W: WireMaker, G, H: History> Detached<L, P, W, G, H> {
+impl<L: ExchangeName, P: ConfigPort, W: WireMaker, G, H: History> GroupCommit<L, P, W, G, H> {
     /// Sees to it that all that the seat has asked can be told. While another seat writes, one whose
     /// last entry doesn't stand sleeps. Then it writes all that waits, if that entry still doesn't
     /// stand and no writing has failed. `Err` where one has, or there was no memory to hand the
@@ -103,9 +103,9 @@ impl<L: ExchangeName, P: ConfigPort, W: WireMaker, G, H: History> Detached<L, P,
     /// Each writing wakes all whose entries it wrote, and one of those who wait for the next one,
     /// which then writes. So who sleeps does so at `odd` or `even`, by the number of its entry's
     /// writing.
-    pub fn settle<R: Wait + Clock>(&self, rt: &R, seat: &mut Seat<L>) -> Result<(), Unrecorded>
+    pub fn sync<R: Wait + Clock>(&self, rt: &R, seat: &mut Seat<L>) -> Result<(), Unrecorded>
         requires { IsSome seat.old.exchange }
-        ensures { IsSettled seat.old result seat.new }
+        ensures { IsSynced seat.old result seat.new }
     {
         let last = match &seat.place {
             Some(place) => place.last,
@@ -115,16 +115,16 @@ impl<L: ExchangeName, P: ConfigPort, W: WireMaker, G, H: History> Detached<L, P,
         let writes = side.begin(last);
         let mut is_odd = false;
         if writes {
-            let (gathers, front) = (side.gathers, side.front);
+            let (groups_writes, front) = (side.groups_writes, side.front);
             gather(rt, &self.waiting, side);
-            let began = if gathers { Instant::now(rt).ok() } else { None };
+            let began = if groups_writes { Instant::now(rt).ok() } else { None };
             self.record.lock(rt).flush(rt, &self.waiting);
             side = self.waiting.lock(rt);
             side.end(front, micros_since(rt, began));
             is_odd = side.round % 2 == 1;
         }
         let wakes_all = side.wakes_all();
-        let settled = side.settle(seat);
+        let settled = side.sync(seat);
         drop(side);
         if writes {
             let (done, next) = if is_odd {
@@ -158,7 +158,7 @@ fn gather<L: ExchangeName, E: PendingEntries, R: Wait + Clock>(
     waiting: &Mutex<CommitQueue<L, E>>,
     side: MutexGuard<CommitQueue<L, E>>,
 ) {
-    let turns = if side.gathers { TURNS } else { 0 };
+    let turns = if side.groups_writes { YIELDS } else { 0 };
     let nap = Duration::from_micros(side.nap);
     let (mut count, due) = (side.count, side.due);
     drop(side);
@@ -188,9 +188,9 @@ fn wait_until_durable<'b, L: ExchangeName, E: PendingEntries, R: Wait>(
     place: u64,
 ) -> MutexGuard<'b, CommitQueue<L, E>> {
     let mut side = waiting.lock(rt);
-    let looks = match (side.gathers, side.nap) {
-        (false, _) => TURNS,
-        (true, 0) => LOOKS,
+    let looks = match (side.groups_writes, side.nap) {
+        (false, _) => YIELDS,
+        (true, 0) => SPINS,
         (true, _) => 0,
     };
     for _ in 0..looks {

@@ -7,7 +7,7 @@ use Rattle.std.proofs.lemmas.Bool.Decides.{nat_tests}
 use Rattle.batch.specs.Overlap.{transfer_at}
 use Rattle.batch.specs.declared.transfer.Transfer.{Transfer}
 use Rattle.board_wiring.specs.Boards.{IsFilled, modules_of}
-use Rattle.board_wiring.specs.Lacks.{HasWaysOn, has_way}
+use Rattle.board_wiring.specs.Missing.{HasWaysOn, has_way}
 use Rattle.board_wiring.specs.Modules.{are_rising, after_last, has_link0, has_link3}
 use Rattle.board_wiring.specs.declared.board.Board.{Board}
 use Rattle.board_wiring.specs.declared.wired_module.WiredModule.{WiredModule}

@@ -4,5 +4,5 @@ pub mod Faults
 pub mod Sources
 pub mod Filling
 pub mod Boards
-pub mod Lacks
+pub mod Missing
 pub mod Laws

@@ -10,7 +10,7 @@ use c004_commands::PORTS;
 use crossbar::JOINED_MODULES;
 
 /// The most modules that a board has.
-pub(crate) const MOST: usize = JOINED_MODULES as usize;
+pub(crate) const MAX_BOARD_MODULES: usize = JOINED_MODULES as usize;
 
 /// Which links of a board's one switch link 0 and link 3 of each of its modules are on, where they
 /// are on one. The modules' numbers are below [`JOINED_MODULES`], and some may be left out. No two
@@ -18,7 +18,7 @@ pub(crate) const MOST: usize = JOINED_MODULES as usize;
 #[derive(Clone, Copy)]
 pub struct Board {
     // What the modules are on, by rising numbers, and after them anything.
-    lines: [WiredModule; MOST],
+    lines: [WiredModule; MAX_BOARD_MODULES],
     count: usize,
     ghost few: { count ≤ JOINED_MODULES },
     ghost own: { IsTrue (are_wired (take count lines)) },
@@ -37,7 +37,7 @@ impl Board {
             link3: None,
         };
         Board {
-            lines: [line; MOST],
+            lines: [line; MAX_BOARD_MODULES],
             count: 0,
         }
     }
@@ -81,7 +81,7 @@ impl Board {
     fn has_room_for(&self, on: &WiredModule) -> bool
         ensures { result ≡ are_wired (modules_of self.now ++ on.now ∷ []) }
     {
-        if on.number < self.width() || on.number >= MOST {
+        if on.number < self.width() || on.number >= MAX_BOARD_MODULES {
             return false;
         }
         self.is_free(on.link0) && self.is_free(on.link3) && !are_one(on.link0, on.link3)

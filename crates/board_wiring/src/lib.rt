@@ -9,7 +9,7 @@
 //! [`read_wiring`] gives the [`Board`] of a text (`Denotes` of `specs/Text.antt`), or the text's
 //! first line at fault (`IsFirstBad` of `specs/Faults.antt`). A text has one of each at most, and
 //! never both (`laws::one_reading`). Where a rack may be such a board or not, as its caller says,
-//! [`read_board`] gives the board (`specs/Boards.antt`). [`read_lack`] gives the refusal of the
+//! [`read_board`] gives the board (`specs/Boards.antt`). [`read_missing`] gives the refusal of the
 //! first transfer of a batch that needs what the board hasn't (`specs/Lacks.antt`).
 //!
 //! The switches below know wirings that leave nothing out. [`Board::wiring`] fills what is left out
@@ -20,7 +20,7 @@ mod board;
 mod boards;
 mod fault;
 mod filling;
-mod lacks;
+mod missing;
 pub mod laws;
 mod reading;
 mod wired_module;
@@ -28,6 +28,6 @@ mod wired_module;
 pub use board::Board;
 pub use boards::{read_board, wiring_of};
 pub use fault::WiringFault;
-pub use lacks::read_lack;
+pub use missing::read_missing;
 pub use reading::read_wiring;
 pub use wired_module::WiredModule;

@@ -9,7 +9,7 @@ ghost use Rattle.board_wiring.specs.declared.wired_module.WiredModule.{WiredModu
 ghost use Rattle.c004_commands.specs.declared.port.TheConstants.{PORTS};
 ghost use Rattle.crossbar.specs.declared.switch.TheConstants.{JOINED_MODULES};
 
-use crate::board::{Board, MOST};
+use crate::board::{Board, MAX_BOARD_MODULES};
 use crate::fault::WiringFault;
 use crate::wired_module::WiredModule;
 use batch::number_before;
@@ -17,7 +17,7 @@ use c004_commands::PORTS;
 use line_words::rest_after;
 
 /// A number after these words, and what stands after the byte that ends it, which is no digit.
-fn number_behind<'a>(bytes: &'a [u8], words: &[u8], end: u8) -> Option<(usize, &'a [u8])>
+fn number_after_words<'a>(bytes: &'a [u8], words: &[u8], end: u8) -> Option<(usize, &'a [u8])>
     requires { IsDigit end → ⊥ }
     ensures some { IfSome result (λ x. IsNumber x.0
         × (bytes.entry.now ≡ words.now ++ (number x.0 end ++ x.1.now))) }
@@ -54,7 +54,7 @@ fn link_after(bytes: &[u8], end: u8) -> Option<(u8, &[u8])>
     ensures none { IfNone result ((n : ℕ) (rest : List ℕ) → n < PORTS →
         bytes.now ≢ codes "at " ++ (number n end ++ rest)) }
 {
-    let (n, rest) = number_behind(bytes, b"at ", end)?;
+    let (n, rest) = number_after_words(bytes, b"at ", end)?;
     if n >= PORTS as usize {
         return None;
     }
@@ -66,8 +66,8 @@ fn first_line(text: &[u8]) -> Option<(usize, &[u8])>
     ensures some { IfSome result (λ x. IsHeaded text.now x.0 x.1.now) }
     ensures none { IfNone result (HasNoHead text.now) }
 {
-    let (count, rest) = number_behind(text, b"wiring ", b'\n')?;
-    if count == 0 || count > MOST {
+    let (count, rest) = number_after_words(text, b"wiring ", b'\n')?;
+    if count == 0 || count > MAX_BOARD_MODULES {
         return None;
     }
     Some((count, rest))
@@ -79,8 +79,8 @@ fn module_line(bytes: &[u8]) -> Option<(WiredModule, &[u8])>
     ensures none { IfNone result ((on : WiredModule) (rest : List ℕ) → HasPorts on →
         bytes.now ≢ line on ++ rest) }
 {
-    let (number, rest) = number_behind(bytes, b"module ", b' ')?;
-    if number >= MOST {
+    let (number, rest) = number_after_words(bytes, b"module ", b' ')?;
+    if number >= MAX_BOARD_MODULES {
         return None;
     }
     let (link0, rest) = place_after(rest, b"link 0 ", b' ')?;

@@ -6,7 +6,7 @@ use Rattle.line_words.proofs.line.Line.TheSendSync as line
 use Rattle.client_session.proofs.reply_line.ReplyLine.TheSendSync as reply_line
 use Rattle.batch_book.specs.contracts.ghost_history.GhostHistory as GhostHistory
 use Rattle.book_record.specs.declared.naming.StreamName as StreamName
-use Rattle.book_record.specs.contracts.streamed.Streamed as Streamed
+use Rattle.book_record.specs.contracts.stream_history.StreamHistory as StreamHistory
 use Rattle.book_record.specs.contracts.pending_text.PendingText as PendingText
 use Rattle.book_record.specs.contracts.pending_text.PendingText.TheInside as Inside
 use denote.RattleType.{RattleType}
@@ -23,5 +23,5 @@ waiting_send =
     (recorded_send Inside.the_field.row _ _ T.to_one
     (struct_send (shape T) (search (crosses, sendable) depth 20, (search sendable depth 20, (search sendable depth 20, (line.the_send, (reply_line.the_send, (past_send, (search sendable depth 20, tt)))))))))
 
-pub streamed_send : (W N : RattleType) (w : Write.Ghosts W.Denot) (n : StreamName.Ghosts N.Denot) → IsSend W → IsSend N → IsSend (Streamed.the_row W N w n)
+pub streamed_send : (W N : RattleType) (w : Write.Ghosts W.Denot) (n : StreamName.Ghosts N.Denot) → IsSend W → IsSend N → IsSend (StreamHistory.the_row W N w n)
 streamed_send W N w n sw sn = let x = waiting_send in search (crosses, sendable) depth 60 fits 20000

@@ -9,7 +9,7 @@ use Rattle.std.proofs.lemmas.List.{append_cancel_left, get_or_append_left, get_o
 use Rattle.std.proofs.lemmas.List.Quantifiers.{all_pairs_push}
 use Rattle.std.proofs.lemmas.List.Elements.{All-append, All-cons, All-head, All-nil, All-push, All-tail}
 use Rattle.std.proofs.lemmas.Grind.{flat_map-append}
-use Rattle.batch.specs.Extent.{Extent, IsShape}
+use Rattle.batch.specs.ShapeView.{ShapeView, IsShape}
 use Rattle.batch.specs.ShapeText.{shape_text}
 use Rattle.batch.specs.Text.{IsNumber, space, line_feed}
 use Rattle.batch.proofs.Shapes.{one_shape}
@@ -29,7 +29,7 @@ no_space n k d less same = let so = (solid_decimal n k d less).0 in omega (arith
 no_space_in_x : All (IsNot space) (codes "x")
 no_space_in_x = All-cons (IsNot space) 120 [] (λ e. omega (arith, e)) (All-nil (IsNot space))
 
-pub spaceless : (e : Extent) → All (IsNot space) (shape_text e)
+pub spaceless : (e : ShapeView) → All (IsNot space) (shape_text e)
 spaceless e =
     let P = IsNot space in
     let m = decimal e.modules in
@@ -37,7 +37,7 @@ spaceless e =
     All-append P (m ++ codes "x" ++ k ++ codes "x") (decimal e.words)
     (All-append P (m ++ codes "x" ++ k) (codes "x") (All-append P (m ++ codes "x") k (All-append P m (codes "x") (no_space e.modules) no_space_in_x) (no_space e.blocks)) no_space_in_x) (no_space e.words)
 
-rack_plain : (e : Extent) (sum n : ℕ) → IsPlain (rack_words e sum n)
+rack_plain : (e : ShapeView) (sum n : ℕ) → IsPlain (rack_words e sum n)
 rack_plain e sum n =
     both (words (codes "record-2 ") refl) (both (both (both (both (both (decimal_plain e.modules) (words (codes "x") refl)) (decimal_plain e.blocks)) (words (codes "x") refl)) (decimal_plain e.words))
     (both (words (space ∷ []) refl) (both (hex8_plain sum) (both (words (space ∷ []) refl) (decimal_plain n)))))
@@ -46,7 +46,7 @@ one_hex_front : (a b : ℕ) (x y : List ℕ) → IsWord a → IsWord b → hex8 
 one_hex_front a b x y fa fb same = (one_hex8 a b fa fb (hex8_in_front a b (space ∷ x) (space ∷ y) same), after_hex8 _ x y a b refl same)
 
 -- what stands before the space of a line that is read, and after it
-pub shape_there : (line rest : List ℕ) (end : ℕ) (e : Extent) (sum n : ℕ) → line ≡ codes "record-2 " ++ rest → position (λ b. b == space) rest ≡ Some end → line ≡ rack_words e sum n → (take end rest ≡ shape_text e) × (drop (end + 1) rest ≡ hex8 sum ++ space ∷ decimal n)
+pub shape_there : (line rest : List ℕ) (end : ℕ) (e : ShapeView) (sum n : ℕ) → line ≡ codes "record-2 " ++ rest → position (λ b. b == space) rest ≡ Some end → line ≡ rack_words e sum n → (take end rest ≡ shape_text e) × (drop (end + 1) rest ≡ hex8 sum ++ space ∷ decimal n)
 shape_there line rest end e sum n is at same =
     let here = byte_at space rest end at in
     first_at space (take end rest) (shape_text e) _ _ here.1 (spaceless e) (sym here.2 ∙ after_word line (codes "record-2 ") rest _ is same)
@@ -54,19 +54,19 @@ shape_there line rest end e sum n is at same =
 pub no_count : (s sum n : ℕ) (digits there : List ℕ) → IsWord s × (there ≡ hex8 s ++ space ∷ digits) → IsWord sum → there ≡ hex8 sum ++ space ∷ decimal n → digits ≡ decimal n
 no_count s sum n digits there read word same = (one_hex_front s sum digits (decimal n) read.0 word (sym read.1 ∙ same)).1
 
-pub rack_spelled : (line rest digits : List ℕ) (end : ℕ) (e : Extent) (sum n : ℕ) → line ≡ codes "record-2 " ++ rest → position (λ b. b == space) rest ≡ Some end → take end rest ≡ shape_text e → drop (end + 1) rest ≡ hex8 sum ++ space ∷ digits → digits ≡ decimal n
+pub rack_spelled : (line rest digits : List ℕ) (end : ℕ) (e : ShapeView) (sum n : ℕ) → line ≡ codes "record-2 " ++ rest → position (λ b. b == space) rest ≡ Some end → take end rest ≡ shape_text e → drop (end + 1) rest ≡ hex8 sum ++ space ∷ digits → digits ≡ decimal n
     → line ≡ rack_words e sum n
 rack_spelled line rest digits end e sum n is at shape hex count =
     is ∙ ap (λ (l : List ℕ). codes "record-2 " ++ l) ((byte_at space rest end at).2 ∙ ap (λ (l : List ℕ). l ++ space ∷ drop (end + 1) rest) shape
     ∙ ap (λ (l : List ℕ). shape_text e ++ space ∷ l) (hex ∙ ap (λ (l : List ℕ). hex8 sum ++ space ∷ l) count))
 
-record OneRackLine (e f : Extent) (s t n m : ℕ) (x y : List ℕ) : Type 0 where
+record OneRackLine (e f : ShapeView) (s t n m : ℕ) (x y : List ℕ) : Type 0 where
   shape : e ≡ f
   sum : s ≡ t
   count : n ≡ m
   rest : x ≡ y
 
-one_rack_line : (e f : Extent) (s t n m : ℕ) (x y : List ℕ) → IsShape e → IsShape f → IsWord s → IsWord t → IsNumber n → IsNumber m → rack_line e s n ++ x ≡ rack_line f t m ++ y → OneRackLine e f s t n m x y
+one_rack_line : (e f : ShapeView) (s t n m : ℕ) (x y : List ℕ) → IsShape e → IsShape f → IsWord s → IsWord t → IsNumber n → IsNumber m → rack_line e s n ++ x ≡ rack_line f t m ++ y → OneRackLine e f s t n m x y
 one_rack_line e f s t n m x y p q ws wt fn fm same =
     let line = first_line x y (rack_plain e s n) (rack_plain f t m) same in
     let shape = first_at space (shape_text e) (shape_text f) _ _ (spaceless e) (spaceless f) (append_cancel_left (codes "record-2 ") _ _ line.0) in
@@ -243,12 +243,12 @@ names_all text rest k n read same few = (read.names, (record { count = read.coun
 
 -- ---- one head
 
-head_form : (e : Extent) (s : ℕ) (names : List (List ℕ)) (x : List ℕ) → head_of e s names ++ x ≡ rack_line e s (length names) ++ (flat_map client_line names ++ (sum_line (sum_at 0 (head_lines e s names)) ++ x))
+head_form : (e : ShapeView) (s : ℕ) (names : List (List ℕ)) (x : List ℕ) → head_of e s names ++ x ≡ rack_line e s (length names) ++ (flat_map client_line names ++ (sum_line (sum_at 0 (head_lines e s names)) ++ x))
 head_form e s names x =
     let sum = sum_line (sum_at 0 (head_lines e s names)) in
     append_assoc (head_lines e s names) sum x ∙ append_assoc (rack_line e s (length names)) (flat_map client_line names) (sum ++ x)
 
-line_form : (e : Extent) (s : ℕ) (names : List (List ℕ)) (x : List ℕ) → head_of e s names ++ x ≡ rack_words e s (length names) ++ line_feed ∷ (flat_map client_line names ++ (sum_line (sum_at 0 (head_lines e s names)) ++ x))
+line_form : (e : ShapeView) (s : ℕ) (names : List (List ℕ)) (x : List ℕ) → head_of e s names ++ x ≡ rack_words e s (length names) ++ line_feed ∷ (flat_map client_line names ++ (sum_line (sum_at 0 (head_lines e s names)) ++ x))
 line_form e s names x = head_form e s names x ∙ append_assoc (rack_words e s (length names)) (line_feed ∷ []) _
 
 -- no head where no line ends, nor where the first is that of none
@@ -263,24 +263,24 @@ no_first text end at none e sum n names rest p word are same =
     (first_at line_feed (take end text) (rack_words e sum (length names)) _ _ here.1 (without_feed (rack_plain e sum (length names))) (sym here.2 ∙ same ∙ line_form e sum names rest)).0
 
 -- the same shape, sum and names, and one rest
-pub record IsSameHead (e f : Extent) (s t : ℕ) (ns ms : List (List ℕ)) (x y : List ℕ) : Type 0 where
+pub record IsSameHead (e f : ShapeView) (s t : ℕ) (ns ms : List (List ℕ)) (x y : List ℕ) : Type 0 where
   pub shape : e ≡ f
   pub sum : s ≡ t
   pub names : ns ≡ ms
   pub rest : x ≡ y
 
 -- after the names of a head stands its sum
-one_front : (e f : Extent) (s t : ℕ) (ns ms : List (List ℕ)) (rest y : List ℕ) → IsShape e → IsShape f → IsWord s → IsWord t → AreNames ns (length ns) → AreNames ms (length ms)
+one_front : (e f : ShapeView) (s t : ℕ) (ns ms : List (List ℕ)) (rest y : List ℕ) → IsShape e → IsShape f → IsWord s → IsWord t → AreNames ns (length ns) → AreNames ms (length ms)
     → rack_line e s (length ns) ++ (flat_map client_line ns ++ rest) ≡ head_of f t ms ++ y → IsSameHead e f s t ns ms rest (sum_line (sum_at 0 (head_lines e s ns)) ++ y)
 one_front e f s t ns ms rest y p q ws wt names others same =
     let line = one_rack_line e f s t (length ns) (length ms) _ _ p q ws wt (few_number (length ns) names.few) (few_number (length ms) others.few) (same ∙ head_form f t ms y) in
     let more = one_names ns ms _ _ line.count names.each others.each line.rest in
     let lines : head_lines f t ms ≡ head_lines e s ns =
-    ap (λ (l : List (List ℕ)). head_lines f t l) (sym more.0) ∙ ap (λ (k : ℕ). head_lines f k ns) (sym line.sum) ∙ ap (λ (g : Extent). head_lines g s ns) (sym line.shape) in
+    ap (λ (l : List (List ℕ)). head_lines f t l) (sym more.0) ∙ ap (λ (k : ℕ). head_lines f k ns) (sym line.sum) ∙ ap (λ (g : ShapeView). head_lines g s ns) (sym line.shape) in
     record { shape = line.shape; sum = line.sum; names = more.0; rest = more.1 ∙ ap (λ (l : List ℕ). sum_line (sum_at 0 l) ++ y) lines }
 
 -- a text has one head at most
-pub one_head : (e f : Extent) (s t : ℕ) (names others : List (List ℕ)) (x y : List ℕ) → IsShape e → IsShape f → IsWord s → IsWord t → AreNames names (length names) → AreNames others (length others)
+pub one_head : (e f : ShapeView) (s t : ℕ) (names others : List (List ℕ)) (x y : List ℕ) → IsShape e → IsShape f → IsWord s → IsWord t → AreNames names (length names) → AreNames others (length others)
     → head_of e s names ++ x ≡ head_of f t others ++ y → IsSameHead e f s t names others x y
 one_head e f s t ns ms x y p q ws wt names others same =
     let sum = sum_line (sum_at 0 (head_lines e s ns)) in
@@ -288,13 +288,13 @@ one_head e f s t ns ms x y p q ws wt names others same =
     record { shape = one.shape; sum = one.sum; names = one.names; rest = append_cancel_left sum x y one.rest }
 
 -- no head where the first line is there, and not the names
-pub no_names : (text after : List ℕ) (e : Extent) (sum n : ℕ) → IsShape e → IsWord sum → IsNumber n → text ≡ rack_line e sum n ++ after → BeginsWithNoNames after n → BeginsWithNoHead text
+pub no_names : (text after : List ℕ) (e : ShapeView) (sum n : ℕ) → IsShape e → IsWord sum → IsNumber n → text ≡ rack_line e sum n ++ after → BeginsWithNoNames after n → BeginsWithNoHead text
 no_names text after e sum n p ws fits is none f other m names rest q wt are same =
     let line = one_rack_line e f sum other n (length names) after _ p q ws wt fits (few_number (length names) (subst (λ (k : ℕ). k ≤ MAX_SESSIONS) (sym are.count) are.few)) (sym is ∙ same ∙ head_form f other names rest) in
     none names _ (subst (AreNames names) (sym (line.count ∙ are.count)) are) line.rest
 
 -- what was read of a head, but for its sum
-pub record HeadRead (text : List ℕ) (e : Extent) (sum n : ℕ) (after : List ℕ) : Type 0 where
+pub record HeadRead (text : List ℕ) (e : ShapeView) (sum n : ℕ) (after : List ℕ) : Type 0 where
   pub names : List (List ℕ)
   pub are : AreNames names n
   pub is : text ≡ rack_line e sum (length names) ++ (flat_map client_line names ++ after)
@@ -305,19 +305,19 @@ front_of text a b is =
     let count : length text - length b ≡ length a = let e = ap length is ∙ length-append a b in omega (arith, e) in
     ap (λ (k : ℕ). take k text) count ∙ ap (take (length a)) is ∙ take-append_seam a b
 
-pub head_read : (text after rest : List ℕ) (e : Extent) (sum n : ℕ) (names : List (List ℕ)) → text ≡ rack_line e sum n ++ rest → AreNames names n → rest ≡ flat_map client_line names ++ after → HeadRead text e sum n after
+pub head_read : (text after rest : List ℕ) (e : ShapeView) (sum n : ℕ) (names : List (List ℕ)) → text ≡ rack_line e sum n ++ rest → AreNames names n → rest ≡ flat_map client_line names ++ after → HeadRead text e sum n after
 head_read text after rest e sum n names is are follow =
     let whole : text ≡ rack_line e sum (length names) ++ (flat_map client_line names ++ after) =
     is ∙ ap (λ (l : List ℕ). rack_line e sum n ++ l) follow ∙ ap (λ (k : ℕ). rack_line e sum k ++ (flat_map client_line names ++ after)) (sym are.count) in
     record { names = names; are = are; is = whole; lines = front_of text (head_lines e sum names) after (whole ∙ sym (append_assoc (rack_line e sum (length names)) (flat_map client_line names) after)) }
 
 -- its sum too
-pub head_summed : (text after rest : List ℕ) (e : Extent) (sum n : ℕ) → (read : HeadRead text e sum n after) → after ≡ sum_line (sum_at 0 (take (length text - length after) text)) ++ rest → text ≡ head_of e sum read.names ++ rest
+pub head_summed : (text after rest : List ℕ) (e : ShapeView) (sum n : ℕ) → (read : HeadRead text e sum n after) → after ≡ sum_line (sum_at 0 (take (length text - length after) text)) ++ rest → text ≡ head_of e sum read.names ++ rest
 head_summed text after rest e sum n read follow =
     read.is ∙ ap (λ (l : List ℕ). rack_line e sum (length read.names) ++ (flat_map client_line read.names ++ l)) (follow ∙ ap (λ (l : List ℕ). sum_line (sum_at 0 l) ++ rest) read.lines) ∙ sym (head_form e sum read.names rest)
 
 -- no head where another line follows
-pub no_summed : (text after : List ℕ) (e : Extent) (sum n : ℕ) → IsShape e → IsWord sum → HeadRead text e sum n after → ((x : List ℕ) → after ≢ sum_line (sum_at 0 (take (length text - length after) text)) ++ x) → BeginsWithNoHead text
+pub no_summed : (text after : List ℕ) (e : ShapeView) (sum n : ℕ) → IsShape e → IsWord sum → HeadRead text e sum n after → ((x : List ℕ) → after ≢ sum_line (sum_at 0 (take (length text - length after) text)) ++ x) → BeginsWithNoHead text
 no_summed text after e sum n p ws read none f other m names rest q wt are same =
     let one = one_front e f sum other read.names names after rest p q ws wt (counted read.names n read.are) (counted names m are) (sym read.is ∙ same) in
     none rest (one.rest ∙ ap (λ (l : List ℕ). sum_line (sum_at 0 l) ++ rest) (sym read.lines))

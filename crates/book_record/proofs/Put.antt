@@ -1,7 +1,7 @@
 -- The replies of a legal history can be put.
 use Rattle.std.proofs.Common.{List, [], ◌∷◌, All, refl, sym, subst}
 use Rattle.std.proofs.lemmas.List.Elements.{All-nil, All-cons}
-use Rattle.batch.specs.Extent.{IsShape}
+use Rattle.batch.specs.ShapeView.{IsShape}
 use Rattle.module_memory.specs.Store.{Store}
 use Rattle.batch_book.specs.Answering.{IsReplyTo}
 use Rattle.batch_book.specs.declared.call.Call.{Call}

@@ -8,8 +8,8 @@ use Rattle.module_memory.specs.declared.fault.MemoryFault.TheVariants as memory_
 use Rattle.setting_runner.specs.LineBits.{bits_of}
 use Rattle.setting_runner.specs.declared.outcome.RunRefusal.{RunRefusal}
 use Rattle.setting_runner.specs.declared.outcome.RunRefusal.TheVariants as run
-use Rattle.batch_book.specs.declared.kept.BatchState.{BatchState}
-use Rattle.batch_book.specs.declared.kept.BatchState.TheVariants as state
+use Rattle.batch_book.specs.declared.stored_batch.BatchState.{BatchState}
+use Rattle.batch_book.specs.declared.stored_batch.BatchState.TheVariants as state
 use Rattle.batch_book.specs.declared.refusal.BookRefusal.{BookRefusal}
 use Rattle.batch_book.specs.declared.refusal.BookRefusal.TheVariants as book
 use Rattle.batch_book.specs.declared.reply.Reply.{Reply}

@@ -9,7 +9,7 @@ use Rattle.batch.specs.Text.{number, space}
 use Rattle.batch_book.specs.declared.call.Call.{Call}
 use Rattle.batch_book.specs.declared.entry.Entry.{Entry}
 use Rattle.batch_book.specs.declared.reply.Reply.{Reply}
-use Rattle.batch_book.specs.History.{Starts, entry}
+use Rattle.batch_book.specs.History.{IsPrefix, entry}
 use Rattle.batch_book.specs.Told.{told}
 use Rattle.batch_book.proofs.Fronts.{front, starts, starts_same, starts_then}
 use Rattle.book_record.specs.RecordText.{id_of, call_text, reply_text, entry_lines, entry_text, texts}
@@ -43,10 +43,10 @@ after_are taken more all is = ap (texts (length taken)) (ap (drop (length taken)
 
 -- ---- what waits
 
-split_at : (xs ys : List Entry) → Starts xs ys → ys ≡ xs ++ drop (length xs) ys
+split_at : (xs ys : List Entry) → IsPrefix xs ys → ys ≡ xs ++ drop (length xs) ys
 split_at xs ys is = sym (take-append-drop (length xs) ys) ∙ ap (λ (l : List Entry). l ++ drop (length xs) ys) (sym is)
 
-starts_le : (xs ys : List Entry) → Starts xs ys → length xs ≤ length ys
+starts_le : (xs ys : List Entry) → IsPrefix xs ys → length xs ≤ length ys
 starts_le xs ys is = let e : length xs ≡ length (take (length xs) ys) = ap length is in omega (arith, e, length-take (length xs) ys)
 
 none_behind : (xs : List Entry) → drop (length xs) xs ≡ []
@@ -56,7 +56,7 @@ none_behind (x ∷ xs) = none_behind xs
 pub behind_none : (taken all : List Entry) → taken ≡ all → text_behind taken all ≡ []
 behind_none taken all is = ap (λ (l : List Entry). texts (length l) (drop (length l) all)) is ∙ ap (texts (length all)) (none_behind all)
 
-behind_more : (taken all : List Entry) (e : Entry) → Starts taken all → text_behind taken (all ++ e ∷ []) ≡ text_behind taken all ++ entry_text (length all) e
+behind_more : (taken all : List Entry) (e : Entry) → IsPrefix taken all → text_behind taken (all ++ e ∷ []) ≡ text_behind taken all ++ entry_text (length all) e
 behind_more taken all e first =
     let rest = drop (length taken) all in
     ap (texts (length taken)) (drop-append-le (length taken) all (e ∷ []) (starts_le taken all first)) ∙ texts_append (length taken) rest (e ∷ [])
@@ -64,26 +64,26 @@ behind_more taken all e first =
     ∙ ap (λ (l : List ℕ). text_behind taken all ++ l) (append-nil (entry_text (length all) e))
 
 -- what is known of the entries that wait, and of their text
-abbrev pub IsText : (handed all : List Entry) → List ℕ → Type 0
-IsText handed all buffer = Starts handed all × (buffer ≡ text_behind handed all)
+abbrev pub IsText : (queued all : List Entry) → List ℕ → Type 0
+IsText queued all buffer = IsPrefix queued all × (buffer ≡ text_behind queued all)
 
-pub none_wait : (handed all : List Entry) (buffer : List ℕ) → handed ≡ all → buffer ≡ [] → IsText handed all buffer
-none_wait handed all buffer is empty = (starts_same handed all is, empty ∙ sym (behind_none handed all is))
+pub none_wait : (queued all : List Entry) (buffer : List ℕ) → queued ≡ all → buffer ≡ [] → IsText queued all buffer
+none_wait queued all buffer is empty = (starts_same queued all is, empty ∙ sym (behind_none queued all is))
 
 -- one entry more
-pub one_more : (handed all : List Entry) (e : Entry) (more : List Entry) (buffer longer : List ℕ) → IsText handed all buffer → more ≡ all ++ e ∷ [] → longer ≡ buffer ++ entry_text (length all) e → IsText handed more longer
-one_more handed all e more buffer longer b grown put = (
-  subst (Starts handed) (sym grown) (starts_then handed all (all ++ e ∷ []) b.0 (starts all (all ++ e ∷ []) (e ∷ []) refl)),
-  put ∙ ap (λ (l : List ℕ). l ++ entry_text (length all) e) b.1 ∙ sym (behind_more handed all e b.0) ∙ ap (text_behind handed) (sym grown),
+pub one_more : (queued all : List Entry) (e : Entry) (more : List Entry) (buffer longer : List ℕ) → IsText queued all buffer → more ≡ all ++ e ∷ [] → longer ≡ buffer ++ entry_text (length all) e → IsText queued more longer
+one_more queued all e more buffer longer b grown put = (
+  subst (IsPrefix queued) (sym grown) (starts_then queued all (all ++ e ∷ []) b.0 (starts all (all ++ e ∷ []) (e ∷ []) refl)),
+  put ∙ ap (λ (l : List ℕ). l ++ entry_text (length all) e) b.1 ∙ sym (behind_more queued all e b.0) ∙ ap (text_behind queued) (sym grown),
 )
 
 -- what is known of them, and of a buffer whose first bytes are their text
-abbrev pub IsHeld : (handed all : List Entry) → ℕ → List ℕ → Type 0
-IsHeld handed all count bytes = IsText handed all (take count bytes) × (count ≤ length bytes)
+abbrev pub IsHeld : (queued all : List Entry) → ℕ → List ℕ → Type 0
+IsHeld queued all count bytes = IsText queued all (take count bytes) × (count ≤ length bytes)
 
-pub none_held : (handed all : List Entry) (count : ℕ) (bytes : List ℕ) → handed ≡ all → count ≡ 0 → IsHeld handed all count bytes
-none_held handed all count bytes is zero = (
-  none_wait handed all (take count bytes) is (ap (λ (n : ℕ). take n bytes) zero),
+pub none_held : (queued all : List Entry) (count : ℕ) (bytes : List ℕ) → queued ≡ all → count ≡ 0 → IsHeld queued all count bytes
+none_held queued all count bytes is zero = (
+  none_wait queued all (take count bytes) is (ap (λ (n : ℕ). take n bytes) zero),
   omega (arith, zero),
 )
 
@@ -91,45 +91,45 @@ length_front : (count : ℕ) (bytes : List ℕ) → count ≤ length bytes → l
 length_front count bytes few = let e = length-take count bytes in omega (arith, e, few)
 
 -- whatever stands after their text
-pub still_held : (handed all : List Entry) (count : ℕ) (bytes begun more now : List ℕ) → IsHeld handed all count bytes → begun ≡ take count bytes → now ≡ begun ++ more
-    → IsHeld handed all count now × (drop count now ≡ more)
-still_held handed all count bytes begun more now b is grown =
+pub still_held : (queued all : List Entry) (count : ℕ) (bytes begun more now : List ℕ) → IsHeld queued all count bytes → begun ≡ take count bytes → now ≡ begun ++ more
+    → IsHeld queued all count now × (drop count now ≡ more)
+still_held queued all count bytes begun more now b is grown =
     let long : length begun ≡ count = ap length is ∙ length_front count bytes b.1 in
     let first : take count now ≡ begun = ap (take count) grown ∙ ap (λ (n : ℕ). take n (begun ++ more)) (sym long) ∙ take-append_seam begun more in
     let rest : drop count now ≡ more = ap (drop count) grown ∙ ap (λ (n : ℕ). drop n (begun ++ more)) (sym long) ∙ drop-append_seam begun more in
     let all_long : length now ≡ length begun + length more = ap length grown ∙ length-append begun more in
-    ((subst (IsText handed all) (sym (first ∙ is)) b.0, omega (arith, long, all_long)), rest)
+    ((subst (IsText queued all) (sym (first ∙ is)) b.0, omega (arith, long, all_long)), rest)
 
 -- one entry more, whose text stood after theirs but for its last line
-pub more_held : (handed all : List Entry) (e : Entry) (more : List Entry) (count now : ℕ) (bytes line longer : List ℕ)
-    → IsHeld handed all count bytes → more ≡ all ++ e ∷ [] → longer ≡ bytes ++ line → drop count bytes ++ line ≡ entry_text (length all) e → now ≡ length longer → IsHeld handed more now longer
-more_held handed all e more count now bytes line longer b grown put is long =
+pub more_held : (queued all : List Entry) (e : Entry) (more : List Entry) (count now : ℕ) (bytes line longer : List ℕ)
+    → IsHeld queued all count bytes → more ≡ all ++ e ∷ [] → longer ≡ bytes ++ line → drop count bytes ++ line ≡ entry_text (length all) e → now ≡ length longer → IsHeld queued more now longer
+more_held queued all e more count now bytes line longer b grown put is long =
     let parted : longer ≡ take count bytes ++ entry_text (length all) e =
     put ∙ ap (λ (l : List ℕ). l ++ line) (sym (take-append-drop count bytes)) ∙ append_assoc (take count bytes) (drop count bytes) line ∙ ap (λ (l : List ℕ). take count bytes ++ l) is in
     let whole : take now longer ≡ longer = take_all now longer (omega (arith, long)) in
-    (one_more handed all e more (take count bytes) (take now longer) b.0 grown (whole ∙ parted), omega (arith, long))
+    (one_more queued all e more (take count bytes) (take now longer) b.0 grown (whole ∙ parted), omega (arith, long))
 
 -- the text of those after what was taken over, and of those after what was handed on, are together
 -- that of all after what was taken over
-pub after_both : (taken handed all : List Entry) → Starts taken handed → Starts handed all → text_behind taken handed ++ text_behind handed all ≡ text_behind taken all
-after_both taken handed all first next =
-    let f = front taken handed first in
-    let m = front handed all next in
+pub after_both : (taken queued all : List Entry) → IsPrefix taken queued → IsPrefix queued all → text_behind taken queued ++ text_behind queued all ≡ text_behind taken all
+after_both taken queued all first next =
+    let f = front taken queued first in
+    let m = front queued all next in
     let whole : all ≡ taken ++ (f.0 ++ m.0) = m.1 ∙ ap (λ (l : List Entry). l ++ m.0) f.1 ∙ append_assoc taken f.0 m.0 in
-    ap (λ (l : List ℕ). l ++ text_behind handed all) (after_are taken f.0 handed f.1)
-    ∙ ap (λ (l : List ℕ). texts (length taken) f.0 ++ l) (after_are handed m.0 all m.1)
-    ∙ ap (λ (k : ℕ). texts (length taken) f.0 ++ texts k m.0) (sym (count_of taken f.0 handed f.1))
+    ap (λ (l : List ℕ). l ++ text_behind queued all) (after_are taken f.0 queued f.1)
+    ∙ ap (λ (l : List ℕ). texts (length taken) f.0 ++ l) (after_are queued m.0 all m.1)
+    ∙ ap (λ (k : ℕ). texts (length taken) f.0 ++ texts k m.0) (sym (count_of taken f.0 queued f.1))
     ∙ sym (texts_append (length taken) f.0 m.0) ∙ sym (after_are taken (f.0 ++ m.0) all whole)
 
 -- ---- what was written
 
-pub begins : (held now : Option (List ℕ)) (earlier stands tried past : List Entry) → now ≡ held → past ≡ earlier → stands ≡ past → tried ≡ past → StandsAtWriter held now earlier stands tried true
-begins held now earlier stands tried past same are all given = (
+pub begins : (held now : Option (List ℕ)) (earlier durable tried past : List Entry) → now ≡ held → past ≡ earlier → durable ≡ past → tried ≡ past → StandsAtWriter held now earlier durable tried true
+begins held now earlier durable tried past same are all given = (
   record {
     added = [];
     stand = all ∙ are ∙ sym (append-nil earlier);
     waiting = [];
-    are = given ∙ sym all ∙ sym (append-nil stands);
+    are = given ∙ sym all ∙ sym (append-nil durable);
     front = [];
     missing = [];
     cut = refl;
@@ -145,15 +145,15 @@ got before mid after text front more had none went =
     subst (Appends before after) (ap (λ (l : List ℕ). (text ++ l) ++ more) none ∙ ap (λ (l : List ℕ). l ++ more) (append-nil text)) (appends_then before mid after (text ++ front) more had went)
 
 -- all that it was given was written
-pub appended : (before mid after : Option (List ℕ)) (earlier stands tried all now_stands now_tried : List Entry) (whole is_whole : Bool) (text : List ℕ)
-    → StandsAtWriter before mid earlier stands tried whole → whole ≡ true → Starts tried all → text ≡ text_behind tried all → Appends mid after text → now_stands ≡ all → now_tried ≡ all
+pub appended : (before mid after : Option (List ℕ)) (earlier durable tried all now_stands now_tried : List Entry) (whole is_whole : Bool) (text : List ℕ)
+    → StandsAtWriter before mid earlier durable tried whole → whole ≡ true → IsPrefix tried all → text ≡ text_behind tried all → Appends mid after text → now_stands ≡ all → now_tried ≡ all
     → StandsAtWriter before after earlier now_stands now_tried is_whole
-appended before mid after earlier stands tried all now_stands now_tried whole is_whole text s was first text_is went same same_tried =
+appended before mid after earlier durable tried all now_stands now_tried whole is_whole text s was first text_is went same same_tried =
     let w = s.0 in
     let rest = drop (length tried) all in
-    let parted : all ≡ stands ++ rest = split_at tried all first ∙ ap (λ (l : List Entry). l ++ rest) (sym (s.1 was)) in
+    let parted : all ≡ durable ++ rest = split_at tried all first ∙ ap (λ (l : List Entry). l ++ rest) (sym (s.1 was)) in
     let had = texts (length earlier) w.added in
-    let count : length tried ≡ length earlier + length w.added = ap length (sym (s.1 was)) ∙ sym (count_of earlier w.added stands w.stand) in
+    let count : length tried ≡ length earlier + length w.added = ap length (sym (s.1 was)) ∙ sym (count_of earlier w.added durable w.stand) in
     let all_text : had ++ text ≡ texts (length earlier) (w.added ++ rest) ++ [] =
     ap (λ (l : List ℕ). had ++ l) text_is ∙ ap (λ (k : ℕ). had ++ texts k rest) count ∙ sym (texts_append (length earlier) w.added rest) ∙ sym (append-nil (texts (length earlier) (w.added ++ rest))) in (
       record {
@@ -171,10 +171,10 @@ appended before mid after earlier stands tried all now_stands now_tried whole is
     )
 
 -- so much as a front of it was
-pub torn : (before mid after : Option (List ℕ)) (earlier stands tried all now_tried : List Entry) (whole : Bool) (text : List ℕ)
-    → StandsAtWriter before mid earlier stands tried whole → whole ≡ true → Starts tried all → text ≡ text_behind tried all → IsCutShort mid after text → now_tried ≡ all
-    → StandsAtWriter before after earlier stands now_tried false
-torn before mid after earlier stands tried all now_tried whole text s was first text_is cut same_tried =
+pub torn : (before mid after : Option (List ℕ)) (earlier durable tried all now_tried : List Entry) (whole : Bool) (text : List ℕ)
+    → StandsAtWriter before mid earlier durable tried whole → whole ≡ true → IsPrefix tried all → text ≡ text_behind tried all → IsCutShort mid after text → now_tried ≡ all
+    → StandsAtWriter before after earlier durable now_tried false
+torn before mid after earlier durable tried all now_tried whole text s was first text_is cut same_tried =
     let w = s.0 in
     let rest = drop (length tried) all in (
       record {
@@ -192,18 +192,18 @@ torn before mid after earlier stands tried all now_tried whole text s was first 
     )
 
 -- where more entries wait than it was given
-pub with_more : (before after : Option (List ℕ)) (earlier stands tried all : List Entry) (whole : Bool) → IsWritten before after earlier stands tried whole → Starts tried all → IsWritten before after earlier stands all whole
-with_more before after earlier stands tried all whole w first =
+pub with_more : (before after : Option (List ℕ)) (earlier durable tried all : List Entry) (whole : Bool) → IsWritten before after earlier durable tried whole → IsPrefix tried all → IsWritten before after earlier durable all whole
+with_more before after earlier durable tried all whole w first =
     let rest = drop (length tried) all in
     record {
       added = w.added;
       stand = w.stand;
       waiting = w.waiting ++ rest;
-      are = split_at tried all first ∙ ap (λ (l : List Entry). l ++ rest) w.are ∙ append_assoc stands w.waiting rest;
+      are = split_at tried all first ∙ ap (λ (l : List Entry). l ++ rest) w.are ∙ append_assoc durable w.waiting rest;
       front = w.front;
       missing = w.missing ++ texts (length tried) rest;
       cut =
-          texts_append (length stands) w.waiting rest ∙ ap (λ (k : ℕ). texts (length stands) w.waiting ++ texts k rest) (count_of stands w.waiting tried w.are)
+          texts_append (length durable) w.waiting rest ∙ ap (λ (k : ℕ). texts (length durable) w.waiting ++ texts k rest) (count_of durable w.waiting tried w.are)
           ∙ ap (λ (l : List ℕ). l ++ texts (length tried) rest) w.cut ∙ append_assoc w.front w.missing (texts (length tried) rest);
       appended = w.appended;
       clean = w.clean;

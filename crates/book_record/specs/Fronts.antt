@@ -4,8 +4,8 @@ use Rattle.batch.specs.Text.{number, space, line_feed}
 use Rattle.batch_book.specs.declared.entry.Entry.{Entry}
 use Rattle.client_session.specs.Bytes.{HasNoFeed}
 use Rattle.book_record.specs.RecordText.{entry_text, texts, CanTell}
-use Rattle.book_record.specs.declared.in_front.Front.{Front}
-use Rattle.book_record.specs.declared.in_front.Front.TheVariants as front
+use Rattle.book_record.specs.declared.record_prefix.RecordPrefix.{RecordPrefix}
+use Rattle.book_record.specs.declared.record_prefix.RecordPrefix.TheVariants as front
 use Rattle.book_record.specs.Sums.{HasNoMark, sum_mark, numbered, summed}
 
 -- it has no whole line of a sum, right or wrong
@@ -52,7 +52,7 @@ pub record IsCutOff (n : ℕ) (es : List Entry) (front : List ℕ) : Type 0 wher
   pub begun : BeginsFirst (n + length whole) more rest
 
 -- how a text begins that follows n entries
-abbrev pub StandsInFront : ℕ → List ℕ → Front → Type 0
+abbrev pub StandsInFront : ℕ → List ℕ → RecordPrefix → Type 0
 StandsInFront n text (front.Whole body rest) = IsSummed n text body.now rest.now
 StandsInFront n text front.Damaged = IsDamaged n text
 StandsInFront n text front.Torn = IsTorn text

@@ -3,7 +3,7 @@
 use Rattle.std.specs.Prelude.{◌≡◌, ◌≢◌, ℕ, zero, suc, ◌^◌, ◌≤◌, List, [], ◌∷◌, ◌++◌, length, All, AllPairs, codes}
 use Rattle.std.specs.Fmt.{decimal}
 use Rattle.std.specs.List.{flat_map}
-use Rattle.batch.specs.Extent.{Extent, IsShape}
+use Rattle.batch.specs.ShapeView.{ShapeView, IsShape}
 use Rattle.batch.specs.ShapeText.{shape_text}
 use Rattle.batch.specs.Text.{IsNumber, space, line_feed}
 use Rattle.batch.specs.declared.limits.TheConstants.{MAX_DIGITS}
@@ -22,11 +22,11 @@ use Rattle.book_record.specs.Fronts.{last_lines}
 
 -- `record-2 MxKxW SUM N`: the form, the shape of the rack, the sum of the image of its opening
 -- words, and the number of clients that have names
-abbrev pub rack_words : Extent → ℕ → ℕ → List ℕ
+abbrev pub rack_words : ShapeView → ℕ → ℕ → List ℕ
 rack_words shape sum n =
     codes "record-2 " ++ (shape_text shape ++ space ∷ (hex8 sum ++ space ∷ decimal n))
 
-abbrev pub rack_line : Extent → ℕ → ℕ → List ℕ
+abbrev pub rack_line : ShapeView → ℕ → ℕ → List ℕ
 rack_line shape sum n = with_feed (rack_words shape sum n)
 
 -- `client NAME`
@@ -34,11 +34,11 @@ abbrev pub client_line : List ℕ → List ℕ
 client_line name = codes "client " ++ (name ++ line_feed ∷ [])
 
 -- the first line, and one for each client that has a name, in the order of the sessions' numbers
-abbrev pub head_lines : Extent → ℕ → List (List ℕ) → List ℕ
+abbrev pub head_lines : ShapeView → ℕ → List (List ℕ) → List ℕ
 head_lines shape sum names = rack_line shape sum (length names) ++ flat_map client_line names
 
 -- the same, and `=SUM`
-abbrev pub head_of : Extent → ℕ → List (List ℕ) → List ℕ
+abbrev pub head_of : ShapeView → ℕ → List (List ℕ) → List ℕ
 head_of shape sum names = summed 0 (head_lines shape sum names)
 
 -- a client's name: it isn't empty, and is in one line
@@ -71,13 +71,13 @@ BeginsWithNoClient text =
 -- the text begins with no head
 abbrev pub BeginsWithNoHead : List ℕ → Type 0
 BeginsWithNoHead text =
-    (shape : Extent) (sum n : ℕ) (names : List (List ℕ)) (rest : List ℕ) → IsShape shape
+    (shape : ShapeView) (sum n : ℕ) (names : List (List ℕ)) (rest : List ℕ) → IsShape shape
     → IsWord sum → AreNames names n → text ≢ head_of shape sum names ++ rest
 
 -- the line is the first of no head
 abbrev pub IsNoRackLine : List ℕ → Type 0
 IsNoRackLine line =
-    (shape : Extent) (sum n : ℕ) → IsShape shape → IsWord sum → IsNumber n
+    (shape : ShapeView) (sum n : ℕ) → IsShape shape → IsWord sum → IsNumber n
     → line ≢ rack_words shape sum n
 
 -- the text doesn't begin with the lines of n clients

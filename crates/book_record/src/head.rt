@@ -2,7 +2,7 @@
 
 ghost use Rattle.std.specs.Prelude.{◌≡◌, ◌≢◌, ◌↔◌, ◌++◌, ◌∷◌, All, List, ℕ, codes, length, map, IfOk, IfSome, IfNone, IsTrue, OnOk};
 ghost use Rattle.std.specs.List.{flat_map};
-ghost use Rattle.batch.specs.Extent.{IsShape};
+ghost use Rattle.batch.specs.ShapeView.{IsShape};
 ghost use Rattle.batch.specs.Text.{IsNumber, line_feed};
 ghost use Rattle.line_words.specs.HexWords.{IsWord};
 ghost use Rattle.book_record.specs.Heads.{AreClients, AreNames, BeginsWithNoClient, BeginsWithNoHead, BeginsWithNoNames, IsName, IsNoRackLine, client_line, rack_line, rack_words, head_of, session_limit};

@@ -2,40 +2,40 @@
 //! without plans. A record is such a text after a head; it may have been cut off.
 //!
 //! [`write_record`] makes a whole record (`whole_record` of `specs/Heads.antt`); [`head_text`],
-//! [`push_history`] and [`last_lines`] make its parts. [`read_head`], [`read_front`], [`is_end`]
+//! [`push_history`] and [`last_lines`] make its parts. [`read_head`], [`read_prefix`], [`is_end`]
 //! and [`read_entry`] read them, exactly where they are. Each front of the text of entries is that
 //! of whole entries and a torn rest (`laws::fronts`).
 //!
-//! A history may be a stream ([`stream_on`], [`stream_off`]): the texts of entries wait in memory
+//! A history may be a stream ([`attach_stream`], [`detach_stream`]): the texts of entries wait in memory
 //! until a flush hands them to a writer. The writer gets all flushed entries, and nothing else;
 //! after a flush that failed, maybe a front of the others too (`IsWritten` of
 //! `specs/Streams.antt`).
 //!
 //! Who replays records, or keeps them in files, calls this crate: `record_replay` and
-//! `kept_sessions`. Others call these two.
+//! `recorded_sessions`. Others call these two.
 #![tactic(auto)]
 
-mod going;
+mod streaming;
 mod head;
-mod in_front;
+mod record_prefix;
 pub mod laws;
 mod naming;
 mod pending_text;
 mod reading;
-mod streamed;
+mod stream_history;
 mod sum;
 mod whole;
 mod writing;
-mod written;
+mod stream_recorder;
 
-pub use going::{stream_off, stream_on};
+pub use streaming::{detach_stream, attach_stream};
 pub use head::{head_text, rack_line, read_head, session_limit};
-pub use in_front::{Front, is_end, is_torn, last_lines, read_front};
+pub use record_prefix::{RecordPrefix, is_end, is_torn, last_lines, read_prefix};
 pub use naming::StreamName;
 pub use pending_text::PendingText;
 pub use reading::read_entry;
-pub use streamed::Streamed;
+pub use stream_history::StreamHistory;
 pub use sum::sum_of;
 pub use whole::write_record;
 pub use writing::{id_of, push_asked, push_history, push_logged, push_reply};
-pub use written::Written;
+pub use stream_recorder::StreamRecorder;

@@ -1,7 +1,7 @@
 //! The texts of entries that wait until they are written.
 
 ghost use Rattle.std.specs.Prelude.{◌≡◌, ◌++◌, [], OnOk, OnErr, length};
-ghost use Rattle.batch_book.specs.History.{Starts};
+ghost use Rattle.batch_book.specs.History.{IsPrefix};
 ghost use Rattle.book_record.specs.Streams.{text_behind};
 ghost use Rattle.book_record.specs.Sums.{numbered};
 
@@ -30,12 +30,12 @@ pub struct PendingText {
     reply: ReplyLine,
     // All entries, and those that were handed on: contracts alone see them.
     past: GhostHistory,
-    handed: Snapshot<GhostHistory>,
+    queued: Snapshot<GhostHistory>,
 }
 
 impl Model for PendingText {
     ghost use Rattle.std.specs.Prelude.{◌≡◌, ◌≤◌, ◌-◌, length, take, drop, vec_capacity, vec_len};
-    ghost use Rattle.batch_book.specs.History.{Starts};
+    ghost use Rattle.batch_book.specs.History.{IsPrefix};
     ghost use Rattle.book_record.specs.Streams.{WaitingState, text_behind};
     ghost use Rattle.book_record.specs.Sums.{numbered};
 
@@ -43,24 +43,24 @@ impl Model for PendingText {
 
     ghost view = { λ s. record {
       all = s.past;
-      handed = s.handed.value;
+      queued = s.queued.value;
       text = drop s.waits s.buffer.items;
       room = vec_capacity s.buffer - vec_len s.buffer;
     } };
 
-    ghost invariant = { λ s. ((Starts s.handed.value s.past
-        × (take s.waits s.buffer.items ≡ text_behind s.handed.value s.past))
+    ghost invariant = { λ s. ((IsPrefix s.queued.value s.past
+        × (take s.waits s.buffer.items ≡ text_behind s.queued.value s.past))
         × (s.waits ≤ length s.buffer.items)) × (s.number ≡ numbered (length s.past)) };
 }
 
 impl PendingText {
     /// None of these entries, whose number is given, waits.
-    pub(crate) fn behind(alloc: Global, past: GhostHistory, entries: u64) -> PendingText
+    pub(crate) fn resume_after(alloc: Global, past: GhostHistory, entries: u64) -> PendingText
         requires { entries ≡ numbered (length past) }
         ensures all { result.all ≡ past }
-        ensures handed { result.handed ≡ past }
+        ensures queued { result.queued ≡ past }
     {
-        let handed = Snapshot::of(&past);
+        let queued = Snapshot::of(&past);
         PendingText {
             buffer: Vec::new(alloc),
             waits: 0,
@@ -68,7 +68,7 @@ impl PendingText {
             asked: Line::new(),
             reply: ReplyLine::new(),
             past,
-            handed,
+            queued,
         }
     }
 
@@ -80,16 +80,16 @@ impl PendingText {
     }
 
     /// Those that were handed on, for contracts alone.
-    pub(crate) fn handed(&self) -> HistorySnapshot
-        ensures { result.value.value ≡ self.now.handed }
+    pub(crate) fn queued(&self) -> HistorySnapshot
+        ensures { result.value.value ≡ self.now.queued }
     {
-        Snapshot::of(&self.handed)
+        Snapshot::of(&self.queued)
     }
 
     /// The text of those that wait. Those that were handed on are the first of all.
     pub(crate) fn text(&self) -> &[u8]
-        ensures text { result.now ≡ text_behind self.now.handed self.now.all }
-        ensures first { Starts self.now.handed self.now.all }
+        ensures text { result.now ≡ text_behind self.now.queued self.now.all }
+        ensures first { IsPrefix self.now.queued self.now.all }
     {
         &self.buffer[..self.waits]
     }
@@ -97,11 +97,11 @@ impl PendingText {
     /// None of them waits any more.
     pub(crate) fn clear(&mut self)
         ensures all { self.new.all ≡ self.old.all }
-        ensures handed { self.new.handed ≡ self.old.all }
+        ensures queued { self.new.queued ≡ self.old.all }
     {
         self.buffer.clear();
         self.waits = 0;
-        self.handed = Snapshot::of(&self.past);
+        self.queued = Snapshot::of(&self.past);
     }
 }
 
@@ -128,7 +128,7 @@ impl EntryLog for PendingText {
 
     ghost pushed = { λ s. s.all };
 
-    ghost stands = { λ s. s.handed };
+    ghost durable = { λ s. s.queued };
 
     ghost whole = { λ _. true };
 
@@ -175,7 +175,7 @@ impl PendingEntries for PendingText {
         self.buffer.truncate(self.waits);
         move_text(&mut self.buffer, text)?;
         self.waits = 0;
-        self.handed = Snapshot::of(&self.past);
+        self.queued = Snapshot::of(&self.past);
         Ok(())
     }
 }

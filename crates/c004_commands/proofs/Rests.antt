@@ -3,10 +3,10 @@ use Rattle.std.proofs.Common.{[], ◌∷◌, refl, lit<}
 use Rattle.c004_commands.specs.Commands.{IsCommandFront}
 use Rattle.c004_commands.specs.Reader.{begun_bytes, HasBegunPorts}
 use Rattle.c004_commands.specs.declared.command.Command.TheVariants as command
-use Rattle.c004_commands.specs.declared.reader.Begun.{Begun}
-use Rattle.c004_commands.specs.declared.reader.Begun.TheVariants.{Nothing, Connect, ConnectFrom, Join, JoinOf, Enquire, Cut, CutPair, CutPairOf}
+use Rattle.c004_commands.specs.declared.reader.PartialCommand.{PartialCommand}
+use Rattle.c004_commands.specs.declared.reader.PartialCommand.TheVariants.{Nothing, Connect, ConnectFrom, Join, JoinOf, Enquire, Cut, CutPair, CutPairOf}
 
-pub begun_is_rest : (begun : Begun) → HasBegunPorts begun → IsCommandFront (begun_bytes begun)
+pub begun_is_rest : (begun : PartialCommand) → HasBegunPorts begun → IsCommandFront (begun_bytes begun)
 begun_is_rest Nothing h = record { command = command.Settle; ports = tt; next = 3; more = []; row_is = refl }
 begun_is_rest Connect h = record { command = command.Connect 0 0; ports = (lit< tt, (lit< tt, tt)); next = 0; more = 0 ∷ []; row_is = refl }
 begun_is_rest (ConnectFrom input) h = record { command = command.Connect input 0; ports = (h.0, (lit< tt, tt)); next = 0; more = []; row_is = refl }

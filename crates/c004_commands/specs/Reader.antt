@@ -3,11 +3,11 @@ use Rattle.std.specs.Prelude.{◌≡◌, ℕ, List, [], ◌∷◌, ◌++◌, dro
 use Rattle.std.specs.Option.{option_to_list}
 use Rattle.c004_commands.specs.Commands.{text, ArePorts, AreCommands, Spells}
 use Rattle.c004_commands.specs.declared.command.Command.{Command}
-use Rattle.c004_commands.specs.declared.reader.Begun.{Begun}
-use Rattle.c004_commands.specs.declared.reader.Begun.TheVariants.{Nothing, Connect, ConnectFrom, Join, JoinOf, Enquire, Cut, CutPair, CutPairOf}
+use Rattle.c004_commands.specs.declared.reader.PartialCommand.{PartialCommand}
+use Rattle.c004_commands.specs.declared.reader.PartialCommand.TheVariants.{Nothing, Connect, ConnectFrom, Join, JoinOf, Enquire, Cut, CutPair, CutPairOf}
 
 -- the bytes that have come of a command
-abbrev pub begun_bytes : Begun → List ℕ
+abbrev pub begun_bytes : PartialCommand → List ℕ
 begun_bytes Nothing = []
 begun_bytes Connect = 0 ∷ []
 begun_bytes (ConnectFrom input) = 0 ∷ input ∷ []
@@ -19,7 +19,7 @@ begun_bytes CutPair = 6 ∷ []
 begun_bytes (CutPairOf link1) = 6 ∷ link1 ∷ []
 
 -- the chip has the ports that have come
-abbrev pub HasBegunPorts : Begun → Type 0
+abbrev pub HasBegunPorts : PartialCommand → Type 0
 HasBegunPorts begun = ArePorts (drop 1 (begun_bytes begun))
 
 -- what has come and the byte are the command that is given, if one is, and then what is left
@@ -28,7 +28,7 @@ pub record Reads (rest : List ℕ) (byte : ℕ) (given : Option Command) (left :
   pub ports : AreCommands (option_to_list given)
 
 -- the same, of what was begun and is begun now
-abbrev pub Becomes : Begun → ℕ → Option Command → Begun → Type 0
+abbrev pub Becomes : PartialCommand → ℕ → Option Command → PartialCommand → Type 0
 Becomes begun byte given new = Reads (begun_bytes begun) byte given (begun_bytes new)
 
 -- whatever text has left the rest, with the byte it spells the command that is given as well, and

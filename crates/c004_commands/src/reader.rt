@@ -6,7 +6,7 @@ ghost use Rattle.c004_commands.specs.Faults.{IsFault, TellsFaults};
 ghost use Rattle.c004_commands.specs.Reader.{begun_bytes, HasBegunPorts, Becomes, GoesOn};
 ghost use Rattle.c004_commands.specs.declared.command.Command.{Command};
 ghost use Rattle.c004_commands.specs.declared.reader.CommandFault.{CommandFault};
-ghost use Rattle.c004_commands.specs.declared.reader.Begun.TheVariants.{Nothing};
+ghost use Rattle.c004_commands.specs.declared.reader.PartialCommand.TheVariants.{Nothing};
 
 use crate::command::{CONNECT, CUT, CUT_PAIR, Command, ENQUIRE, JOIN, RESET, SETTLE};
 use crate::port::PortNo;
@@ -27,7 +27,7 @@ pub enum CommandFault {
 
 // What has come of a command.
 #[derive(Clone, Copy)]
-enum Begun {
+enum PartialCommand {
     Nothing,
     Connect,
     ConnectFrom(PortNo),
@@ -43,7 +43,7 @@ enum Begun {
 /// the bytes of the command that isn't whole yet.
 #[derive(Drop)]
 pub struct CommandReader {
-    begun: Begun,
+    begun: PartialCommand,
 }
 
 impl Model for CommandReader {
@@ -64,7 +64,7 @@ impl CommandReader {
         ensures { result ≡ [] }
     {
         CommandReader {
-            begun: Begun::Nothing,
+            begun: PartialCommand::Nothing,
         }
     }
 
@@ -74,7 +74,7 @@ impl CommandReader {
         ensures rest { IsTrue result ↔ (self.now ≡ []) }
         ensures partial { IsCommandFront self.now }
     {
-        matches!(self.begun, Begun::Nothing)
+        matches!(self.begun, PartialCommand::Nothing)
     }
 
     /// Takes the next byte, and gives the command that it ends, if it ends one. Takes constant
@@ -103,7 +103,7 @@ impl CommandReader {
                 Ok(given)
             }
             Err(fault) => {
-                self.begun = Begun::Nothing;
+                self.begun = PartialCommand::Nothing;
                 Err(fault)
             }
         }
@@ -111,13 +111,13 @@ impl CommandReader {
 }
 
 // What the byte makes of the command that was begun, and the command that it ends.
-fn next(begun: Begun, byte: u8) -> Result<(Begun, Option<Command>), CommandFault>
+fn next(begun: PartialCommand, byte: u8) -> Result<(PartialCommand, Option<Command>), CommandFault>
     requires { HasBegunPorts begun }
     ensures ports { IfOk result (λ read. HasBegunPorts read.0) }
     ensures read { IfOk result (λ read. Becomes begun byte read.1 read.0) }
     ensures fault { IfErr result (λ fault. IsFault (begun_bytes begun) byte fault) }
 {
-    if let Begun::Nothing = begun {
+    if let PartialCommand::Nothing = begun {
         return begin(byte);
     }
     match PortNo::new(byte) {
@@ -127,25 +127,25 @@ fn next(begun: Begun, byte: u8) -> Result<(Begun, Option<Command>), CommandFault
 }
 
 // The first byte of a command.
-fn begin(byte: u8) -> Result<(Begun, Option<Command>), CommandFault>
+fn begin(byte: u8) -> Result<(PartialCommand, Option<Command>), CommandFault>
     ensures ports { IfOk result (λ read. HasBegunPorts read.0) }
     ensures read { IfOk result (λ read. Becomes Nothing byte read.1 read.0) }
     ensures fault { IfErr result (λ fault. IsFault [] byte fault) }
 {
     match byte {
-        CONNECT => Ok((Begun::Connect, None)),
-        JOIN => Ok((Begun::Join, None)),
-        ENQUIRE => Ok((Begun::Enquire, None)),
-        SETTLE => Ok((Begun::Nothing, Some(Command::Settle))),
-        RESET => Ok((Begun::Nothing, Some(Command::Reset))),
-        CUT => Ok((Begun::Cut, None)),
-        CUT_PAIR => Ok((Begun::CutPair, None)),
+        CONNECT => Ok((PartialCommand::Connect, None)),
+        JOIN => Ok((PartialCommand::Join, None)),
+        ENQUIRE => Ok((PartialCommand::Enquire, None)),
+        SETTLE => Ok((PartialCommand::Nothing, Some(Command::Settle))),
+        RESET => Ok((PartialCommand::Nothing, Some(Command::Reset))),
+        CUT => Ok((PartialCommand::Cut, None)),
+        CUT_PAIR => Ok((PartialCommand::CutPair, None)),
         _ => Err(CommandFault::UnknownCommand(byte)),
     }
 }
 
 // The next port of a command that was begun.
-fn with_port(begun: Begun, port: PortNo) -> (Begun, Option<Command>)
+fn with_port(begun: PartialCommand, port: PortNo) -> (PartialCommand, Option<Command>)
     requires begun { begun ≢ Nothing }
     requires ports { HasBegunPorts begun }
     ensures ports { HasBegunPorts result.0 }
@@ -154,23 +154,23 @@ fn with_port(begun: Begun, port: PortNo) -> (Begun, Option<Command>)
     // The proof learns here that the number is a port's.
     let _number = port.get();
     match begun {
-        Begun::Nothing => unreachable!(),
-        Begun::Connect => (Begun::ConnectFrom(port), None),
-        Begun::ConnectFrom(input) => {
+        PartialCommand::Nothing => unreachable!(),
+        PartialCommand::Connect => (PartialCommand::ConnectFrom(port), None),
+        PartialCommand::ConnectFrom(input) => {
             let output = port;
-            (Begun::Nothing, Some(Command::Connect { input, output }))
+            (PartialCommand::Nothing, Some(Command::Connect { input, output }))
         }
-        Begun::Join => (Begun::JoinOf(port), None),
-        Begun::JoinOf(link1) => {
+        PartialCommand::Join => (PartialCommand::JoinOf(port), None),
+        PartialCommand::JoinOf(link1) => {
             let link2 = port;
-            (Begun::Nothing, Some(Command::Join { link1, link2 }))
+            (PartialCommand::Nothing, Some(Command::Join { link1, link2 }))
         }
-        Begun::Enquire => (Begun::Nothing, Some(Command::Enquire { output: port })),
-        Begun::Cut => (Begun::Nothing, Some(Command::Cut { output: port })),
-        Begun::CutPair => (Begun::CutPairOf(port), None),
-        Begun::CutPairOf(link1) => {
+        PartialCommand::Enquire => (PartialCommand::Nothing, Some(Command::Enquire { output: port })),
+        PartialCommand::Cut => (PartialCommand::Nothing, Some(Command::Cut { output: port })),
+        PartialCommand::CutPair => (PartialCommand::CutPairOf(port), None),
+        PartialCommand::CutPairOf(link1) => {
             let link2 = port;
-            (Begun::Nothing, Some(Command::CutPair { link1, link2 }))
+            (PartialCommand::Nothing, Some(Command::CutPair { link1, link2 }))
         }
     }
 }

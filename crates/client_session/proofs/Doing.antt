@@ -6,7 +6,7 @@ use Rattle.batch.specs.declared.fault.BatchFault.{BatchFault}
 use Rattle.batch.specs.declared.fault.BatchFault.TheVariants.{NoMemory}
 use Rattle.batch.specs.Faults.{IsFirstFault, NeedsMemory}
 use Rattle.batch.specs.declared.transfer.Transfer.{Transfer}
-use Rattle.batch.specs.Extent.{Extent}
+use Rattle.batch.specs.ShapeView.{ShapeView}
 use Rattle.schedule_certificate.specs.Plans.{Plan, IsPlan}
 use Rattle.batch_book.specs.declared.entry.Entry.{Entry}
 use Rattle.batch_book.specs.declared.call.Call.{Call}
@@ -28,7 +28,7 @@ use Rattle.batch_book.specs.declared.reading.Reading.{Reading}
 use Rattle.client_session.specs.Replies.{reply_line, progress_line}
 use Rattle.client_session.specs.Seats.{SeatView, logged, GoesOnFrom, IsCalled, IsUncalled, IsProgressRead}
 use Rattle.client_session.specs.Turns.{Answer, plain_answer, tells, settles, TellsReply, Submits, Settles, Plans, ReadsProgress, IsFetching}
-use Rattle.client_session.specs.Steps.{CanBeTold, IsNoFetch, Did, Acts, Breaks, Does}
+use Rattle.client_session.specs.Steps.{CanBeTold, IsNoFetch, Did, Acts, Breaks, IsDoneOrFailed}
 use Rattle.link_graph.proofs.Sums.{each}
 use Rattle.client_session.proofs.Lists.{every_append}
 
@@ -107,7 +107,7 @@ settled old mid new id batch plan line h shortest of acts =
 
 -- and a call with its plan wasn't made, or it was settled
 pub settled_or : {T : Type 0} (old mid new : SeatView) (id : ℕ) (batch : List Transfer) (plan : Plan) (line : List ℕ) (r : Result T ServeFault) → IsCalled old (call.Fetch id) (Fetched batch) mid → IsPlan plan → plan.batch ≡ batch
-    → Does mid new (TellsReply mid.session id (call.Settle id plan)) (λ es. es ≡ []) line r → Does old new (Plans old.session id) (IsFetching old.session id) line r
+    → IsDoneOrFailed mid new (TellsReply mid.session id (call.Settle id plan)) (λ es. es ≡ []) line r → IsDoneOrFailed old new (Plans old.session id) (IsFetching old.session id) line r
 settled_or old mid new id batch plan line (Ok x) h shortest of does = settled old mid new id batch plan line h shortest of does
 settled_or old mid new id batch plan line (Err e) h shortest of b = record {
   fault_is = b.fault_is;
@@ -150,13 +150,13 @@ read_progress old new r line h e = record {
 
 -- ---- batch texts
 
-tells_fault : (p : SeatView) (shape : Extent) (text : List ℕ) (fault : BatchFault) (line : List ℕ) → shape ≡ p.shape → fault ≢ NoMemory → (fault ≢ NoMemory → IsFirstFault shape text fault) → line ≡ refusal_line (of_batch fault) → Acts p p (Submits p.shape p.session text) line
+tells_fault : (p : SeatView) (shape : ShapeView) (text : List ℕ) (fault : BatchFault) (line : List ℕ) → shape ≡ p.shape → fault ≢ NoMemory → (fault ≢ NoMemory → IsFirstFault shape text fault) → line ≡ refusal_line (of_batch fault) → Acts p p (Submits p.shape p.session text) line
 tells_fault p shape text fault line same other first e =
-    says p (Submits p.shape p.session text) (refusal_line (of_batch fault)) line (inr (inl (fault, other, subst (λ (x : Extent). IsFirstFault x text fault) same (first other), refl))) e
+    says p (Submits p.shape p.session text) (refusal_line (of_batch fault)) line (inr (inl (fault, other, subst (λ (x : ShapeView). IsFirstFault x text fault) same (first other), refl))) e
 
 -- the first fault of a batch text is told, or want of memory
-pub faulty : (p : SeatView) (shape : Extent) (text : List ℕ) (fault : BatchFault) (line : List ℕ) → shape ≡ p.shape → (fault ≢ NoMemory → IsFirstFault shape text fault) → (fault ≡ NoMemory → NeedsMemory shape text) → line ≡ refusal_line (of_batch fault) → Acts p p (Submits p.shape p.session text) line
-faulty p shape text NoMemory line same first needs e = says p (Submits p.shape p.session text) (refusal_line refusal.NoMemory) line (inr (inr (subst (λ (x : Extent). NeedsMemory x text) same (needs refl), refl))) e
+pub faulty : (p : SeatView) (shape : ShapeView) (text : List ℕ) (fault : BatchFault) (line : List ℕ) → shape ≡ p.shape → (fault ≢ NoMemory → IsFirstFault shape text fault) → (fault ≡ NoMemory → NeedsMemory shape text) → line ≡ refusal_line (of_batch fault) → Acts p p (Submits p.shape p.session text) line
+faulty p shape text NoMemory line same first needs e = says p (Submits p.shape p.session text) (refusal_line refusal.NoMemory) line (inr (inr (subst (λ (x : ShapeView). NeedsMemory x text) same (needs refl), refl))) e
 faulty p shape text fault line same first needs e = tells_fault p shape text fault line same (λ x. cc) first e
 
 -- the command that there is

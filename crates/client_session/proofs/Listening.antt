@@ -4,13 +4,13 @@ use Rattle.std.proofs.lemmas.Grind.{flat_map-append}
 use Rattle.std.specs.Io.KnownBytes.{Appends}
 use Rattle.refusals.specs.declared.refusal.Refusal.{Refusal}
 use Rattle.byte_streams.proofs.Carrying.{appends_none, appends_then}
-use Rattle.client_session.specs.Listening.{Told, Telling, Tells, TellsOfRefusals}
+use Rattle.client_session.specs.Listening.{ListenerLog, Telling, Tells, TellsOfRefusals}
 use Rattle.client_session.proofs.Lists.{every_append}
 
-pub tells_nothing : {MayTell : Refusal → List ℕ → Type 0} (a : Told) → TellsOfRefusals MayTell a a
+pub tells_nothing : {MayTell : Refusal → List ℕ → Type 0} (a : ListenerLog) → TellsOfRefusals MayTell a a
 tells_nothing a = record { tellings = []; each = tt; appended = appends_none a.bytes; loan = refl }
 
-pub tells_one : {MayTell : Refusal → List ℕ → Type 0} {refusal : Refusal} {a b : Told} → Tells MayTell refusal a b → TellsOfRefusals MayTell a b
+pub tells_one : {MayTell : Refusal → List ℕ → Type 0} {refusal : Refusal} {a b : ListenerLog} → Tells MayTell refusal a b → TellsOfRefusals MayTell a b
 tells_one {MayTell} {refusal} {a} {b} t = record {
   tellings = record { refusal = refusal; bytes = t.bytes } ∷ [];
   each = (t.may, tt);
@@ -18,7 +18,7 @@ tells_one {MayTell} {refusal} {a} {b} t = record {
   loan = t.loan;
 }
 
-pub tells_more : {MayTell : Refusal → List ℕ → Type 0} {a b c : Told} → TellsOfRefusals MayTell a b → TellsOfRefusals MayTell b c → TellsOfRefusals MayTell a c
+pub tells_more : {MayTell : Refusal → List ℕ → Type 0} {a b c : ListenerLog} → TellsOfRefusals MayTell a b → TellsOfRefusals MayTell b c → TellsOfRefusals MayTell a c
 tells_more {MayTell} {a} {b} {c} s t =
     let bytes_of : Telling → List ℕ = λ x. x.bytes in
     let all : flat_map bytes_of (s.tellings ++ t.tellings) ≡ flat_map bytes_of s.tellings ++ flat_map bytes_of t.tellings = flat_map-append bytes_of s.tellings t.tellings in
@@ -30,5 +30,5 @@ tells_more {MayTell} {a} {b} {c} s t =
     }
 
 -- nothing was told since
-pub tells_still : {MayTell : Refusal → List ℕ → Type 0} {a b c : Told} → TellsOfRefusals MayTell a b → c ≡ b → TellsOfRefusals MayTell a c
-tells_still {MayTell} {a} s same = subst (λ (x : Told). TellsOfRefusals MayTell a x) (sym same) s
+pub tells_still : {MayTell : Refusal → List ℕ → Type 0} {a b c : ListenerLog} → TellsOfRefusals MayTell a b → c ≡ b → TellsOfRefusals MayTell a c
+tells_still {MayTell} {a} s same = subst (λ (x : ListenerLog). TellsOfRefusals MayTell a x) (sym same) s

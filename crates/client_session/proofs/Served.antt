@@ -11,10 +11,10 @@ use Rattle.client_session.specs.declared.input.InputFault.{InputFault}
 use Rattle.client_session.specs.declared.input.InputFault.TheVariants as input
 use Rattle.client_session.specs.declared.fault.ServeFault.{ServeFault}
 use Rattle.client_session.specs.declared.fault.ServeFault.TheVariants.{Read, Write, LineTooLong, Cut, Turns, Record}
-use Rattle.batch.specs.Extent.{Extent}
+use Rattle.batch.specs.ShapeView.{ShapeView}
 use Rattle.batch_book.specs.Seats.{SeatState, IsSameSeat}
 use Rattle.batch_book.proofs.Fronts.{starts, starts_same, starts_then}
-use Rattle.client_session.specs.declared.limits.TheConstants.{HELD_BYTES}
+use Rattle.client_session.specs.declared.limits.TheConstants.{REPLY_BUFFER_BYTES}
 use Rattle.client_session.specs.Bytes.{PendingInput, TakesIn}
 use Rattle.client_session.specs.Faults.{IsFaultAt}
 use Rattle.client_session.specs.Seats.{SeatView, GoesOnFrom, seat_view}
@@ -210,7 +210,7 @@ session_more : (b c : Option (List ℕ)) (from to next : SeatView) (old new : Pe
     → IsSession false from next (s.holding.all ++ t.turn ∷ []) (bytes ++ t.bytes) new.pending (entries ++ t.turn.did.entries) (written ++ (held ++ line))
 session_more b c from to next old new held line bytes entries written ends s t =
     let h = s.holding in record {
-      each = every-push (IsTurn from.shape from.session) h.all t.turn h.session.each (subst (λ by. IsTurn from.shape by t.turn) h.session.seat.session (subst (λ (shape : Extent). IsTurn shape to.session t.turn) h.session.seat.shape t.is));
+      each = every-push (IsTurn from.shape from.session) h.all t.turn h.session.each (subst (λ by. IsTurn from.shape by t.turn) h.session.seat.session (subst (λ (shape : ShapeView). IsTurn shape to.session t.turn) h.session.seat.shape t.is));
       bytes_are = more_text h.all t.turn bytes old.pending t.bytes new.pending h.session.bytes_are t.kept;
       entries_are = more_of (λ (x : Turn). x.did.entries) h.all t.turn entries t.turn.did.entries h.session.entries_are refl;
       text_is = sym (append_assoc written held line) ∙ more_of (λ (x : Turn). x.did.line) h.all t.turn (written ++ held) line h.session.text_is t.line_is;
@@ -313,7 +313,7 @@ held_lines turns waiting all written held are told text =
 
 -- the record is broken, and so are these commands after those that were told
 broken : (from to next : SeatView) (bytes rest held : List ℕ) (entries : List Entry) (written : List ℕ) (lost : List LostTurn) (h : IsHolding from to bytes (lost_texts lost ++ rest) entries written held)
-    → MayEnd h.all → length held ≤ HELD_BYTES → GoesOnFrom true to next → AllByRecursion (IsLostTurn from.session) lost → length lost ≤ 1 → IsBroken from next bytes (entries ++ lost_entries lost) written
+    → MayEnd h.all → length held ≤ REPLY_BUFFER_BYTES → GoesOnFrom true to next → AllByRecursion (IsLostTurn from.session) lost → length lost ≤ 1 → IsBroken from next bytes (entries ++ lost_entries lost) written
 broken from to next bytes rest held entries written lost h may few goes are one =
     let s = h.session in record {
       turns = h.turns;
@@ -334,12 +334,12 @@ broken from to next bytes rest held entries written lost h may few goes are one 
       one = one;
       entries_are = refl;
       told = h.told;
-      few = subst (λ l. length l ≤ HELD_BYTES) (held_lines h.turns h.waiting h.all written held h.are h.told s.text_is) few;
+      few = subst (λ l. length l ≤ REPLY_BUFFER_BYTES) (held_lines h.turns h.waiting h.all written held h.are h.told s.text_is) few;
       recorded = starts_then _ to.log next.log h.recorded goes.log;
     }
 
 -- a call of the last command wasn't made
-lost_turn : (most : ℕ) (a b c w v : Option (List ℕ)) (from to next : SeatView) (h : PendingInput) (held : List ℕ) → Serving most a b w v from to h held → length held ≤ HELD_BYTES → TurnLost b c h to next → Holds a c w v from next held (Some Record)
+lost_turn : (most : ℕ) (a b c w v : Option (List ℕ)) (from to next : SeatView) (h : PendingInput) (held : List ℕ) → Serving most a b w v from to h held → length held ≤ REPLY_BUFFER_BYTES → TurnLost b c h to next → Holds a c w v from next held (Some Record)
 lost_turn most a b c w v from to next h held p few t =
     let seat = p.is_so.holding.session.seat in
     let all = append-nil (lost_text t.turn) in
@@ -357,7 +357,7 @@ lost_turn most a b c w v from to next h held p few t =
           (subst (λ by. IsLostTurn by t.turn) seat.session t.is, tt) (omega arith);
     }
 
-pub failed_turn : (most : ℕ) (e : ServeFault) (a b c w v : Option (List ℕ)) (from to next : SeatView) (h : PendingInput) (held : List ℕ) → Serving most a b w v from to h held → length held ≤ HELD_BYTES → TurnFails e b c h to next → Holds a c w v from next held (Some e)
+pub failed_turn : (most : ℕ) (e : ServeFault) (a b c w v : Option (List ℕ)) (from to next : SeatView) (h : PendingInput) (held : List ℕ) → Serving most a b w v from to h held → length held ≤ REPLY_BUFFER_BYTES → TurnFails e b c h to next → Holds a c w v from next held (Some e)
 failed_turn most Record a b c w v from to next h held p few t = lost_turn most a b c w v from to next h held p few t
 failed_turn most e a b c w v from to next h held p few t = stopped_turn most e a b c w v from to next h held p t
 
@@ -380,7 +380,7 @@ last_line turns (t ∷ []) all written held front missing are told text few some
     (turns, t, are, front, sym (append_cancel_left written held t.did.line line) ∙ cut)
 last_line turns (t ∷ u ∷ more) all written held front missing are told text few some cut = absurd (omega arith)
 
-cut_off : (from to : SeatView) (bytes rest : List ℕ) (entries : List Entry) (written held front missing : List ℕ) → IsAllRecorded from → to.asked ≡ from.asked ++ entries → held ≡ front ++ missing → 0 < length held → length held ≤ HELD_BYTES → (h : IsHolding from to bytes rest entries written held) → MayEnd h.all → IsCutOff from (told_seat to) bytes entries (written ++ front)
+cut_off : (from to : SeatView) (bytes rest : List ℕ) (entries : List Entry) (written held front missing : List ℕ) → IsAllRecorded from → to.asked ≡ from.asked ++ entries → held ≡ front ++ missing → 0 < length held → length held ≤ REPLY_BUFFER_BYTES → (h : IsHolding from to bytes rest entries written held) → MayEnd h.all → IsCutOff from (told_seat to) bytes entries (written ++ front)
 cut_off from to bytes rest entries written held front missing was asked cut some few h may = record {
   turns = h.all;
   rest = rest;
@@ -493,7 +493,7 @@ same_seat (Some Write) known from to bytes entries written h = h.session.seat
 same_seat (Some Record) known from to bytes entries written h = h.session.seat
 same_seat fault known from to bytes entries written h = h.2.seat
 
-pub seat_kept : (a b w v : Option (List ℕ)) (loses : Bool) (shape : Extent) (seat back : SeatState) (from to : SeatView) (fault : Option ServeFault) → from ≡ seat_view loses shape seat → seat_view to.loses to.shape back ≡ to → Ends a b w v from to fault → IsSameSeat seat back
+pub seat_kept : (a b w v : Option (List ℕ)) (loses : Bool) (shape : ShapeView) (seat back : SeatState) (from to : SeatView) (fault : Option ServeFault) → from ≡ seat_view loses shape seat → seat_view to.loses to.shape back ≡ to → Ends a b w v from to fault → IsSameSeat seat back
 seat_kept a b w v loses shape seat back from to fault was is ends =
     let s = same_seat fault b from to ends.bytes ends.entries ends.written ends.is_so in
     record {
@@ -502,10 +502,10 @@ seat_kept a b w v loses shape seat back from to fault was is ends =
       parts = ap (λ (x : SeatView). x.parts) is ∙ s.parts ∙ ap (λ (x : SeatView). x.parts) was;
     }
 
-pub session_kept : (a b w v : Option (List ℕ)) (loses : Bool) (shape : Extent) (seat back : SeatState) (from to : SeatView) (fault : Option ServeFault) → from ≡ seat_view loses shape seat → seat_view to.loses to.shape back ≡ to → Ends a b w v from to fault → Ends a b w v (seat_view loses shape seat) (seat_view loses shape back) fault
+pub session_kept : (a b w v : Option (List ℕ)) (loses : Bool) (shape : ShapeView) (seat back : SeatState) (from to : SeatView) (fault : Option ServeFault) → from ≡ seat_view loses shape seat → seat_view to.loses to.shape back ≡ to → Ends a b w v from to fault → Ends a b w v (seat_view loses shape seat) (seat_view loses shape back) fault
 session_kept a b w v loses shape seat back from to fault was is ends =
     let s = same_seat fault b from to ends.bytes ends.entries ends.written ends.is_so in
-    let same : to ≡ seat_view loses shape back = sym is ∙ ap (λ (x : Bool). seat_view x to.shape back) (s.loses ∙ ap (λ (x : SeatView). x.loses) was) ∙ ap (λ (x : Extent). seat_view loses x back) (s.shape ∙ ap (λ (x : SeatView). x.shape) was) in
+    let same : to ≡ seat_view loses shape back = sym is ∙ ap (λ (x : Bool). seat_view x to.shape back) (s.loses ∙ ap (λ (x : SeatView). x.loses) was) ∙ ap (λ (x : ShapeView). seat_view loses x back) (s.shape ∙ ap (λ (x : SeatView). x.shape) was) in
     subst (λ (x : SeatView). Ends a b w v (seat_view loses shape seat) x fault) same (subst (λ (x : SeatView). Ends a b w v x to fault) was ends)
 
 -- all is told, where the record isn't broken
@@ -520,5 +520,5 @@ told_after a b w v loses back from to fault is lost none ends =
     let whole : fault ≡ Some Record → ⊥ = λ broken. true≢false (sym (lost broken) ∙ none) in
     subst IsAllRecorded (sym is) (all_told fault b from to ends.bytes ends.entries ends.written whole ends.is_so)
 
-pub told_at_first : (loses : Bool) (shape : Extent) (seat : SeatState) (from : SeatView) → from ≡ seat_view loses shape seat → seat.log ≡ seat.asked → IsAllRecorded from
+pub told_at_first : (loses : Bool) (shape : ShapeView) (seat : SeatState) (from : SeatView) → from ≡ seat_view loses shape seat → seat.log ≡ seat.asked → IsAllRecorded from
 told_at_first loses shape seat from is told = subst IsAllRecorded (sym is) told

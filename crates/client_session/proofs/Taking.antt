@@ -8,7 +8,7 @@ use Rattle.client_session.specs.declared.input.InputFault.{InputFault}
 use Rattle.client_session.specs.declared.input.InputFault.TheVariants.{Read, Cut, Turns}
 use Rattle.client_session.specs.Bytes.{PendingInput, TakesIn, HasLine, IsSessionLine, fuel}
 use Rattle.client_session.specs.Faults.{HasBroughtNothing, IsFaultAt}
-use Rattle.client_session.specs.declared.front.Front.{Front}
+use Rattle.client_session.specs.declared.pending_line.PendingLine.{PendingLine}
 use Rattle.client_session.specs.Steps.{IsFront}
 
 pub TakesIn-none : (a : Option (List ℕ)) (h : PendingInput) → TakesIn a a h h
@@ -57,6 +57,6 @@ fault_before Turns known old new line none = (subst IsSessionLine (sym none.0) l
 fault_before e known old new line none = absurd none.1
 
 -- the line in front stands where it was
-pub front_still : (found : Option Front) (old new : PendingInput) → IfSome found (IsFront old.pending) → IfSome found (λ _. new ≡ old) → IfSome found (IsFront new.pending)
+pub front_still : (found : Option PendingLine) (old new : PendingInput) → IfSome found (IsFront old.pending) → IfSome found (λ _. new ≡ old) → IfSome found (IsFront new.pending)
 front_still None old new is same = tt
 front_still (Some front) old new is same = rw same is

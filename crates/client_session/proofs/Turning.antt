@@ -14,9 +14,9 @@ use Rattle.client_session.specs.Commands.{Means}
 use Rattle.client_session.specs.Seats.{SeatView}
 use Rattle.client_session.specs.Replies.{with_feed}
 use Rattle.batch_book.specs.declared.entry.Entry.{Entry}
-use Rattle.client_session.specs.Turns.{Answer, Submits, DoesCommand, IsBegun, SessionGoesOn, lines_after}
+use Rattle.client_session.specs.Turns.{Answer, Submits, DoesCommand, MayHaveAdded, SessionGoesOn, lines_after}
 use Rattle.client_session.specs.Sessions.{BeginsBatch, IsPartialCommand, RestAt}
-use Rattle.client_session.specs.Steps.{Acts, Breaks, Does, LinesTaken, LinesStopped, PendingAt, StandsAlone, TurnFails, TurnLost, TurnTaken, TurnStopped}
+use Rattle.client_session.specs.Steps.{Acts, Breaks, IsDoneOrFailed, LinesTaken, LinesStopped, PendingAt, StandsAlone, TurnFails, TurnLost, TurnTaken, TurnStopped}
 use Rattle.client_session.specs.Asking.{GivesEachTime, GivesOrStops}
 use Rattle.client_session.proofs.Asking.{stops_here}
 use Rattle.client_session.proofs.Taken.{line_front, line_is}
@@ -159,12 +159,12 @@ batch_lost e a b old mid new from to n count before after has short begins rest 
 -- either, by what came of it
 pub batch_done : {T : Type 0} (r : Result T ServeFault) (a b : Option (List ℕ)) (old mid new : PendingInput) (from to : SeatView) (n count : ℕ) (before after all line : List ℕ) → HasLine old.pending n → n ≤ LINE_BYTES
     → BeginsBatch (take n old.pending) count → mid.pending ≡ drop (n + 1) old.pending → before ≡ take (n + 1) old.pending → LinesTaken a b mid new before after count
-    → mid.reads ≡ old.reads → all ≡ after → Does from to (Submits from.shape from.session all) (λ (es : List Entry). es ≡ []) line r → OnOk r (TurnTaken a b old new from to line false) × IfErr r (λ e. TurnFails e a b old from to)
+    → mid.reads ≡ old.reads → all ≡ after → IsDoneOrFailed from to (Submits from.shape from.session all) (λ (es : List Entry). es ≡ []) line r → OnOk r (TurnTaken a b old new from to line false) × IfErr r (λ e. TurnFails e a b old from to)
 batch_done (Ok x) a b old mid new from to n count before after all line has short begins rest first t reads same acts = (batch_taken a b old mid new from to n count before after all line has short begins rest first t reads same acts, tt)
 batch_done (Err e) a b old mid new from to n count before after all line has short begins rest first t reads same broken = (tt, batch_lost e a b old mid new from to n count before after has short begins rest t broken)
 
 -- the reader isn't asked by what is done then
-pub asked_then : {T : Type 0} (r : Result T ServeFault) {a b : Option ℕ} {k l : ℕ} (from to : SeatView) (IsSo : Answer → Type 0) (HasBegun : List Entry → Type 0) (line : List ℕ) → GivesEachTime a b k l → Does from to IsSo HasBegun line r → GivesOrStops a b k l r
+pub asked_then : {T : Type 0} (r : Result T ServeFault) {a b : Option ℕ} {k l : ℕ} (from to : SeatView) (IsSo : Answer → Type 0) (HasBegun : List Entry → Type 0) (line : List ℕ) → GivesEachTime a b k l → IsDoneOrFailed from to IsSo HasBegun line r → GivesOrStops a b k l r
 asked_then (Ok x) from to IsSo HasBegun line gives acts = gives
 asked_then (Err e) from to IsSo HasBegun line gives broken = rw broken.fault_is (stops_here (Some Record) gives (λ few. few))
 
@@ -198,7 +198,7 @@ alone_taken a old new from to n command line ends has short means alone rest sam
 
 -- a call of it wasn't made
 pub alone_lost : (e : ServeFault) (a : Option (List ℕ)) (old new : PendingInput) (from to : SeatView) (n : ℕ) (command : Option SessionCommand) → HasLine old.pending n → n ≤ LINE_BYTES
-    → Means (take n old.pending) command → StandsAlone command → new.pending ≡ drop (n + 1) old.pending → Breaks e from to (IsBegun from.session command) → TurnFails e a a old from to
+    → Means (take n old.pending) command → StandsAlone command → new.pending ≡ drop (n + 1) old.pending → Breaks e from to (MayHaveAdded from.session command) → TurnFails e a a old from to
 alone_lost e a old new from to n command has short means alone rest broken = lost_as e a a old from to broken.fault_is record {
   turn = record { head = take n old.pending; body = []; command = command; entries = broken.entries };
   is = record { head = line_is old.pending n has short; body = tt; means = means; whole = sym (none_after command alone); begun = broken.begun };

@@ -20,10 +20,10 @@ line_of Progress = codes "progress"
 line_of Bye = codes "bye"
 
 -- it waits for nobody long: nothing is planned, and no run is made
-abbrev pub is_quick : SessionCommand → Bool
-is_quick (Plan id) = false
-is_quick (Run id) = false
-is_quick command = true
+abbrev pub is_immediate : SessionCommand → Bool
+is_immediate (Plan id) = false
+is_immediate (Run id) = false
+is_immediate command = true
 
 -- the numbers of a command are such as a line can hold
 abbrev pub CanBeSpelled : SessionCommand → Type 0

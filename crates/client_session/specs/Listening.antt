@@ -7,12 +7,12 @@ use Rattle.refusals.specs.declared.refusal.Refusal.{Refusal}
 
 -- what a listener has told, where that is known, and the ghost name of the `&mut` by which it tells
 -- it, where it holds one
-pub record Told : Type 0 where
+pub record ListenerLog : Type 0 where
   pub bytes : Option (List ℕ)
   pub loan : Option GName
 
 -- this was told of a refusal, as may be told of it
-pub record Tells (MayTell : Refusal → List ℕ → Type 0) (refusal : Refusal) (old new : Told)
+pub record Tells (MayTell : Refusal → List ℕ → Type 0) (refusal : Refusal) (old new : ListenerLog)
     : Type 0 where
   pub bytes : List ℕ
   pub may : MayTell refusal bytes
@@ -25,7 +25,7 @@ pub record Telling : Type 0 where
   pub bytes : List ℕ
 
 -- of some refusals, one after another, this was told, as may be told of each; and nothing else
-pub record TellsOfRefusals (MayTell : Refusal → List ℕ → Type 0) (old new : Told) : Type 0 where
+pub record TellsOfRefusals (MayTell : Refusal → List ℕ → Type 0) (old new : ListenerLog) : Type 0 where
   pub tellings : List Telling
   pub each : AllByRecursion (λ t. MayTell t.refusal t.bytes) tellings
   pub appended : Appends old.bytes new.bytes (flat_map (λ t. t.bytes) tellings)

@@ -5,8 +5,8 @@ use Rattle.batch.specs.Text.{line_feed}
 use Rattle.setting_runner.specs.LineBits.{bits_of}
 use Rattle.setting_runner.specs.declared.outcome.StopCause.{StopCause}
 use Rattle.setting_runner.specs.declared.outcome.StopCause.TheVariants.{Port, SwitchDisagrees, Wire}
-use Rattle.batch_book.specs.declared.kept.BatchState.{BatchState}
-use Rattle.batch_book.specs.declared.kept.BatchState.TheVariants as state
+use Rattle.batch_book.specs.declared.stored_batch.BatchState.{BatchState}
+use Rattle.batch_book.specs.declared.stored_batch.BatchState.TheVariants as state
 use Rattle.batch_book.specs.declared.reply.Reply.{Reply}
 use Rattle.batch_book.specs.declared.reply.Reply.TheVariants.{Accepted, Fetched, Settled, Ran, Stopped, RunRefused, Shown, Discarded, Word, Poked, Refused}
 use Rattle.batch_book.specs.declared.reading.Reading.{Reading}

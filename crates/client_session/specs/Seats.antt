@@ -1,14 +1,14 @@
 -- A seat of the exchange as its session sees it, and what it is answered.
 use Rattle.std.specs.Prelude.{◌≡◌, ℕ, ◌<◌, ◌≤◌, ◌||◌, Bool, true, false, List, [], ◌∷◌, ◌++◌, Option, if◌then◌else◌}
 use Rattle.atomic_table.specs.Seated.{TableId}
-use Rattle.batch.specs.Extent.{Extent}
+use Rattle.batch.specs.ShapeView.{ShapeView}
 use Rattle.batch_book.specs.declared.entry.Entry.{Entry}
 use Rattle.batch_book.specs.declared.call.Call.{Call}
 use Rattle.batch_book.specs.declared.limits.TheConstants.{RUN_STEP}
 use Rattle.batch_book.specs.declared.reading.Reading.{Reading}
 use Rattle.batch_book.specs.declared.reply.Reply.{Reply}
 use Rattle.batch_book.specs.Answering.{IsReplyTo}
-use Rattle.batch_book.specs.History.{Starts, entry}
+use Rattle.batch_book.specs.History.{IsPrefix, entry}
 use Rattle.batch_book.specs.Replies.{is_logged}
 use Rattle.batch_book.specs.Seats.{SeatState}
 use Rattle.batch_book.specs.Values.{value_at, value_of}
@@ -18,7 +18,7 @@ use Rattle.batch_book.specs.Values.{value_at, value_of}
 -- greatest progress that it has seen, and whether the record of a call of it is broken
 pub record SeatView : Type 0 where
   pub exchange : Option TableId
-  pub shape : Extent
+  pub shape : ShapeView
   pub loses : Bool
   pub session : ℕ
   pub parts : ℕ
@@ -28,7 +28,7 @@ pub record SeatView : Type 0 where
   pub broken : Bool
 
 -- the seat, where the history may lose an entry or not, and the rack has this shape
-abbrev pub seat_view : Bool → Extent → SeatState → SeatView
+abbrev pub seat_view : Bool → ShapeView → SeatState → SeatView
 seat_view loses shape seat =
     record {
       exchange = seat.exchange;
@@ -58,7 +58,7 @@ pub record GoesOnFrom (breaks : Bool) (old new : SeatView) : Type 0 where
   pub loses : new.loses ≡ old.loses
   pub session : new.session ≡ old.session
   pub parts : new.parts ≡ old.parts
-  pub log : Starts old.log new.log
+  pub log : IsPrefix old.log new.log
   pub seen : old.seen ≤ new.seen
   pub broken : new.broken ≡ breaks || old.broken
 

@@ -4,9 +4,9 @@ use Rattle.std.specs.List.{AllByRecursion}
 use Rattle.std.specs.Io.KnownBytes.{Consumes, Appends, IsAtEnd}
 use Rattle.batch.specs.declared.limits.TheConstants.{MAX_TRANSFERS}
 use Rattle.batch_book.specs.declared.entry.Entry.{Entry}
-use Rattle.batch_book.specs.History.{Starts}
+use Rattle.batch_book.specs.History.{IsPrefix}
 use Rattle.batch_book.specs.Seats.{SeatState}
-use Rattle.client_session.specs.declared.limits.TheConstants.{HELD_BYTES, INPUT_BYTES, LINE_BYTES, MAX_READS}
+use Rattle.client_session.specs.declared.limits.TheConstants.{REPLY_BUFFER_BYTES, INPUT_BYTES, LINE_BYTES, MAX_READS}
 use Rattle.client_session.specs.declared.command.SessionCommand.TheVariants.{Batch, Bye}
 use Rattle.client_session.specs.declared.fault.ServeFault.{ServeFault}
 use Rattle.client_session.specs.declared.fault.ServeFault.TheVariants.{Read, Write, LineTooLong, Cut, Turns, NoMemory, Record}
@@ -119,7 +119,7 @@ pub record IsCutOff (old new : SeatView) (bytes : List ℕ) (entries : List Entr
   pub missing : List ℕ
   pub session : IsSession false old new turns bytes rest entries (written ++ missing)
   pub may_end : MayEnd turns
-  pub few : length missing ≤ HELD_BYTES
+  pub few : length missing ≤ REPLY_BUFFER_BYTES
   pub recorded : IsAllRecorded new
   pub last : old.loses ≡ false → IsEndOfLastLine turns missing
 
@@ -147,8 +147,8 @@ pub record IsBroken (old new : SeatView) (bytes : List ℕ) (entries : List Entr
   pub one : length lost ≤ 1
   pub entries_are : entries ≡ made ++ lost_entries lost
   pub told : written ≡ lines_of turns
-  pub few : length (lines_of held) ≤ HELD_BYTES
-  pub recorded : Starts (old.log ++ added_entries turns) new.log
+  pub few : length (lines_of held) ≤ REPLY_BUFFER_BYTES
+  pub recorded : IsPrefix (old.log ++ added_entries turns) new.log
 
 -- the session of these bytes, entries and lines has ended so: by itself, or by a fault
 abbrev pub HasEnded : Option ServeFault → Option (List ℕ) → SeatView → SeatView → List ℕ
@@ -174,7 +174,7 @@ pub record IsHolding (old new : SeatView) (bytes rest : List ℕ) (entries : Lis
   pub are : all ≡ turns ++ waiting
   pub session : IsSession false old new all bytes rest entries (written ++ held)
   pub told : written ≡ lines_of turns
-  pub recorded : Starts (old.log ++ added_entries turns) new.log
+  pub recorded : IsPrefix (old.log ++ added_entries turns) new.log
   pub one : old.loses ≡ false → length waiting ≤ 1
 
 -- the session has ended so, but for the lines that are held

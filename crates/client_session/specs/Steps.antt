@@ -9,7 +9,7 @@ use Rattle.batch_book.specs.declared.entry.Entry.{Entry}
 use Rattle.batch_book.specs.declared.call.Call.TheVariants.{Fetch}
 use Rattle.batch_book.specs.declared.reply.Reply.{Reply}
 use Rattle.batch_book.specs.declared.reply.Reply.TheVariants.{Fetched, Ran}
-use Rattle.client_session.specs.declared.limits.TheConstants.{HELD_BYTES, INPUT_BYTES, LINE_BYTES, MAX_READS}
+use Rattle.client_session.specs.declared.limits.TheConstants.{REPLY_BUFFER_BYTES, INPUT_BYTES, LINE_BYTES, MAX_READS}
 use Rattle.client_session.specs.declared.input.InputFault.{InputFault}
 use Rattle.client_session.specs.declared.input.InputFault.TheVariants as input
 use Rattle.client_session.specs.declared.command.SessionCommand.{SessionCommand}
@@ -17,7 +17,7 @@ use Rattle.client_session.specs.declared.command.SessionCommand.TheVariants.{Bat
 use Rattle.client_session.specs.declared.fault.ServeFault.{ServeFault}
 use Rattle.client_session.specs.declared.fault.ServeFault.TheVariants.{Read, Write, LineTooLong, Cut, Turns, NoMemory, Record}
 use Rattle.client_session.specs.Bytes.{PendingInput, HasLine, HasNoFeed, IsSessionLine}
-use Rattle.client_session.specs.declared.front.Front.{Front}
+use Rattle.client_session.specs.declared.pending_line.PendingLine.{PendingLine}
 use Rattle.client_session.specs.Commands.{Means}
 use Rattle.client_session.specs.Seats.{SeatView, GoesOnFrom}
 use Rattle.client_session.specs.Turns.{Turn, IsTurn, LostTurn, IsLostTurn, SessionGoesOn, Answer, turn_text, lost_text, lines_text, readings_of, shown}
@@ -75,10 +75,10 @@ pub record Breaks (fault : ServeFault) (old new : SeatView)
   pub begun : HasBegun entries
 
 -- something such was done, and this is its line; or a call wasn't made
-abbrev pub Does : {T : Type 0} → SeatView → SeatView → (Answer → Type 0) → (List Entry → Type 0)
+abbrev pub IsDoneOrFailed : {T : Type 0} → SeatView → SeatView → (Answer → Type 0) → (List Entry → Type 0)
     → List ℕ → Result T ServeFault → Type 0
-Does old new IsSo HasBegun line (Ok done) = Acts old new IsSo line
-Does old new IsSo HasBegun line (Err fault) = Breaks fault old new HasBegun
+IsDoneOrFailed old new IsSo HasBegun line (Ok done) = Acts old new IsSo line
+IsDoneOrFailed old new IsSo HasBegun line (Err fault) = Breaks fault old new HasBegun
 
 -- n lines were taken from the input, and stand after the text
 pub record LinesTaken (before after : Option (List ℕ)) (old new : PendingInput)
@@ -168,8 +168,8 @@ abbrev pub AreUntold : ServeFault → (old new : SeatView) → (out_before out_a
     → List ℕ → Type 0
 AreUntold Write old new out_before out_after lines =
     (new ≡ record old { log = old.asked }) × (0 < length lines)
-    × IsCutShort out_before out_after lines × (length lines ≤ HELD_BYTES)
+    × IsCutShort out_before out_after lines × (length lines ≤ REPLY_BUFFER_BYTES)
 AreUntold Record old new out_before out_after lines =
     (new ≡ record old { broken = true }) × (out_after ≡ out_before)
-    × (length lines ≤ HELD_BYTES)
+    × (length lines ≤ REPLY_BUFFER_BYTES)
 AreUntold fault old new out_before out_after lines = ⊥

@@ -5,7 +5,7 @@ use Rattle.batch.specs.declared.limits.TheConstants.{MAX_TRANSFERS}
 use Rattle.batch.specs.declared.fault.BatchFault.{BatchFault}
 use Rattle.batch.specs.declared.fault.BatchFault.TheVariants.{NoMemory}
 use Rattle.batch.specs.declared.transfer.Transfer.{Transfer}
-use Rattle.batch.specs.Extent.{Extent}
+use Rattle.batch.specs.ShapeView.{ShapeView}
 use Rattle.batch.specs.Text.{Denotes}
 use Rattle.batch.specs.Faults.{IsFirstFault, NeedsMemory}
 use Rattle.schedule_certificate.specs.Plans.{Plan, IsPlan}
@@ -56,7 +56,7 @@ TellsReply by id call a = (reply : Reply) × IsReplyTo call reply × (a ≡ tell
 
 -- The lines of a batch: what they denote was submitted, or their first fault is the line, or there
 -- was no memory for a transfer that they have.
-abbrev pub Submits : Extent → ℕ → List ℕ → Answer → Type 0
+abbrev pub Submits : ShapeView → ℕ → List ℕ → Answer → Type 0
 Submits shape by text a =
     ((batch : List Transfer) × Denotes shape text batch × TellsReply by 0 (call.Submit batch) a)
     ⊎ ((fault : BatchFault) × (fault ≢ NoMemory) × IsFirstFault shape text fault
@@ -93,7 +93,7 @@ ReadsProgress a =
     × (a ≡ record { entries = []; reading = Some r; line = progress_line r })
 
 -- What a command may do: this is the whole table of a session. The text is that of its lines.
-abbrev pub DoesCommand : Extent → ℕ → Option SessionCommand → List ℕ → Answer → Type 0
+abbrev pub DoesCommand : ShapeView → ℕ → Option SessionCommand → List ℕ → Answer → Type 0
 DoesCommand shape by None text a = a ≡ refuses refusal.Line
 DoesCommand shape by (Some (Batch count)) text a =
     ((MAX_TRANSFERS < count) × (a ≡ refuses refusal.TooMany))
@@ -129,7 +129,7 @@ abbrev pub lines_after : Option SessionCommand → ℕ
 lines_after (Some (Batch count)) = if nat_lt MAX_TRANSFERS count then 0 else count
 lines_after command = 0
 
-pub record IsTurn (shape : Extent) (by : ℕ) (t : Turn) : Type 0 where
+pub record IsTurn (shape : ShapeView) (by : ℕ) (t : Turn) : Type 0 where
   pub head : IsSessionLine t.head
   pub body : AllByRecursion IsSessionLine t.body
   pub means : Means t.head t.command
@@ -145,9 +145,9 @@ IsFetching by id entries =
     × (entries ≡ entry by (call.Fetch id) (Fetched batch) ∷ []))
 
 -- the entries that a command may have added before that
-abbrev pub IsBegun : ℕ → Option SessionCommand → List Entry → Type 0
-IsBegun by (Some (PlanOf id)) entries = IsFetching by id entries
-IsBegun by command entries = entries ≡ []
+abbrev pub MayHaveAdded : ℕ → Option SessionCommand → List Entry → Type 0
+MayHaveAdded by (Some (PlanOf id)) entries = IsFetching by id entries
+MayHaveAdded by command entries = entries ≡ []
 
 -- the line of the command, those after it that belong to it, what it means, and what it added
 pub record LostTurn : Type 0 where
@@ -164,7 +164,7 @@ pub record IsLostTurn (by : ℕ) (t : LostTurn) : Type 0 where
   pub body : AllByRecursion IsSessionLine t.body
   pub means : Means t.head t.command
   pub whole : length t.body ≡ lines_after t.command
-  pub begun : IsBegun by t.command t.entries
+  pub begun : MayHaveAdded by t.command t.entries
 
 -- ---- whether the session goes on
 

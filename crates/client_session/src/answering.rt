@@ -1,8 +1,8 @@
 //! What is done for a command, and its reply line, which is put into an empty one.
 
 ghost use Rattle.std.specs.Prelude.{◌≡◌, [], ℕ, List, true, OnErr};
-ghost use Rattle.client_session.specs.Turns.{TellsReply, Submits, Plans, DoesCommand, IsFetching, IsBegun};
-ghost use Rattle.client_session.specs.Steps.{IsNoFetch, StandsAlone, Does};
+ghost use Rattle.client_session.specs.Turns.{TellsReply, Submits, Plans, DoesCommand, IsFetching, MayHaveAdded};
+ghost use Rattle.client_session.specs.Steps.{IsNoFetch, StandsAlone, IsDoneOrFailed};
 
 use crate::command::SessionCommand;
 use crate::exchange_seat::ExchangeSeat;
@@ -28,7 +28,7 @@ fn call<R: Threads + Wait + Sync, X: Setup>(
 ) -> Result<(), ServeFault>
     requires empty { line.old ≡ [] }
     requires other { IsNoFetch call }
-    ensures done { Does seat.old seat.new (TellsReply seat.old.session id call) (λ es. es ≡ [])
+    ensures done { IsDoneOrFailed seat.old seat.new (TellsReply seat.old.session id call) (λ es. es ≡ [])
         line.new result }
     ensures loses { OnErr result (X.Entries.loses ≡ true) }
 {
@@ -51,7 +51,7 @@ pub(crate) fn submit<R: Threads + Wait + Sync, X: Setup>(
     text: &[u8],
 ) -> Result<(), ServeFault>
     requires { line.old ≡ [] }
-    ensures done { Does seat.old seat.new (Submits seat.old.shape seat.old.session text.now)
+    ensures done { IsDoneOrFailed seat.old seat.new (Submits seat.old.shape seat.old.session text.now)
         (λ es. es ≡ []) line.new result }
     ensures loses { OnErr result (X.Entries.loses ≡ true) }
 {
@@ -74,7 +74,7 @@ fn plan<R: Threads + Wait + Sync, X: Setup>(
     workers: WorkerCount,
 ) -> Result<(), ServeFault>
     requires { line.old ≡ [] }
-    ensures done { Does seat.old seat.new (Plans seat.old.session id)
+    ensures done { IsDoneOrFailed seat.old seat.new (Plans seat.old.session id)
         (IsFetching seat.old.session id) line.new result }
     ensures loses { OnErr result (X.Entries.loses ≡ true) }
 {
@@ -106,9 +106,9 @@ pub(crate) fn answer<R: Threads + Wait + Sync, X: Setup>(
 ) -> Result<(), ServeFault>
     requires empty { line.old ≡ [] }
     requires alone { StandsAlone command }
-    ensures done { (text : List ℕ) → Does seat.old seat.new
+    ensures done { (text : List ℕ) → IsDoneOrFailed seat.old seat.new
         (DoesCommand seat.old.shape seat.old.session command text)
-        (IsBegun seat.old.session command) line.new result }
+        (MayHaveAdded seat.old.session command) line.new result }
     ensures loses { OnErr result (X.Entries.loses ≡ true) }
 {
     let (id, asked) = match command {

@@ -3,7 +3,7 @@
 ghost use Rattle.std.specs.Prelude.{◌≡◌, ◌≢◌, ℕ, ◌∷◌, ◌++◌, ◌≤◌, ◌+◌, length, codes, IfSome, IfNone};
 ghost use Rattle.batch.specs.Text.{IsNumber, number, space};
 ghost use Rattle.line_words.specs.HexWords.{IsWord, hex8};
-ghost use Rattle.client_session.specs.Commands.{Means, is_quick, line_of};
+ghost use Rattle.client_session.specs.Commands.{Means, is_immediate, line_of};
 
 use crate::limits::COMMAND_ROOM;
 use line_words::{
@@ -88,8 +88,8 @@ fn put_poke(line: &mut Line, module: usize, address: u32, word: u32)
 impl SessionCommand {
     /// Whether it waits for nobody long, so that replies to earlier commands may be held until this
     /// one is answered: nothing is planned, and no run is made.
-    pub(crate) fn is_quick(self) -> bool
-        ensures { result ≡ is_quick self }
+    pub(crate) fn is_immediate(self) -> bool
+        ensures { result ≡ is_immediate self }
     {
         match self {
             SessionCommand::Plan(_) | SessionCommand::Run(_) => false,

@@ -58,10 +58,10 @@ impl<'a, X: Setup> ExchangeSeat<'a, X> {
     }
 
     /// Whether it may have asked something that can't be told yet.
-    pub fn waits(&self) -> bool
+    pub fn has_pending(&self) -> bool
         ensures { result ≡ true → self.now.loses ≡ true }
     {
-        self.shared.waits(&self.seat)
+        self.shared.has_pending(&self.seat)
     }
 
     /// Reads the progress word.
@@ -86,13 +86,13 @@ impl<'a, X: Setup> ExchangeSeat<'a, X> {
 
     /// Sees to it that all which the session has asked can be told. The fault is that the record is
     /// broken.
-    pub fn settle<R: Wait + Clock>(&mut self, rt: &R) -> Result<(), ServeFault>
+    pub fn sync<R: Wait + Clock>(&mut self, rt: &R) -> Result<(), ServeFault>
         ensures ok { OnOk result (self.new ≡ record self.old { log = self.old.asked }) }
         ensures fault { IfErr result (λ fault. fault ≡ Record) }
         ensures err { OnErr result (self.new ≡ record self.old { broken = true }) }
         ensures loses { OnErr result (X.Entries.loses ≡ true) }
     {
-        self.shared.settle(rt, &mut self.seat)?;
+        self.shared.sync(rt, &mut self.seat)?;
         Ok(())
     }
 }

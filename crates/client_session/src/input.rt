@@ -8,7 +8,7 @@ ghost use Rattle.client_session.specs.Faults.{HasBroughtNothing, IsFaultAt};
 ghost use Rattle.client_session.specs.Steps.{IsFront, of_input};
 
 use crate::counted_read::CountedRead;
-use crate::front::Front;
+use crate::pending_line::PendingLine;
 use crate::limits::{INPUT_BYTES, LINE_BYTES, MAX_READS};
 use std::marker::Model;
 
@@ -155,7 +155,7 @@ impl Input {
     pub(crate) fn next_line<R: CountedRead>(
         &mut self,
         reader: &mut R,
-        found: Option<Front>,
+        found: Option<PendingLine>,
     ) -> Result<Option<usize>, InputFault>
         requires reads { self.old.reads ≤ MAX_READS }
         requires found { IfSome found (IsFront self.old.pending) }

@@ -13,4 +13,4 @@ pub const MAX_READS: usize = 1_000_000;
 pub const COMMAND_ROOM: usize = 43;
 
 /// How many bytes of reply lines a session holds at most: a hundred short lines, and a long one.
-pub const HELD_BYTES: usize = 6144;
+pub const REPLY_BUFFER_BYTES: usize = 6144;

@@ -1,6 +1,6 @@
 ghost use Rattle.std.specs.Prelude.{◌≡◌, ℕ, List, [], Some, None};
 ghost use Rattle.refusals.specs.declared.refusal.Refusal.{Refusal};
-ghost use Rattle.client_session.specs.Listening.{Told, Tells};
+ghost use Rattle.client_session.specs.Listening.{ListenerLog, Tells};
 
 use refusals::Refusal;
 
@@ -9,19 +9,19 @@ use refusals::Refusal;
 /// Contracts see what it has told, as the contents of a writer, and what may be told of a refusal.
 pub trait Listener {
     // What it has told.
-    ghost told: { Self → Told };
+    ghost told: { Self → ListenerLog };
 
     // That these bytes may be told of a refusal.
     ghost may_tell: { Refusal → List ℕ → Type 0 };
 
     /// Lines were read that are answered next, each with its line feed: a command with the lines
     /// that belong to it, or a line that is no command. Nothing is told of them yet.
-    fn heard(&mut self, text: &[u8])
+    fn on_lines(&mut self, text: &[u8])
         ensures { told self.new ≡ told self.old };
 
     /// What was heard last is refused, and the reply line that says so is written. Of this refusal,
     /// and of nothing else, something may be told now.
-    fn refused(&mut self, refusal: Refusal)
+    fn on_refusal(&mut self, refusal: Refusal)
         ensures { Tells may_tell refusal (told self.old) (told self.new) };
 }
 
@@ -34,7 +34,7 @@ impl Listener for NoListener {
 
     ghost may_tell = { λ _ bytes. bytes ≡ [] };
 
-    fn heard(&mut self, _text: &[u8]) {}
+    fn on_lines(&mut self, _text: &[u8]) {}
 
-    fn refused(&mut self, _refusal: Refusal) {}
+    fn on_refusal(&mut self, _refusal: Refusal) {}
 }

@@ -10,15 +10,15 @@ ghost use Rattle.client_session.specs.Bytes.{HasLine};
 ghost use Rattle.client_session.specs.Listening.{TellsOfRefusals};
 ghost use Rattle.client_session.specs.Seats.{seat_view};
 ghost use Rattle.client_session.specs.Sessions.{HasEnded, HoldsAtEnd, GoesThrough, IsAllRecorded, IsServed, cuts_off, fault_in, seat_back, fault_back};
-ghost use Rattle.client_session.specs.Commands.{is_quick};
+ghost use Rattle.client_session.specs.Commands.{is_immediate};
 ghost use Rattle.client_session.specs.Steps.{IsFront, AreTold, AreUntold, MayTell};
-ghost use Rattle.client_session.specs.declared.limits.TheConstants.{HELD_BYTES, LINE_BYTES};
+ghost use Rattle.client_session.specs.declared.limits.TheConstants.{REPLY_BUFFER_BYTES, LINE_BYTES};
 
 use crate::command::SessionCommand;
 use crate::counted_read::CountedRead;
 use crate::exchange_seat::ExchangeSeat;
 use crate::fault::ServeFault;
-use crate::front::Front;
+use crate::pending_line::PendingLine;
 use crate::input::Input;
 use crate::listener::Listener;
 use crate::reply_buffer::ReplyBuffer;
@@ -60,13 +60,13 @@ fn tell_refusal<H: Listener>(listener: &mut H, refusal: Option<Refusal>)
     ensures { TellsOfRefusals H.may_tell (H.told listener.old) (H.told listener.new) }
 {
     if let Some(refusal) = refusal {
-        listener.refused(refusal);
+        listener.on_refusal(refusal);
     }
 }
 
 /// Sees to it that all which the session has asked can be told, and then writes the lines that are
 /// held, together. The listener hears of the refusal that the last line says.
-fn tell<R: Wait + Clock, X: Setup, O: Write, H: Listener>(
+fn send_replies<R: Wait + Clock, X: Setup, O: Write, H: Listener>(
     rt: &R,
     seat: &mut ExchangeSeat<'_, X>,
     writer: &mut O,
@@ -82,7 +82,7 @@ fn tell<R: Wait + Clock, X: Setup, O: Write, H: Listener>(
     ensures beside { TellsOfRefusals H.may_tell (H.told listener.old) (H.told listener.new) }
 {
     let lines = held.as_bytes();
-    seat.settle(rt)?;
+    seat.sync(rt)?;
     send(writer, lines)?;
     tell_refusal(listener, held.clear());
     Ok(())
@@ -91,30 +91,30 @@ fn tell<R: Wait + Clock, X: Setup, O: Write, H: Listener>(
 /// Whether what the line in front commands is answered at once: it is quick, and the lines of a
 /// batch are there.
 fn is_at_once(input: &Input, command: Option<SessionCommand>) -> bool
-    ensures { result ≡ true → IfSome command (λ c. is_quick c ≡ true) }
+    ensures { result ≡ true → IfSome command (λ c. is_immediate c ≡ true) }
 {
     match command {
         Some(SessionCommand::Batch(count)) => input.has_lines(count),
-        Some(command) => command.is_quick(),
+        Some(command) => command.is_immediate(),
         None => true,
     }
 }
 
 /// The line in front, where what it commands is answered at once.
-fn quick_front(input: &Input) -> Option<Front>
+fn quick_front(input: &Input) -> Option<PendingLine>
     ensures front { IfSome result (IsFront input.now.pending) }
-    ensures quick { IfSome result (λ front. IfSome front.command (λ c. is_quick c ≡ true)) }
+    ensures quick { IfSome result (λ front. IfSome front.command (λ c. is_immediate c ≡ true)) }
 {
     let length = input.line_length()?;
     let command = SessionCommand::read(&input.pending()[..length]);
     if !is_at_once(input, command) {
         return None;
     }
-    Some(Front { length, command })
+    Some(PendingLine { length, command })
 }
 
 /// The line in front, which has this length. What it commands is read where it wasn't found before.
-fn front_of(input: &Input, length: usize, found: Option<Front>) -> Front
+fn front_of(input: &Input, length: usize, found: Option<PendingLine>) -> PendingLine
     requires line { HasLine input.now.pending length × (length ≤ LINE_BYTES) }
     requires found { IfSome found (IsFront input.now.pending) }
     ensures { IsFront input.now.pending result }
@@ -122,7 +122,7 @@ fn front_of(input: &Input, length: usize, found: Option<Front>) -> Front
     if let Some(front) = found {
         return front;
     }
-    Front {
+    PendingLine {
         length,
         command: SessionCommand::read(&input.pending()[..length]),
     }
@@ -130,29 +130,29 @@ fn front_of(input: &Input, length: usize, found: Option<Front>) -> Front
 
 /// Tells what is held, where no more is to be held before the next command. Else it gives that
 /// one's line.
-fn tell_first<R: Wait + Clock, X: Setup, O: Write, H: Listener>(
+fn send_replies_if_due<R: Wait + Clock, X: Setup, O: Write, H: Listener>(
     rt: &R,
     seat: &mut ExchangeSeat<'_, X>,
     input: &Input,
     writer: &mut O,
     listener: &mut H,
     held: &mut ReplyBuffer,
-) -> Result<Option<Front>, ServeFault>
+) -> Result<Option<PendingLine>, ServeFault>
     ensures ok { OnOk result (MayTell seat.old seat.new (O.contents writer.old)
         (O.contents writer.new) held.old held.new) }
-    ensures room { OnOk result (length held.new + LINE_ROOM ≤ HELD_BYTES) }
+    ensures room { OnOk result (length held.new + LINE_ROOM ≤ REPLY_BUFFER_BYTES) }
     ensures found { IfOk result (λ found. IfSome found (IsFront input.now.pending)) }
     ensures err { IfErr result (λ e. AreUntold e seat.old seat.new (O.contents writer.old)
         (O.contents writer.new) held.old) }
     ensures loses { IfErr result (λ e. e ≡ ServeFault.Record → X.Entries.loses ≡ true) }
     ensures beside { TellsOfRefusals H.may_tell (H.told listener.old) (H.told listener.new) }
 {
-    if held.has_room() && seat.waits() && !held.refuses() {
+    if held.has_room() && seat.has_pending() && !held.refuses() {
         if let Some(front) = quick_front(input) {
             return Ok(Some(front));
         }
     }
-    tell(rt, seat, writer, listener, held)?;
+    send_replies(rt, seat, writer, listener, held)?;
     Ok(None)
 }
 
@@ -178,7 +178,7 @@ fn serve_lines<R: Clock + Threads + Wait + Sync, X: Setup, I: CountedRead, O: Wr
     let mut input = Input::new();
     let mut line = ReplyLine::new();
     loop {
-        let found = tell_first(rt, seat, &input, writer, listener, held)?;
+        let found = send_replies_if_due(rt, seat, &input, writer, listener, held)?;
         let Some(n) = input.next_line(reader, found)? else {
             return Ok(());
         };
@@ -228,7 +228,7 @@ fn serve_seat<R: Clock + Threads + Wait + Sync, X: Setup, I: CountedRead, O: Wri
     if is_cut_off(&ended) {
         return ended;
     }
-    tell(rt, seat, writer, listener, &mut held).and(ended)
+    send_replies(rt, seat, writer, listener, &mut held).and(ended)
 }
 
 /// Serves the session of one client from a seat: reads its commands, and writes a reply line to

@@ -12,7 +12,7 @@ use crate::command::SessionCommand;
 use crate::counted_read::CountedRead;
 use crate::exchange_seat::ExchangeSeat;
 use crate::fault::ServeFault;
-use crate::front::Front;
+use crate::pending_line::PendingLine;
 use crate::input::Input;
 use crate::limits::{INPUT_BYTES, LINE_BYTES, MAX_READS};
 use crate::listener::Listener;
@@ -81,7 +81,7 @@ fn batch<R: Threads + Wait + Sync, X: Setup, I: CountedRead, H: Listener>(
     input.skip(n + 1);
     take_lines(input, reader, &mut text, count)?;
     let text = text.as_slice();
-    listener.heard(text);
+    listener.on_lines(text);
     submit(rt, alloc, seat, line, text)
 }
 
@@ -116,7 +116,7 @@ pub(crate) fn turn<R: Threads + Wait + Sync, X: Setup, I: CountedRead, H: Listen
     reader: &mut I,
     listener: &mut H,
     line: &mut ReplyLine,
-    front: Front,
+    front: PendingLine,
     workers: WorkerCount,
 ) -> Result<bool, ServeFault>
     requires empty { line.old ≡ [] }
@@ -133,14 +133,14 @@ pub(crate) fn turn<R: Threads + Wait + Sync, X: Setup, I: CountedRead, H: Listen
     ensures beside { H.told listener.new ≡ H.told listener.old }
     ensures fuel { OnOk result (fuel input.new < fuel input.old) }
 {
-    let Front { length: n, command } = front;
+    let PendingLine { length: n, command } = front;
     match lines_behind(command) {
         Some(count) => {
             batch(rt, alloc, seat, input, reader, listener, line, n, count)?;
             Ok(false)
         }
         None => {
-            listener.heard(&input.pending()[..n + 1]);
+            listener.on_lines(&input.pending()[..n + 1]);
             input.skip(n + 1);
             answer(rt, alloc, seat, line, command, workers)?;
             Ok(ends(command))

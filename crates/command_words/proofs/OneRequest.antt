@@ -12,8 +12,8 @@ use Rattle.clap.specs.declared.error.Error.{Error}
 use Rattle.clap.specs.declared.error.kind.ErrorKind.{ErrorKind}
 use Rattle.plan_answers.specs.declared.source.Planning.{Planning}
 use Rattle.plan_answers.specs.declared.source.Planning.TheVariants as planning
-use Rattle.plan_answers.specs.declared.source.Source.{Source}
-use Rattle.plan_answers.specs.declared.source.Source.TheVariants as source
+use Rattle.plan_answers.specs.declared.source.ScheduleSource.{ScheduleSource}
+use Rattle.plan_answers.specs.declared.source.ScheduleSource.TheVariants as source
 use Rattle.command_words.specs.declared.jobs.ArgumentsFault.TheVariants.{Clap}
 use Rattle.command_words.specs.declared.jobs.Job.{Job}
 use Rattle.command_words.specs.declared.jobs.Job.TheVariants.{Texts, Ports, Sessions}
@@ -75,7 +75,7 @@ two rows true true x y = refl
 not_both : (o : Option Text) (a : Text) → o ≡ None → o ≡ Some a → ⊥
 not_both o a none some = let e : None ≡ Some a = sym none ∙ some in absurd (cc)
 
-sourced : (rows : List Row) (a b : Source Text) → HasSource rows a → HasSource rows b → a ≡ b
+sourced : (rows : List Row) (a b : ScheduleSource Text) → HasSource rows a → HasSource rows b → a ≡ b
 sourced rows (source.Plan a) (source.Plan b) x y = ap source.Plan (planned rows a b x.1 y.1)
 sourced rows (source.Plan a) (source.Text b) x y = absurd (not_both _ b x.0 y.0)
 sourced rows (source.Text a) (source.Plan b) x y = absurd (not_both _ a y.0 x.0)

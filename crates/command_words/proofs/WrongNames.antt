@@ -1,13 +1,13 @@
 -- Files of which one is misnamed may not have their names.
 use Rattle.std.proofs.Common.{List, get_or, subst}
 use Rattle.std.proofs.lemmas.Option.{get_or_from_slice_get, slice_get_within}
-use Rattle.command_words.specs.declared.outputs.Misnamed.{Misnamed}
-use Rattle.command_words.specs.declared.outputs.Misnamed.TheVariants.{Input, OneName}
+use Rattle.command_words.specs.declared.outputs.NameFault.{NameFault}
+use Rattle.command_words.specs.declared.outputs.NameFault.TheVariants.{Input, OneName}
 use Rattle.command_words.specs.declared.uses.FileUse.{FileUse}
 use Rattle.command_words.specs.Jobs.{HaveNames, HaveTwoNames, MayHaveName}
 use Rattle.command_words.specs.Names.{IsMisnamed}
 
-pub no_names : (files : List FileUse) (why : Misnamed) → IsMisnamed files why → HaveNames files → ⊥
+pub no_names : (files : List FileUse) (why : NameFault) → IsMisnamed files why → HaveNames files → ⊥
 no_names files (Input it) is names =
     let file = it.now in
     let i = is.0 in

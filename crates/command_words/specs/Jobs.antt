@@ -12,8 +12,8 @@ use Rattle.clap.specs.declared.error.kind.ErrorKind.TheVariants.{DisplayHelp, Di
 use Rattle.exchange_limits.specs.declared.limits.TheConstants.{MAX_WORKERS}
 use Rattle.plan_answers.specs.declared.source.Planning.{Planning}
 use Rattle.plan_answers.specs.declared.source.Planning.TheVariants as planning
-use Rattle.plan_answers.specs.declared.source.Source.{Source}
-use Rattle.plan_answers.specs.declared.source.Source.TheVariants as source
+use Rattle.plan_answers.specs.declared.source.ScheduleSource.{ScheduleSource}
+use Rattle.plan_answers.specs.declared.source.ScheduleSource.TheVariants as source
 use Rattle.command_words.specs.declared.limits.TheConstants.{LAST_MODULE, MAX_CLIENTS, MAX_NUMBER}
 use Rattle.command_words.specs.declared.uses.Access.{Access}
 use Rattle.command_words.specs.declared.uses.Access.TheVariants.{Read, Write, Told, Port}
@@ -79,7 +79,7 @@ HasPlanning rows planning.Steady =
     IsGiven (codes "steady") rows × (IsGiven (codes "workers") rows → ⊥)
 
 -- where a schedule is to come from: `--schedule` excludes both
-abbrev pub HasSource : List Row → Source Text → Type 0
+abbrev pub HasSource : List Row → ScheduleSource Text → Type 0
 HasSource rows (source.Plan planning) =
     HasOption (codes "schedule") rows None × HasPlanning rows planning
 HasSource rows (source.Text file) =
@@ -234,7 +234,7 @@ scripts_on image scripts =
     record { image = image; list = None; schedule = None; wiring = None; scripts = scripts }
 
 -- the file that has a schedule, where one has
-abbrev pub schedule_in : Source Text → Option Text
+abbrev pub schedule_in : ScheduleSource Text → Option Text
 schedule_in (source.Plan planning) = None
 schedule_in (source.Text schedule) = Some schedule
 

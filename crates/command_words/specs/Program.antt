@@ -9,7 +9,7 @@ use Rattle.clap.specs.declared.builder.action.ArgAction.TheVariants.{SetTrue}
 use Rattle.clap.specs.declared.builder.value_parser.ValueParser.TheVariants as parser
 use Rattle.exchange_limits.specs.declared.limits.TheConstants.{MAX_WORKERS}
 use Rattle.command_words.specs.declared.commands.Argument.{Argument}
-use Rattle.command_words.specs.declared.commands.Argument.TheVariants.{Shape, File, Batch, Schedule, Port, PortB, Moves, Image, Record, Scripts, Clients, Shaped, ImageIn, RecordOut, Resume, Sync, ImageOut, Settings, Prices, Scheduled, Wiring, Switches, First, Entries, Module, Steady, GoOn, Workers, Quiet}
+use Rattle.command_words.specs.declared.commands.Argument.TheVariants.{Shape, File, Batch, Schedule, Port, PortB, Moves, Image, Record, Scripts, Clients, Shaped, ImageIn, RecordOut, Resume, Sync, ImageOut, Settings, Prices, Scheduled, Wiring, Switches, FromSetting, FirstEntries, Module, Steady, GoOn, Workers, Quiet}
 use Rattle.command_words.specs.declared.commands.CommandName.{CommandName}
 use Rattle.command_words.specs.declared.commands.CommandName.TheVariants.{Plan, Check, Draw, Switch, Orders, Drive, C004, Direct, Apply, Run, Serve, Host, Talk, Replay}
 use Rattle.command_words.specs.declared.limits.TheConstants.{LAST_MODULE, MAX_CLIENTS, MAX_NUMBER}
@@ -62,8 +62,8 @@ rule_for Prices = flag (codes "prices")
 rule_for Scheduled = option (codes "schedule")
 rule_for Wiring = option (codes "wiring")
 rule_for Switches = number_option (codes "switches") 2 2
-rule_for First = record (number_option (codes "from") 0 MAX_NUMBER) { defaults = codes "0" ∷ [] }
-rule_for Entries = number_option (codes "first") 0 MAX_NUMBER
+rule_for FromSetting = record (number_option (codes "from") 0 MAX_NUMBER) { defaults = codes "0" ∷ [] }
+rule_for FirstEntries = number_option (codes "first") 0 MAX_NUMBER
 rule_for Module = number_option (codes "module") 0 LAST_MODULE
 rule_for Steady = flag (codes "steady")
 rule_for GoOn = flag (codes "go-on")
@@ -89,7 +89,7 @@ sheet_of Orders =
     (codes "orders", Batch ∷ Scheduled ∷ Steady ∷ Workers ∷ Module ∷ Quiet ∷ [])
 sheet_of Drive = (
   codes "drive",
-  Batch ∷ Port ∷ PortB ∷ Scheduled ∷ Steady ∷ Workers ∷ Wiring ∷ First ∷ GoOn
+  Batch ∷ Port ∷ PortB ∷ Scheduled ∷ Steady ∷ Workers ∷ Wiring ∷ FromSetting ∷ GoOn
       ∷ Quiet ∷ [],
 )
 sheet_of C004 = (codes "c004", Quiet ∷ [])
@@ -105,7 +105,7 @@ sheet_of Host = (
 )
 sheet_of Talk =
     (codes "talk", Shape ∷ ImageIn ∷ RecordOut ∷ Resume ∷ Sync ∷ ImageOut ∷ Quiet ∷ [])
-sheet_of Replay = (codes "replay", Record ∷ Shaped ∷ ImageIn ∷ Entries ∷ Quiet ∷ [])
+sheet_of Replay = (codes "replay", Record ∷ Shaped ∷ ImageIn ∷ FirstEntries ∷ Quiet ∷ [])
 
 abbrev pub command_word : CommandName → List ℕ
 command_word name = (sheet_of name).0

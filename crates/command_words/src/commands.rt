@@ -77,9 +77,9 @@ pub(crate) enum Argument {
     /// `--switches 2`.
     Switches,
     /// `--from K`.
-    First,
+    FromSetting,
     /// `--first E`.
-    Entries,
+    FirstEntries,
     /// `--module M`.
     Module,
     /// `--steady`.
@@ -93,7 +93,7 @@ pub(crate) enum Argument {
 }
 
 use Argument::{
-    Batch, Clients, Entries, File, First, GoOn, Image, ImageIn, ImageOut, Module, Moves, Port,
+    Batch, Clients, FirstEntries, File, FromSetting, GoOn, Image, ImageIn, ImageOut, Module, Moves, Port,
     PortB, Prices, Quiet, Record, RecordOut, Resume, Schedule, Scheduled, Scripts, Settings, Shape,
     Shaped, Steady, Switches, Sync, Wiring, Workers,
 };
@@ -106,7 +106,7 @@ static SHEETS: [(&str, &[Argument]); 14] = [
     ("draw", &[Batch, Schedule, Settings, Prices, Quiet]),
     ("switch", &[Batch, Scheduled, Steady, Workers, Wiring, Switches, Quiet]),
     ("orders", &[Batch, Scheduled, Steady, Workers, Module, Quiet]),
-    ("drive", &[Batch, Port, PortB, Scheduled, Steady, Workers, Wiring, First, GoOn, Quiet]),
+    ("drive", &[Batch, Port, PortB, Scheduled, Steady, Workers, Wiring, FromSetting, GoOn, Quiet]),
     ("c004", &[Quiet]),
     ("direct", &[Moves, Quiet]),
     ("apply", &[Shape, Batch, Image, Workers, Quiet]),
@@ -114,7 +114,7 @@ static SHEETS: [(&str, &[Argument]); 14] = [
     ("serve", &[Shape, Scripts, ImageIn, RecordOut, ImageOut, Workers, Quiet]),
     ("host", &[Shape, Clients, ImageIn, RecordOut, Resume, Sync, ImageOut, Workers, Quiet]),
     ("talk", &[Shape, ImageIn, RecordOut, Resume, Sync, ImageOut, Quiet]),
-    ("replay", &[Record, Shaped, ImageIn, Entries, Quiet]),
+    ("replay", &[Record, Shaped, ImageIn, FirstEntries, Quiet]),
 ];
 
 impl CommandName {

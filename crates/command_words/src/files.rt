@@ -8,7 +8,7 @@ ghost use Rattle.command_words.specs.Files.{file_names};
 use crate::jobs::{Job, PortJob, SessionJob, TextJob};
 use crate::role::Role;
 use crate::text::Text;
-use plan_answers::Source;
+use plan_answers::ScheduleSource;
 
 /// The names of the files that a job reads, in the order in which they are read, each by what it is
 /// for.
@@ -64,12 +64,12 @@ fn scripts_on<'a>(image: Option<&'a Text>, scripts: &'a [Text]) -> JobFiles<'a>
 }
 
 /// The file that has a schedule, where one has.
-fn schedule_of(source: &Source<Text>) -> Option<&Text>
+fn schedule_of(source: &ScheduleSource<Text>) -> Option<&Text>
     ensures { bytes_of result ≡ schedule_in source.now }
 {
     match source {
-        Source::Text(schedule) => Some(schedule),
-        Source::Plan(_) => None,
+        ScheduleSource::Text(schedule) => Some(schedule),
+        ScheduleSource::Plan(_) => None,
     }
 }
 
@@ -115,7 +115,7 @@ impl Job {
     }
 
     /// What it hears from standard input itself, where it does.
-    pub(crate) fn heard(&self) -> Option<Role>
+    pub(crate) fn standard_input(&self) -> Option<Role>
         ensures { is_some result ≡ hears_input self.now }
     {
         match self {

@@ -96,9 +96,9 @@ fn arg_of<'a>(alloc: Global, argument: Argument) -> Arg<'a>
         Resume | Sync | Prices | Steady | GoOn | Quiet => flag(alloc, id, help),
         Switches => option(alloc, id, "2", help)
             .value_parser(value_parser!(u8).range(2..=2)),
-        First => option(alloc, id, "K", help)
+        FromSetting => option(alloc, id, "K", help)
             .value_parser(value_parser!(u32).range(0..=MAX_NUMBER as i64)).default_value("0"),
-        Entries => option(alloc, id, "E", help)
+        FirstEntries => option(alloc, id, "E", help)
             .value_parser(value_parser!(u32).range(0..=MAX_NUMBER as i64)),
         Module => option(alloc, id, "0..31", help)
             .value_parser(value_parser!(u8).range(0..=LAST_MODULE as i64)),

@@ -9,7 +9,7 @@ use crate::text::Text;
 use crate::text_list::TextList;
 use clap::error::ErrorKind;
 use exchange_limits::WorkerCount;
-use plan_answers::{Planning, Source};
+use plan_answers::{Planning, ScheduleSource};
 use std::alloc::AllocError;
 use thiserror::Error;
 
@@ -56,7 +56,7 @@ pub enum TextJob {
     /// workers plan.
     Switch {
         batch: Text,
-        source: Source<Text>,
+        source: ScheduleSource<Text>,
         wiring: Option<Text>,
         has_two: bool,
         workers: WorkerCount,
@@ -65,7 +65,7 @@ pub enum TextJob {
     /// module does. So many workers plan.
     Orders {
         batch: Text,
-        source: Source<Text>,
+        source: ScheduleSource<Text>,
         module: Option<usize>,
         workers: WorkerCount,
     },
@@ -86,7 +86,7 @@ pub enum TextJob {
     Run {
         shape: Text,
         batch: Text,
-        source: Source<Text>,
+        source: ScheduleSource<Text>,
         image: Option<Text>,
         workers: WorkerCount,
     },
@@ -112,7 +112,7 @@ pub enum PortJob {
         batch: Text,
         port: Text,
         port_b: Option<Text>,
-        source: Source<Text>,
+        source: ScheduleSource<Text>,
         wiring: Option<Text>,
         first: usize,
         goes_on: bool,

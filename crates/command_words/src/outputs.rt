@@ -9,12 +9,12 @@ use crate::jobs::Job;
 use crate::role::RoleClash;
 use crate::text::Text;
 use crate::uses::{Access, FileUse};
-use refusal_notes::Named;
+use refusal_notes::NamedText;
 use std::fmt::{self, Display, Formatter, Write};
 
 /// Why files may not have their names.
 #[derive(Clone, Copy)]
-pub(crate) enum Misnamed<'a> {
+pub(crate) enum NameFault<'a> {
     /// This one is written, and named `-`.
     Input(&'a FileUse),
     /// These two have one name, and have to have two.
@@ -52,35 +52,35 @@ fn namesake(file: &FileUse, others: &[FileUse]) -> Option<usize>
 
 /// The first of these files that may not have its name: what is written may not be `-`, nor be read,
 /// or written too, and standard input is read once.
-pub(crate) fn first_misnamed(files: &[FileUse]) -> Option<Misnamed<'_>>
+pub(crate) fn first_misnamed(files: &[FileUse]) -> Option<NameFault<'_>>
     ensures some { IfSome result (IsMisnamed files.now) }
     ensures none { IfNone result (HaveNames files.now) }
 {
     for i in 0..files.len() {
         if !may_have_name(&files[i]) {
-            return Some(Misnamed::Input(&files[i]));
+            return Some(NameFault::Input(&files[i]));
         }
         if let Some(k) = namesake(&files[i], &files[..i]) {
-            return Some(Misnamed::OneName(&files[k], &files[i]));
+            return Some(NameFault::OneName(&files[k], &files[i]));
         }
     }
     None
 }
 
-impl<'a> Display for Misnamed<'a> {
+impl<'a> Display for NameFault<'a> {
     fn fmt<W: Write>(&self, f: &mut Formatter<W>) -> fmt::Result {
         match *self {
-            Misnamed::Input(file) => {
+            NameFault::Input(file) => {
                 let role = file.role();
                 write!(f, "`-` is standard input, which can't be {role}")
             }
-            Misnamed::OneName(one, other) => {
+            NameFault::OneName(one, other) => {
                 let (first, later) = (one.role(), other.role());
                 let clash = RoleClash { first, later };
                 if other.name.is_input() {
                     return write!(f, "`-` is standard input, which is read once: {clash}");
                 }
-                write!(f, "{}: {clash}", Named::only(other.name.as_str()))
+                write!(f, "{}: {clash}", NamedText::only(other.name.as_str()))
             }
         }
     }

@@ -19,7 +19,7 @@ use crate::uses::file_uses;
 use clap::ArgMatches;
 use clap::parser::ValueSource;
 use exchange_limits::{MAX_WORKERS, WorkerCount};
-use plan_answers::{Planning, Source};
+use plan_answers::{Planning, ScheduleSource};
 use std::alloc::{AllocError, Global};
 use std::fmt::Display;
 
@@ -102,16 +102,16 @@ fn planning_of(matches: &ArgMatches<'_>) -> Result<Planning, UsageError>
 }
 
 /// Where a schedule is to come from.
-fn source_of(alloc: Global, matches: &ArgMatches<'_>) -> Result<Source<Text>, UsageError>
+fn source_of(alloc: Global, matches: &ArgMatches<'_>) -> Result<ScheduleSource<Text>, UsageError>
     ensures { IsReading (HasSource (rows_in matches.now)) result }
 {
     let Some(file) = option_of(alloc, matches, "schedule")? else {
-        return Ok(Source::Plan(planning_of(matches)?));
+        return Ok(ScheduleSource::Plan(planning_of(matches)?));
     };
     if is_given(matches, "steady") || is_given(matches, "workers") {
         return Err(UsageError::Source);
     }
-    Ok(Source::Text(file))
+    Ok(ScheduleSource::Text(file))
 }
 
 /// The file for a record of sessions, where there is one.

@@ -37,9 +37,9 @@ pub enum Role {
 
 /// The same, of which contracts see nothing: it is only told.
 #[derive(Drop)]
-pub struct ToldRole(pub(crate) Role);
+pub struct DisplayedRole(pub(crate) Role);
 
-impl Model for ToldRole {
+impl Model for DisplayedRole {
     ghost use Rattle.std.specs.Prelude.{⊤};
 
     ghost Value = { ⊤ };

@@ -5,7 +5,7 @@ ghost use Rattle.plan_answers.specs.Lent.{bytes_of};
 ghost use Rattle.command_words.specs.Jobs.{Exclude, client_files, file, files_beside, files_read, kept_files, port_files, file_uses as the_uses};
 
 use crate::jobs::{Job, PortJob, SessionJob, SharedRack, TextJob};
-use crate::role::{Role, ToldRole};
+use crate::role::{Role, DisplayedRole};
 use crate::text::Text;
 use std::alloc::{AllocError, Global};
 use std::marker::Model;
@@ -40,7 +40,7 @@ impl Access {
 pub struct FileUse {
     pub name: Text,
     pub access: Access,
-    pub(crate) role: ToldRole,
+    pub(crate) role: DisplayedRole,
 }
 
 impl FileUse {
@@ -71,7 +71,7 @@ impl Gathered {
     fn push(&mut self, access: Access, role: Role, name: Text) -> Result<(), AllocError>
         ensures { OnOk result (self.new ≡ self.old ++ file access name ∷ []) }
     {
-        let role = ToldRole(role);
+        let role = DisplayedRole(role);
         self.uses.push(FileUse { name, access, role })?;
         Ok(())
     }
@@ -111,7 +111,7 @@ impl Gathered {
         self.add(Access::Read, beside, files.schedule)?;
         self.add(Access::Read, Role::Wiring, files.wiring)?;
         self.read_all(files.scripts)?;
-        match job.heard() {
+        match job.standard_input() {
             Some(role) => self.push(Access::Read, role, Text::of(self.alloc, "-")?),
             None => Ok(()),
         }

@@ -5,11 +5,11 @@ use Rattle.std.specs.Io.KnownBytes.{Appends}
 use Rattle.batch.specs.declared.transfer.Transfer.{Transfer}
 use Rattle.byte_streams.proofs.Carrying.{appends_none, appends_then}
 use Rattle.plan_answers.specs.Refusals.{Printed}
-use Rattle.plan_answers.specs.declared.source.Source.{Source}
+use Rattle.plan_answers.specs.declared.source.ScheduleSource.{ScheduleSource}
 use Rattle.switch_driver.proofs.Texts.{driven_so, line_text}
 use Rattle.switch_driver.specs.Lines.{Dialogue, HasToldLine, TellsLine}
-use Rattle.switch_driver.specs.declared.driving.Driven.{Driven}
-use Rattle.switch_driver.specs.declared.driving.Driven.TheVariants.{Halted}
+use Rattle.switch_driver.specs.declared.driving.DriveOutcome.{DriveOutcome}
+use Rattle.switch_driver.specs.declared.driving.DriveOutcome.TheVariants.{Halted}
 use Rattle.switch_driver.specs.declared.lines.Lines.{Lines}
 use Rattle.switch_driver.specs.Hearings.{Hearing}
 use Rattle.switch_driver.specs.declared.drive_observer.Halt.{Halt}
@@ -51,7 +51,7 @@ module _ {S I O : Type 0} (remaining : I → Option (List ℕ)) (contents : O �
       )
 
   module _ (tells : S) where
-    over_so : (rack : RackWiring) (batch : List Transfer) (settings : List (List ℕ)) (first : ℕ) (how : Driven) → IsDrivenOver hears rack batch settings first how names was opens told tells
+    over_so : (rack : RackWiring) (batch : List Transfer) (settings : List (List ℕ)) (first : ℕ) (how : DriveOutcome) → IsDrivenOver hears rack batch settings first how names was opens told tells
         → (text : List ℕ) × IsDrivenOver (TellsLine (lines told).waits) rack batch settings first how names was opens (seen told []) (seen tells text) × Since tells text
     over_so rack batch settings first how over =
         let so = driven_so hears (TellsLine (lines told).waits) seen Since step rack batch settings first (Some []) told [] begins how over.carried tells over.went in
@@ -64,7 +64,7 @@ module _ {S I O : Type 0} (remaining : I → Option (List ℕ)) (contents : O �
     tried_so rack batch settings first printed (unopened refusal why refused same none) = rw same ([], unopened refusal why refused refl none, begins)
 
     -- so it is however a drive ended
-    pub end_so : (source : Source (List ℕ)) (batch_text : List ℕ) (wiring : Option (List ℕ)) (first : ℕ) (r : Result DriveEnd DriveFault)
+    pub end_so : (source : ScheduleSource (List ℕ)) (batch_text : List ℕ) (wiring : Option (List ℕ)) (first : ℕ) (r : Result DriveEnd DriveFault)
         → IfOk r (λ end. IsDriveAnswer hears source batch_text wiring first names was opens told tells end.answer) → IfErr r (HasFailed hears source batch_text wiring first names was opens told tells)
         → (text : List ℕ) × IfOk r (λ end. IsDriveAnswer (TellsLine (lines told).waits) source batch_text wiring first names was opens (seen told []) (seen tells text) end.answer)
         × IfErr r (HasFailed (TellsLine (lines told).waits) source batch_text wiring first names was opens (seen told []) (seen tells text)) × Since tells text

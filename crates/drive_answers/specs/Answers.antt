@@ -1,10 +1,10 @@
 -- What `drive` answers: how the settings of a schedule were put on the switches of a rack, over
 -- ports of these names, which were opened for them.
 use Rattle.std.specs.Prelude.{◌≡◌, ◌<◌, ◌⊎◌, ◌==◌, ◌||◌, ℕ, Bool, List, [], length, Option, Some, None, if◌then◌else◌, nat_lt}
-use Rattle.batch.specs.Extent.{widest}
+use Rattle.batch.specs.ShapeView.{widest}
 use Rattle.batch.specs.declared.transfer.Transfer.{Transfer}
 use Rattle.board_wiring.specs.Boards.{IsBoardOf, IsFilled, IsMiswired}
-use Rattle.board_wiring.specs.Lacks.{HasWaysOn, IsLackOf, LacksNothing}
+use Rattle.board_wiring.specs.Missing.{HasWaysOn, IsMissingFor, MissesNothing}
 use Rattle.board_wiring.specs.Sources.{of_wiring}
 use Rattle.board_wiring.specs.declared.board.Board.{Board}
 use Rattle.board_wiring.specs.declared.fault.WiringFault.{WiringFault}
@@ -13,13 +13,13 @@ use Rattle.crossbar.specs.declared.switch.TheConstants.{JOINED_MODULES}
 use Rattle.crossbar.specs.declared.traffic.Passing.{Passing}
 use Rattle.plan_answers.specs.Refusals.{Printed, Refuses}
 use Rattle.plan_answers.specs.Schedules.{IsScheduleFrom, IsWrongFrom}
-use Rattle.plan_answers.specs.declared.source.Source.{Source}
+use Rattle.plan_answers.specs.declared.source.ScheduleSource.{ScheduleSource}
 use Rattle.refusals.specs.declared.refusal.Refusal.{Refusal}
 use Rattle.refusals.specs.declared.refusal.Refusal.TheVariants.{NoSetting}
 use Rattle.switch_driver.specs.Driving.{IsDriven}
 use Rattle.switch_driver.specs.Hearings.{Hearing}
-use Rattle.switch_driver.specs.declared.driving.Driven.{Driven}
-use Rattle.switch_driver.specs.declared.driving.Driven.TheVariants.{Stopped, Halted}
+use Rattle.switch_driver.specs.declared.driving.DriveOutcome.{DriveOutcome}
+use Rattle.switch_driver.specs.declared.driving.DriveOutcome.TheVariants.{Stopped, Halted}
 use Rattle.switch_driver.specs.declared.drive_observer.Halt.TheVariants as halt
 use Rattle.switch_settings.specs.declared.fault.SettingFault.TheVariants.{Port}
 use Rattle.switch_settings.specs.Racks.{is_wide, joined_by}
@@ -53,14 +53,14 @@ switches_in (Usual modules) = if nat_lt JOINED_MODULES modules then 2 else 1
 switches_in (Own board) = 1
 
 -- a setting stopped at its port where that failed, and there alone
-abbrev pub HasPortFailed : Driven → ℕ → Type 0
+abbrev pub HasPortFailed : DriveOutcome → ℕ → Type 0
 HasPortFailed (Stopped k Port) failed = 0 < failed
 HasPortFailed how failed = failed ≡ 0
 
 -- The settings from this one on were driven so over the ports of these names: they were opened,
 -- once; nothing had passed over them before, and this had passed as they were given back.
 pub record IsDrivenOver {S : Type 0} (hears : Hearing S)
-    (rack : RackWiring) (batch : List Transfer) (settings : List (List ℕ)) (first : ℕ) (how : Driven)
+    (rack : RackWiring) (batch : List Transfer) (settings : List (List ℕ)) (first : ℕ) (how : DriveOutcome)
     (names : Names) (was opens : Ways) (told tells : S) : Type 0 where
   pub carried : Option (List Passing)
   pub failed : ℕ
@@ -73,7 +73,7 @@ pub record IsDrivenOver {S : Type 0} (hears : Hearing S)
 pub data IsTried {S : Type 0} (hears : Hearing S) (rack : RackWiring)
     (batch : List Transfer) (settings : List (List ℕ)) (first : ℕ) (names : Names)
     (was opens : Ways) (told tells : S) (printed : Printed) : Type 0 where
-  driven : (how : Driven) → how_many names ≡ switches_in rack
+  driven : (how : DriveOutcome) → how_many names ≡ switches_in rack
       → IsDrivenOver hears rack batch settings first how names was opens told tells
       → IsEnding how printed → IsTried hears rack batch settings first names was opens told tells printed
   unopened : (refusal : Refusal) → IsUnopened names (switches_in rack) refusal
@@ -95,14 +95,14 @@ HasFailedOver {S} hears rack batch settings first names was opens told tells NoM
 -- What is first wrong with the texts: that of the wiring is looked at first, and then the others.
 -- What the batch needs and the board hasn't is refused after faults of the batch's text, and before
 -- those of a schedule. Then the schedule has to have the setting from which on it is driven.
-pub data IsFirstDriveWrong (source : Source (List ℕ)) (text : List ℕ) (wiring : Option (List ℕ))
+pub data IsFirstDriveWrong (source : ScheduleSource (List ℕ)) (text : List ℕ) (wiring : Option (List ℕ))
     (first : ℕ) (refusal : Refusal) : Type 0 where
   wiring_wrong : (fault : WiringFault) → IsMiswired wiring fault → refusal ≡ of_wiring fault
       → IsFirstDriveWrong source text wiring first refusal
-  lacking : (board : Option Board) → IsBoardOf wiring board → IsLackOf board text refusal
+  lacking : (board : Option Board) → IsBoardOf wiring board → IsMissingFor board text refusal
       → IsFirstDriveWrong source text wiring first refusal
   texts_wrong : (board : Option Board) → IsBoardOf wiring board
-      → IsWrongFrom source widest text refusal → LacksNothing board text
+      → IsWrongFrom source widest text refusal → MissesNothing board text
       → IsFirstDriveWrong source text wiring first refusal
   no_setting : (board : Option Board) (batch : List Transfer) (settings : List (List ℕ))
       → IsBoardOf wiring board → IsScheduleFrom source widest text batch settings
@@ -115,7 +115,7 @@ pub data IsFirstDriveWrong (source : Source (List ℕ)) (text : List ℕ) (wirin
 -- needs are there, whatever free links stand in the rack's wiring for what a board leaves out. Or
 -- the refusal of what is first wrong with the texts: then no port was opened, and nothing was told.
 pub data IsDriveAnswer {S : Type 0} (hears : Hearing S)
-    (source : Source (List ℕ)) (text : List ℕ) (wiring : Option (List ℕ)) (first : ℕ)
+    (source : ScheduleSource (List ℕ)) (text : List ℕ) (wiring : Option (List ℕ)) (first : ℕ)
     (names : Names) (was opens : Ways) (told tells : S) (printed : Printed) : Type 0 where
   tried : (board : Option Board) (filled : Option BoardWiring) (batch : List Transfer)
       (settings : List (List ℕ))
@@ -129,7 +129,7 @@ pub data IsDriveAnswer {S : Type 0} (hears : Hearing S)
       → IsDriveAnswer hears source text wiring first names was opens told tells printed
 
 -- why there is none: of such a schedule, on that rack
-abbrev pub HasFailed : {S : Type 0} → Hearing S → Source (List ℕ)
+abbrev pub HasFailed : {S : Type 0} → Hearing S → ScheduleSource (List ℕ)
     → List ℕ → Option (List ℕ) → ℕ → Names → Ways → Ways → S → S → DriveFault → Type 0
 HasFailed {S} hears source text wiring first names was opens told tells Untold =
     (board : Option Board) × (filled : Option BoardWiring) × (batch : List Transfer)

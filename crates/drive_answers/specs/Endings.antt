@@ -3,8 +3,8 @@ use Rattle.std.specs.Prelude.{◌≡◌, ℕ, List, ◌++◌, codes}
 use Rattle.std.specs.Fmt.{decimal}
 use Rattle.plan_answers.specs.Refusals.{Printed}
 use Rattle.plan_answers.specs.declared.limits.TheConstants.{DONE, REFUSED}
-use Rattle.switch_driver.specs.declared.driving.Driven.{Driven}
-use Rattle.switch_driver.specs.declared.driving.Driven.TheVariants.{Completed, Stopped, Halted}
+use Rattle.switch_driver.specs.declared.driving.DriveOutcome.{DriveOutcome}
+use Rattle.switch_driver.specs.declared.driving.DriveOutcome.TheVariants.{Completed, Stopped, Halted}
 use Rattle.switch_driver.specs.declared.drive_observer.Halt.TheVariants.{Left, Unheard, Untold}
 use Rattle.switch_settings.specs.declared.fault.SettingFault.{SettingFault}
 use Rattle.switch_settings.specs.declared.fault.SettingFault.TheVariants.{Port, Switch}
@@ -28,7 +28,7 @@ abbrev pub left_line : ℕ → List ℕ
 left_line k = codes "left setting " ++ decimal k ++ codes "\n"
 
 -- the line of an end, under its status; a setting that couldn't be told has none
-abbrev pub IsEnding : Driven → Printed → Type 0
+abbrev pub IsEnding : DriveOutcome → Printed → Type 0
 IsEnding (Completed count) printed =
     (printed.text ≡ completed_line count) × (printed.status ≡ DONE)
 IsEnding (Stopped k fault) printed =

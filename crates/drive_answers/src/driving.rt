@@ -21,13 +21,13 @@ use crate::names::PortNames;
 use crate::output_mismatch::OutputMismatch;
 use crate::ports::Ports;
 use batch::{Batch, Shape};
-use board_wiring::{Board, read_board, read_lack, wiring_of};
+use board_wiring::{Board, read_board, read_missing, wiring_of};
 use c004_commands::PORTS;
 use crossbar::{BoardWiring, JOINED_MODULES};
 use exchange_limits::WorkerCount;
 use line_words::LINE_ROOM;
 use link_graph::Schedule;
-use plan_answers::{Answer, Scheduled, Source};
+use plan_answers::{Answer, Scheduled, ScheduleSource};
 use refusals::{Refusal, Validity};
 use std::alloc::Global;
 use std::thread::Threads;
@@ -184,7 +184,7 @@ pub fn answer_drive<R: Threads + Sync, Q: Ports, S: DriveObserver>(
     alloc: Global,
     wiring: Option<&[u8]>,
     batch: &[u8],
-    source: Source<&[u8]>,
+    source: ScheduleSource<&[u8]>,
     workers: WorkerCount,
     first: usize,
     names: PortNames<'_>,
@@ -202,7 +202,7 @@ pub fn answer_drive<R: Threads + Sync, Q: Ports, S: DriveObserver>(
         Ok(board) => board,
         Err(fault) => return refused(alloc, fault.into()),
     };
-    if let Some(lack) = read_lack(alloc, &board, batch)? {
+    if let Some(lack) = read_missing(alloc, &board, batch)? {
         return refused(alloc, lack);
     }
     match Scheduled::read(rt, alloc, Shape::WIDEST, batch, source, workers) {

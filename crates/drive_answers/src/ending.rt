@@ -3,7 +3,7 @@
 ghost use Rattle.std.specs.Prelude.{◌≡◌, ◌≤◌, ◌+◌, ◌*◌, ◌++◌, [], ℕ, codes, length, IfOk, IfErr, vec_capacity};
 ghost use Rattle.std.specs.Fmt.{decimal};
 ghost use Rattle.line_words.specs.declared.limits.TheConstants.{LINE_ROOM, NUMBER_ROOM};
-ghost use Rattle.switch_driver.specs.declared.driving.Driven.TheVariants.{Halted};
+ghost use Rattle.switch_driver.specs.declared.driving.DriveOutcome.TheVariants.{Halted};
 ghost use Rattle.switch_driver.specs.declared.drive_observer.Halt.TheVariants.{Untold as NotTold};
 ghost use Rattle.drive_answers.specs.Endings.{fault_words, stopped_line, IsEnding};
 ghost use Rattle.drive_answers.specs.declared.fault.DriveFault.TheVariants.{Untold};
@@ -11,7 +11,7 @@ ghost use Rattle.drive_answers.specs.declared.fault.DriveFault.TheVariants.{Unto
 use crate::fault::DriveFault;
 use line_words::Line;
 use plan_answers::Answer;
-use switch_driver::{Driven, Halt};
+use switch_driver::{DriveOutcome, Halt};
 use switch_settings::SettingFault;
 
 /// These words and a number.
@@ -74,20 +74,20 @@ fn filled(mut room: Vec<u8>, line: &Line) -> Vec<u8>
 }
 
 /// The answer that tells how settings were driven, in the room that was kept for its line.
-pub(crate) fn ending(room: Vec<u8>, how: Driven) -> Result<Answer, DriveFault>
+pub(crate) fn ending(room: Vec<u8>, how: DriveOutcome) -> Result<Answer, DriveFault>
     requires empty { room.items ≡ [] }
     requires room { LINE_ROOM ≤ vec_capacity room }
     ensures told { IfOk result (IsEnding how) }
     ensures untold { IfErr result (λ fault. (fault ≡ Untold) × (k : ℕ) × (how ≡ Halted k NotTold)) }
 {
     match how {
-        Driven::Completed { settings } => {
+        DriveOutcome::Completed { settings } => {
             Ok(Answer::done(filled(room, &line_of(b"driven settings ", settings))))
         }
-        Driven::Stopped { setting, fault } => {
+        DriveOutcome::Stopped { setting, fault } => {
             Ok(Answer::failed(filled(room, &line_unset(setting, fault))))
         }
-        Driven::Halted { setting, halt } => match halt {
+        DriveOutcome::Halted { setting, halt } => match halt {
             Halt::Left => Ok(Answer::failed(filled(room, &line_of(b"left setting ", setting)))),
             Halt::Unheard => Ok(Answer::failed(filled(room, &line_stopped(setting, b"input")))),
             Halt::Untold => Err(DriveFault::Untold),

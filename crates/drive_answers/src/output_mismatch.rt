@@ -4,12 +4,12 @@ use board_wiring::Board;
 use c004_commands::{CONNECTED, OutputState};
 use crossbar::{Chip, JOINED_MODULES};
 use std::fmt;
-use switch_driver::Driven;
+use switch_driver::DriveOutcome;
 use switch_settings::{Disagreement, RackWiring, SettingFault};
 
 /// A link of a module.
 #[derive(Clone, Copy)]
-struct Place {
+struct ModuleLink {
     link: u8,
     module: usize,
 }
@@ -20,7 +20,7 @@ struct Place {
 pub struct OutputMismatch {
     found: Disagreement,
     /// Where it leads, unless no module is on it.
-    place: Option<Place>,
+    place: Option<ModuleLink>,
     /// Whether each switch carries one way, so that a reply tells an input and no link.
     is_one_way: bool,
 }
@@ -31,9 +31,9 @@ impl OutputMismatch {
     pub(crate) fn of(
         board: &Option<Board>,
         rack: RackWiring,
-        how: &Driven,
+        how: &DriveOutcome,
     ) -> Option<OutputMismatch> {
-        let Driven::Stopped {
+        let DriveOutcome::Stopped {
             fault: SettingFault::Switch(found),
             ..
         } = how
@@ -65,30 +65,30 @@ fn is_one_way(rack: RackWiring) -> bool {
 }
 
 /// The link that an output of a rack leads to.
-fn usual_place(rack: RackWiring, found: &Disagreement) -> Place {
+fn usual_place(rack: RackWiring, found: &Disagreement) -> ModuleLink {
     let module = usize::from(found.output.get());
     if is_one_way(rack) {
         let link = match found.chip {
             Chip::A => 3,
             Chip::B => 0,
         };
-        return Place { link, module };
+        return ModuleLink { link, module };
     }
     match module.checked_sub(usize::from(JOINED_MODULES)) {
-        Some(module) => Place { link: 3, module },
-        None => Place { link: 0, module },
+        Some(module) => ModuleLink { link: 3, module },
+        None => ModuleLink { link: 0, module },
     }
 }
 
 /// The link that is on an output of a board's switch, where one is.
-fn place_on(board: &Board, output: u8) -> Option<Place> {
+fn place_on(board: &Board, output: u8) -> Option<ModuleLink> {
     for on in board.modules() {
         let module = on.number;
         if on.link0 == Some(output) {
-            return Some(Place { link: 0, module });
+            return Some(ModuleLink { link: 0, module });
         }
         if on.link3 == Some(output) {
-            return Some(Place { link: 3, module });
+            return Some(ModuleLink { link: 3, module });
         }
     }
     None
@@ -131,7 +131,7 @@ impl fmt::Display for OutputMismatch {
         };
         let number = self.found.number();
         match self.place {
-            Some(Place { link, module }) => {
+            Some(ModuleLink { link, module }) => {
                 write!(f, "output {number}, link {link} of module {module}")?;
             }
             None => write!(f, "output {number}, on which there is no module")?,

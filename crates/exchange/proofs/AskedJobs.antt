@@ -18,19 +18,19 @@ use Rattle.exchange.proofs.HeldFiles.{held_files}
 use Rattle.exchange.proofs.PromisedCalls.{Came, HasNone}
 use Rattle.exchange.specs.Ends.{IsCutFor, IsDone, IsDoneInPart, IsEndForArguments, IsPrinted, Keeping, Leaving, Streams, printed_of}
 use Rattle.exchange.specs.Keeping.{AreKeptBut}
-use Rattle.exchange.specs.Promises.{AreHeld, AsksFor, HasGivenUp, KeepsApart, Run, run_of}
+use Rattle.exchange.specs.Promises.{HoldTexts, AsksFor, HasGivenUp, KeepsApart, Run, run_of}
 use Rattle.exchange.specs.Responses.{Given, IsJobAnswer, IsJobCut, IsResponseTo, IsTextAnswer, IsToldCut, Named, Response}
 use Rattle.exchange.specs.declared.limits.TheConstants.{MISUSED, UNWRITTEN}
 use Rattle.named_files.specs.DistinctFiles.{AreSeenApart}
 use Rattle.named_files.specs.Contents.{Holding}
 use Rattle.named_files.specs.Notes.{IsToldInPart, unanswered}
-use Rattle.named_files.specs.Outputs.{lost_none, none_opened}
+use Rattle.named_files.specs.Outputs.{no_write_failures, none_opened}
 use Rattle.named_files.specs.Streams.{Closed}
-use Rattle.named_files.specs.declared.lost.Lost.{Lost}
+use Rattle.named_files.specs.declared.write_failures.WriteFailures.{WriteFailures}
 use Rattle.named_files.specs.declared.outputs.Receipts.{Receipts}
 use Rattle.session_answers.specs.HostAnswers.{SessionEnd}
-use Rattle.named_files.specs.declared.unanswered.Unanswered.{Unanswered}
-use Rattle.named_files.specs.declared.unanswered.Unanswered.TheVariants as why
+use Rattle.named_files.specs.declared.refusal_cause.RefusalCause.{RefusalCause}
+use Rattle.named_files.specs.declared.refusal_cause.RefusalCause.TheVariants as why
 use Rattle.plan_answers.specs.Refusals.{Printed}
 use Rattle.plan_answers.specs.declared.limits.TheConstants.{REFUSED}
 
@@ -70,14 +70,14 @@ end_of e request asks (Err (Clap error), has, wrong, ends) = absurd (no_fault e.
 pub record IsAnswered (run : Run) (job : TextJob) : Type 0 where
   pub files : Files (List ℕ)
   pub printed : Printed
-  pub held : AreHeld run.holds (text_files job) files
+  pub held : HoldTexts run.holds (text_files job) files
   pub answer : IsTextAnswer job files printed
   pub prints : run.prints printed.text
   pub status : run.status ≡ printed.status
 
 -- there was none
 abbrev pub IsGivenUp : Run → Type 0
-IsGivenUp run = (why : Unanswered) × run.prints (unanswered why).text × (run.status ≡ REFUSED)
+IsGivenUp run = (why : RefusalCause) × run.prints (unanswered why).text × (run.status ≡ REFUSED)
 
 answered : (e : JobEnd) (job : TextJob) (quiet : Bool) (response : Response) → AskFor e.words (record { job = Texts job; is_quiet = quiet }) → IsJobAnswer e.named.holds e.given (Texts job) response → IsPrinted e.streams.out_before e.streams.out_after (printed_of response) e.code
     → IsAnswered (ended_run e) job
@@ -110,19 +110,19 @@ text_ends e ends job asks = elim (end_of e (record { job = Texts job; is_quiet =
 -- ---- jobs that have sessions
 
 -- what belongs to their files went there, but for this, which is lost
-abbrev pub KeepsSo : {C : Type 0} → Holding → (C → Closed) → Receipts C → List SessionEnd → Lost → Job → Response → Type 0
+abbrev pub KeepsSo : {C : Type 0} → Holding → (C → Closed) → Receipts C → List SessionEnd → WriteFailures → Job → Response → Type 0
 KeepsSo holds received receipts ends lost job response = AreKeptBut holds received job response.left receipts lost × (response.ends ≡ ends)
 
 -- what comes of such a job that is asked for, of which this may be lost
-abbrev pub SessionsCome : {C : Type 0} → Named → Given → (C → Closed) → Receipts C → List SessionEnd → (Lost → Type 0) → Run → Type 0
+abbrev pub SessionsCome : {C : Type 0} → Named → Given → (C → Closed) → Receipts C → List SessionEnd → (WriteFailures → Type 0) → Run → Type 0
 SessionsCome named given received receipts ends may run =
     (rack : SharedRack) (job : SessionJob) → AsksFor run (Sessions rack job)
-    → ((lost : Lost) × may lost × Came named given received receipts ends run (Sessions rack job) lost) ⊎ HasNone receipts ends run
+    → ((lost : WriteFailures) × may lost × Came named given received receipts ends run (Sessions rack job) lost) ⊎ HasNone receipts ends run
 
-pub sessions_come : {C : Type 0} (e : JobEnd) (received : C → Closed) (receipts : Receipts C) (ends : List SessionEnd) → ((job : Job) (response : Response) → e.keeps job response → KeepsSo e.named.holds received receipts ends lost_none job response) → (e.none → (receipts ≡ none_opened) × (ends ≡ []))
-    → EndsSo e → SessionsCome e.named e.given received receipts ends (λ lost. lost ≡ lost_none) (ended_run e)
+pub sessions_come : {C : Type 0} (e : JobEnd) (received : C → Closed) (receipts : Receipts C) (ends : List SessionEnd) → ((job : Job) (response : Response) → e.keeps job response → KeepsSo e.named.holds received receipts ends no_write_failures job response) → (e.none → (receipts ≡ none_opened) × (ends ≡ []))
+    → EndsSo e → SessionsCome e.named e.given received receipts ends (λ lost. lost ≡ no_write_failures) (ended_run e)
 sessions_come {C} e received receipts ends so none_so is rack job asks = elim (end_of e (record { job = Sessions rack job; is_quiet = asks.0 }) asks.1 is) [
-  | inl done ↦ inl (lost_none, refl, record { response = done.0; is = done.1; kept = (so (Sessions rack job) done.0 done.2).0; ends_are = (so (Sessions rack job) done.0 done.2).1; prints = done.3.text; status = done.3.status })
+  | inl done ↦ inl (no_write_failures, refl, record { response = done.0; is = done.1; kept = (so (Sessions rack job) done.0 done.2).0; ends_are = (so (Sessions rack job) done.0 done.2).1; prints = done.3.text; status = done.3.status })
   | inr gives_up ↦ inr (record { prints = gives_up.1.text; status = gives_up.1.status; recorded = ap (λ (r : Receipts C). r.recorded) (none_so gives_up.0).0; image = ap (λ (r : Receipts C). r.image) (none_so gives_up.0).0; none_ended = (none_so gives_up.0).1 })
 ]
 
@@ -190,7 +190,7 @@ asks_nothing e is request asks misused = elim (end_of e request asks is) [
 -- ---- where not all could be written
 
 module _ {C : Type 0} (received : C → Closed) (receipts : Receipts C) (ends : List SessionEnd) (words : List Text) (named : Named) (left : Leaving) (given : Given) (before after : Option (List ℕ))
-    (so : (job : Job) (response : Response) → left.keeps job response → (lost : Lost) × KeepsSo named.holds received receipts ends lost job response) (none_so : left.none → (receipts ≡ none_opened) × (ends ≡ []))
+    (so : (job : Job) (response : Response) → left.keeps job response → (lost : WriteFailures) × KeepsSo named.holds received receipts ends lost job response) (none_so : left.none → (receipts ≡ none_opened) × (ends ≡ []))
     (ports_so : (job : Job) (response : Response) → left.keeps job response → response.ports ≡ left.ports) (none_ports : left.none → left.ports ≡ given.ports) where
   abbrev Front : ℕ → Run
   Front status = the_run named given words (IsToldInPart before after) status
@@ -200,7 +200,7 @@ module _ {C : Type 0} (received : C → Closed) (receipts : Receipts C) (ends : 
     status : ℕ
     either : IsEither status
     texts : (job : TextJob) → request.job ≡ Texts job → AskFor words (record { job = Texts job; is_quiet = request.is_quiet }) → IsAnswered (Front status) job ⊎ IsGivenUp (Front status)
-    sessions : (rack : SharedRack) (job : SessionJob) → request.job ≡ Sessions rack job → (lost : Lost) × ⊤ × Came named given received receipts ends (Front status) request.job lost
+    sessions : (rack : SharedRack) (job : SessionJob) → request.job ≡ Sessions rack job → (lost : WriteFailures) × ⊤ × Came named given received receipts ends (Front status) request.job lost
     comes : JobComes named given left.ports (Front status) request.job
 
   in_part : (request : Request) → IsDoneInPart named left given request before after → CutSo request
@@ -259,7 +259,7 @@ module _ {C : Type 0} (received : C → Closed) (receipts : Receipts C) (ends : 
             part.texts job (ap (λ (r : Request). r.job) same) (subst (λ (r : Request). AskFor words (record { job = Texts job; is_quiet = r.is_quiet })) (sym same) asks.1);
         sessions = λ rack job asks.
             let same : other.job ≡ Sessions rack job = ap (λ (r : Request). r.job) (one_request words other (record { job = Sessions rack job; is_quiet = asks.0 }) has asks.1) in
-            inl (subst (λ (j : Job). (lost : Lost) × ⊤ × Came named given received receipts ends (Front part.status) j lost) same (part.sessions rack job same));
+            inl (subst (λ (j : Job). (lost : WriteFailures) × ⊤ × Came named given received receipts ends (Front part.status) j lost) same (part.sessions rack job same));
         jobs = λ request asks. subst (λ (r : Request). JobComes named given left.ports (Front part.status) r.job) (one_request words other request has asks) part.comes;
       }
   cut_ends (Err NoMemory, has, wrong, none) = record {

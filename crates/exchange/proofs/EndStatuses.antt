@@ -1,6 +1,6 @@
 -- The status of an answer is that of what is done, or that of a refusal.
 use Rattle.std.proofs.Common.{◌≡◌, ℕ, Bool, true, false, List, [], Option, Some, None, inl, inr, ◌⊎◌, ap, arith}
-use Rattle.batch_book.specs.History.{Account}
+use Rattle.batch_book.specs.History.{BookView}
 use Rattle.board_wiring.specs.declared.board.Board.{Board}
 use Rattle.clap.specs.Words.{Text}
 use Rattle.command_words.specs.Jobs.{Files}
@@ -17,18 +17,18 @@ use Rattle.drive_answers.specs.Endings.{IsEnding}
 use Rattle.drive_answers.specs.Ways.{Names, Ways}
 use Rattle.exchange.specs.Promises.{HasGivenUp, Run}
 use Rattle.exchange.specs.Responses.{Given, IsAnswerTo, IsC004By, IsResponseTo, IsTextAnswer, Named, Response, source_in, text_in}
-use Rattle.kept_sessions.specs.Answers.{IsLiveAnswer, hosting, talking}
+use Rattle.recorded_sessions.specs.Answers.{IsLiveAnswer, hosting, talking}
 use Rattle.named_files.specs.Contents.{Holding}
 use Rattle.named_files.specs.Notes.{unanswered}
-use Rattle.named_files.specs.declared.unanswered.Unanswered.{Unanswered}
-use Rattle.named_files.specs.declared.unanswered.Unanswered.TheVariants as why
+use Rattle.named_files.specs.declared.refusal_cause.RefusalCause.{RefusalCause}
+use Rattle.named_files.specs.declared.refusal_cause.RefusalCause.TheVariants as why
 use Rattle.plan_answers.specs.Answers as answers
 use Rattle.plan_answers.specs.Directing as directing
 use Rattle.plan_answers.specs.Drawings.{drawn, undrawn}
 use Rattle.plan_answers.specs.Pricing.{priced, unpriced}
 use Rattle.plan_answers.specs.Refusals.{Printed}
 use Rattle.plan_answers.specs.declared.limits.TheConstants.{DONE, REFUSED}
-use Rattle.plan_answers.specs.declared.source.Source.{Source}
+use Rattle.plan_answers.specs.declared.source.ScheduleSource.{ScheduleSource}
 use Rattle.rack_answers.specs.Answers.{ran, run_refused}
 use Rattle.rack_answers.specs.Orders as ordering
 use Rattle.rack_answers.specs.Switching as switching
@@ -38,8 +38,8 @@ use Rattle.session_answers.specs.Histories.{status_at}
 use Rattle.session_answers.specs.HostAnswers.{KnownClients, SessionEnd}
 use Rattle.session_answers.specs.Serving.{refused, served}
 use Rattle.switch_driver.specs.Hearings.{Hearing}
-use Rattle.switch_driver.specs.declared.driving.Driven.{Driven}
-use Rattle.switch_driver.specs.declared.driving.Driven.TheVariants.{Completed, Halted, Stopped}
+use Rattle.switch_driver.specs.declared.driving.DriveOutcome.{DriveOutcome}
+use Rattle.switch_driver.specs.declared.driving.DriveOutcome.TheVariants.{Completed, Halted, Stopped}
 use Rattle.switch_driver.specs.declared.drive_observer.Halt.TheVariants.{Left, Unheard, Untold}
 
 pub never_done : (status : ℕ) → status ≡ REFUSED → status ≡ DONE → ⊥
@@ -49,7 +49,7 @@ pub done_is : (status : ℕ) → status ≡ DONE → status ≡ REFUSED → ⊥
 done_is status done is = never_done status is done
 
 -- there was no answer
-pub gave_up : (run : Run) (reason : Unanswered) → run.prints (unanswered reason).text → HasGivenUp run
+pub gave_up : (run : Run) (reason : RefusalCause) → run.prints (unanswered reason).text → HasGivenUp run
 gave_up run why.File prints = inr prints
 gave_up run why.Output prints = inr prints
 gave_up run why.NoMemory prints = inl prints
@@ -57,12 +57,12 @@ gave_up run why.NoMemory prints = inl prints
 abbrev pub IsEither : ℕ → Type 0
 IsEither status = (status ≡ DONE) ⊎ (status ≡ REFUSED)
 
-switched : (from : Source (List ℕ)) (has_two : Bool) (text : List ℕ) (board : Option Board) (printed : Printed) → IsSwitched from has_two board text printed → IsEither printed.status
+switched : (from : ScheduleSource (List ℕ)) (has_two : Bool) (text : List ℕ) (board : Option Board) (printed : Printed) → IsSwitched from has_two board text printed → IsEither printed.status
 switched from has_two text board printed (switching.switched filled transfers settings is ways fills tells) = inl tells.1
 switched from has_two text board printed (switching.lacking refusal lacks line) = inr line.status
 switched from has_two text board printed (switching.wrong refusal wrong has line) = inr line.status
 
-switched_on : (from : Source (List ℕ)) (has_two : Bool) (text : List ℕ) (wiring : Option (List ℕ)) (printed : Printed) → IsOn (λ board. IsSwitched from has_two board text) wiring printed → IsEither printed.status
+switched_on : (from : ScheduleSource (List ℕ)) (has_two : Bool) (text : List ℕ) (wiring : Option (List ℕ)) (printed : Printed) → IsOn (λ board. IsSwitched from has_two board text) wiring printed → IsEither printed.status
 switched_on from has_two text None printed is = switched from has_two text None printed is
 switched_on from has_two text (Some wiring) printed (switching.wired board denotes is) = switched from has_two text (Some board) printed is
 switched_on from has_two text (Some wiring) printed (switching.miswired fault first line) = inr line.status
@@ -96,22 +96,22 @@ failed : (any : Bool) (status : ℕ) → status ≡ status_at any → IsEither s
 failed true status is = inr is
 failed false status is = inl is
 
-hosted : (holds : Holding) (rack : SharedRack) (names : List Text) (image : Option (List ℕ)) (clients : KnownClients) (ends : List SessionEnd) (printed : Printed) (left : Option Account) → IsLiveAnswer holds rack names image (hosting rack clients ends printed) printed left → IsEither printed.status
+hosted : (holds : Holding) (rack : SharedRack) (names : List Text) (image : Option (List ℕ)) (clients : KnownClients) (ends : List SessionEnd) (printed : Printed) (left : Option BookView) → IsLiveAnswer holds rack names image (hosting rack clients ends printed) printed left → IsEither printed.status
 hosted holds rack names image clients ends printed None (unserved, (refusal, refuses, why)) = inr refuses.1.status
 hosted holds rack names image clients ends printed (Some book) (opening, of, was, begins, (sessions, ended, are, closing)) = failed _ printed.status closing.status
 
-talked : (holds : Holding) (rack : SharedRack) (image : Option (List ℕ)) (before after : Option (List ℕ)) (told : List ℕ) (printed : Printed) (left : Option Account) → IsLiveAnswer holds rack [] image (talking rack before after told printed) printed left → IsEither printed.status
+talked : (holds : Holding) (rack : SharedRack) (image : Option (List ℕ)) (before after : Option (List ℕ)) (told : List ℕ) (printed : Printed) (left : Option BookView) → IsLiveAnswer holds rack [] image (talking rack before after told printed) printed left → IsEither printed.status
 talked holds rack image before after told printed None (unserved, (refusal, refuses, why)) = inr refuses.1.status
 talked holds rack image before after told printed (Some book) (opening, of, was, begins, (t, first, told_is, session, closing)) = failed _ printed.status closing.status
 
-ending : (how : Driven) (printed : Printed) → IsEnding how printed → IsEither printed.status
+ending : (how : DriveOutcome) (printed : Printed) → IsEnding how printed → IsEither printed.status
 ending (Completed all) printed ends = inl ends.1
 ending (Stopped k fault) printed ends = inr ends.1
 ending (Halted k Left) printed ends = inr ends.1
 ending (Halted k Unheard) printed ends = inr ends.1
 ending (Halted k Untold) printed ends = absurd ends
 
-driven : {S : Type 0} (hears : Hearing S) (from : Source (List ℕ)) (text : List ℕ) (wiring : Option (List ℕ)) (first : ℕ) (names : Names) (was opens : Ways) (told tells : S) (printed : Printed) → IsDriveAnswer hears from text wiring first names was opens told tells printed → IsEither printed.status
+driven : {S : Type 0} (hears : Hearing S) (from : ScheduleSource (List ℕ)) (text : List ℕ) (wiring : Option (List ℕ)) (first : ℕ) (names : Names) (was opens : Ways) (told tells : S) (printed : Printed) → IsDriveAnswer hears from text wiring first names was opens told tells printed → IsEither printed.status
 driven hears from text wiring first names was opens told tells printed (drives.tried board filled batch settings of is ways fills begins (drives.driven how many over ends)) = ending how printed ends
 driven hears from text wiring first names was opens told tells printed (drives.tried board filled batch settings of is ways fills begins (drives.unopened refusal why refuses same left)) = inr refuses.1.status
 driven hears from text wiring first names was opens told tells printed (drives.wrong refusal wrong refuses same left) = inr refuses.1.status

@@ -9,9 +9,9 @@ use Rattle.plan_answers.specs.Refusals.{Printed}
 use Rattle.named_files.specs.Notes.{IsWholeLine}
 use Rattle.exchange.specs.Notes.{IsBeside, IsTooWide, IsWarning}
 use Rattle.exchange.specs.Warnings.{HasToldWarned, IsWarnedOnce, MayHaveWarned}
-use Rattle.exchange.specs.declared.warned.Warned.{Warned}
+use Rattle.exchange.specs.declared.warned.WarningObserver.{WarningObserver}
 
-once_more : {I O E : Type 0} (contents : E → Option (List ℕ)) (a b c : Warned I O E) → IsWarnedOnce contents a b → IsWarnedOnce contents b c → IsWarnedOnce contents a c
+once_more : {I O E : Type 0} (contents : E → Option (List ℕ)) (a b c : WarningObserver I O E) → IsWarnedOnce contents a b → IsWarnedOnce contents b c → IsWarnedOnce contents a c
 once_more {I} {O} {E} contents a b c first second =
     let loan = second.0 ∙ first.0 in
     elim second.1 [
@@ -26,12 +26,12 @@ once_more {I} {O} {E} contents a b c first second =
     ]
 
 pub tells_beside : {I O E : Type 0} (remaining : I → Option (List ℕ)) (contents : O → Option (List ℕ)) (beside : E → Option (List ℕ))
-    → TellsBeside remaining contents (λ (a : Warned I O E) n ns c b. HasToldWarned remaining contents beside n ns c a b) (λ (w : Warned I O E). w.lines) (IsWarnedOnce beside)
+    → TellsBeside remaining contents (λ (a : WarningObserver I O E) n ns c b. HasToldWarned remaining contents beside n ns c a b) (λ (w : WarningObserver I O E). w.lines) (IsWarnedOnce beside)
 tells_beside {I} {O} {E} remaining contents beside =
     record { none = λ s. (refl, inl (refl, refl)); more = once_more beside; tells = λ a n ns cue b told. told }
 
 -- so it may have been told after what stood there
-pub may_have : {I O E : Type 0} (contents : E → Option (List ℕ)) (told tells : Warned I O E) (warning : Option (String Global)) (before after : Option (List ℕ))
+pub may_have : {I O E : Type 0} (contents : E → Option (List ℕ)) (told tells : WarningObserver I O E) (warning : Option (String Global)) (before after : Option (List ℕ))
     → told.warning ≡ warning → contents told.err.now ≡ before → after ≡ contents tells.err.now → IsWarnedOnce contents told tells → MayHaveWarned warning before after
 may_have {I} {O} {E} contents told tells warning before after is was now once =
     elim once.1 [

@@ -7,7 +7,7 @@ use Rattle.command_words.specs.Jobs.{AskFor, Files, HaveTwoNames, all_files, fil
 use Rattle.command_words.specs.declared.jobs.Request.{Request}
 use Rattle.command_words.specs.declared.uses.Access.TheVariants.{Read}
 use Rattle.command_words.specs.declared.uses.FileUse.{FileUse}
-use Rattle.exchange.specs.Promises.{AreAllHeld, AreHeld, HoldsText}
+use Rattle.exchange.specs.Promises.{AreAllHeld, HoldTexts, HoldsText}
 use Rattle.named_files.specs.Contents.{AreContents, AreRead, Holding, IsFileRead}
 
 -- ---- one of the names at most is that of standard input
@@ -63,7 +63,7 @@ held_all holds input front fs mid (name ∷ names) (text ∷ texts) after rest a
       (reads_append holds input mid read.0 front (name ∷ []) fs (text ∷ []) before (read.0, read.1, refl)) read.2,
 )
 
-held_contents : (holds : Holding) (input : Option (List ℕ)) (names : Files Text) (files : Files (List ℕ)) (rest : Option (List ℕ)) (more : List Text) → Alone (all_files names ++ more) → AreContents holds input names files rest → AreHeld (HoldsText holds input) names files
+held_contents : (holds : Holding) (input : Option (List ℕ)) (names : Files Text) (files : Files (List ℕ)) (rest : Option (List ℕ)) (more : List Text) → Alone (all_files names ++ more) → AreContents holds input names files rest → HoldTexts (HoldsText holds input) names files
 held_contents holds input names files rest more a reads =
     let i = option_to_list names.image in
     let l = option_to_list names.list in
@@ -85,6 +85,6 @@ held_contents holds input names files rest more a reads =
     }
 
 -- where the arguments ask for the job
-pub held_files : (words : List Text) (request : Request) (holds : Holding) (input : Option (List ℕ)) (files : Files (List ℕ)) (rest : Option (List ℕ)) → AskFor words request → AreContents holds input (files_of request.job) files rest → AreHeld (HoldsText holds input) (files_of request.job) files
+pub held_files : (words : List Text) (request : Request) (holds : Holding) (input : Option (List ℕ)) (files : Files (List ℕ)) (rest : Option (List ℕ)) → AskFor words request → AreContents holds input (files_of request.job) files rest → HoldTexts (HoldsText holds input) (files_of request.job) files
 held_files words request holds input files rest asks reads =
     held_contents holds input (files_of request.job) files rest _ (alone (files_read request.job) (files_beside request.job) asks.job.files.apart) reads

@@ -34,20 +34,20 @@ use Rattle.exchange.proofs.PromisedRuns.{applied, ran_so}
 use Rattle.exchange.proofs.PromisedSwitches.{ordered, switched_so}
 use Rattle.exchange.specs.Drives.{names_in}
 use Rattle.exchange.specs.Ends.{IsCutFor, leaving}
-use Rattle.exchange.specs.Promises.{AsksFor, Comes, HasGivenUp, IsDone, KeepsJobs, KeepsPromises, LeavesOthers, Run, World, clients_of, kept_by, world_of}
+use Rattle.exchange.specs.Promises.{AsksFor, Comes, HasGivenUp, IsDone, KeepsJobs, KeepsPromises, LeavesOthers, Run, World, clients_of, saved_by, world_of}
 use Rattle.exchange.specs.Responses.{Given, IsTextAnswer, Named, Response, source_in, text_in}
 use Rattle.exchange.specs.declared.limits.TheConstants.{MISUSED, UNWRITTEN}
 use Rattle.named_files.specs.Clients.{clients_by, ends_of}
 use Rattle.named_files.specs.Contents.{AreContents, Holding}
 use Rattle.named_files.specs.Notes.{IsToldInPart}
-use Rattle.named_files.specs.Outputs.{lost_none, none_opened}
+use Rattle.named_files.specs.Outputs.{no_write_failures, none_opened}
 use Rattle.named_files.specs.Streams.{Closed}
-use Rattle.named_files.specs.declared.lost.Lost.{Lost}
+use Rattle.named_files.specs.declared.write_failures.WriteFailures.{WriteFailures}
 use Rattle.named_files.specs.declared.outputs.Receipts.{Receipts}
-use Rattle.named_files.specs.declared.unanswered.Unanswered.TheVariants as why
+use Rattle.named_files.specs.declared.refusal_cause.RefusalCause.TheVariants as why
 use Rattle.plan_answers.specs.Refusals.{Printed}
 use Rattle.plan_answers.specs.declared.limits.TheConstants.{DONE, REFUSED}
-use Rattle.plan_answers.specs.declared.source.Source.{Source}
+use Rattle.plan_answers.specs.declared.source.ScheduleSource.{ScheduleSource}
 use Rattle.session_answers.specs.declared.ended_session.Ending.{Ending}
 use Rattle.switch_driver.specs.Lines.{Dialogue, TellsLine}
 
@@ -91,12 +91,12 @@ text_done w (RunJob shape batch scheduled image workers) texts printed done is =
 text_done w (Replay shape recorded image first) texts printed done is = replayed_so shape (text_in texts.list) texts.image first printed is.0 is.1 done is.2
 
 module _ {C : Type 0} (received : C → Closed) (receipts : Receipts C) (comes : Text → Option (List ℕ)) (had : Text → List ℕ) (endings : List (Ending (List ℕ))) (named : Named) (given : Given) (known : given.clients ≡ clients_by comes had)
-    (words : List Text) (after : Ways) (prints : List ℕ → Type 0) (status : ℕ) (whole : Bool) (may : Lost → Type 0) (none_lost : (lost : Lost) → may lost → whole ≡ true → lost ≡ lost_none) where
+    (words : List Text) (after : Ways) (prints : List ℕ → Type 0) (status : ℕ) (whole : Bool) (may : WriteFailures → Type 0) (none_lost : (lost : WriteFailures) → may lost → whole ≡ true → lost ≡ no_write_failures) where
   abbrev The : Run
   The = the_run named given words prints status
 
   abbrev W : World
-  W = record { run = The; whole = whole; before = given.ports; after = after; kept = kept_by received receipts; clients = clients_of comes had endings }
+  W = record { run = The; whole = whole; before = given.ports; after = after; kept = saved_by received receipts; clients = clients_of comes had endings }
 
   by_name : (rack : SharedRack) (job : SessionJob) → AsksFor The (Sessions rack job) → (out : RecordFile) (text : List ℕ) → rack.record_out ≡ Some out → named.holds out.name text → The.holds out.name text
   by_name rack job asks out text is holds = (λ input. absurd (record_named rack job words asks.0 asks.1 out is input), λ other. holds)
@@ -104,22 +104,22 @@ module _ {C : Type 0} (received : C → Closed) (receipts : Receipts C) (comes :
   had_so : SessionsCome named given received receipts (ends_of endings) may The → (rack : SharedRack) (job : SessionJob) → AsksFor The (Sessions rack job) → Had W rack job
   had_so come rack (Serve scripts workers) asks = elim (come rack (Serve scripts workers) asks) [
     | inl c ↦ scripts_come received receipts c.0 named given The whole after comes had endings (none_lost c.0 c.1) rack scripts workers (λ files rest reads. held_files words (record { job = Sessions rack (Serve scripts workers); is_quiet = asks.0 }) named.holds given.input files rest asks.1 reads) c.2
-    | inr none ↦ inr ((gave_up The why.NoMemory none.prints, none_begun received receipts lost_none named given The whole after comes had endings (λ all. refl) rack (Serve scripts workers) none), none.status)
+    | inr none ↦ inr ((gave_up The why.NoMemory none.prints, none_begun received receipts no_write_failures named given The whole after comes had endings (λ all. refl) rack (Serve scripts workers) none), none.status)
   ]
   had_so come rack (Host names workers) asks = elim (come rack (Host names workers) asks) [
     | inl c ↦ clients_come received receipts c.0 named given The whole after comes had endings (none_lost c.0 c.1) rack (by_name rack (Host names workers) asks) names workers (ap (λ clients. clients names) known)
         (λ files rest reads. held_files words (record { job = Sessions rack (Host names workers); is_quiet = asks.0 }) named.holds given.input files rest asks.1 reads) c.2
-    | inr none ↦ inr ((gave_up The why.NoMemory none.prints, none_begun received receipts lost_none named given The whole after comes had endings (λ all. refl) rack (Host names workers) none), none.status)
+    | inr none ↦ inr ((gave_up The why.NoMemory none.prints, none_begun received receipts no_write_failures named given The whole after comes had endings (λ all. refl) rack (Host names workers) none), none.status)
   ]
   had_so come rack Talk asks = elim (come rack Talk asks) [
     | inl c ↦ talk_comes received receipts c.0 named given The whole after comes had endings (none_lost c.0 c.1) rack (by_name rack Talk asks)
         (λ rest files reads came is. (λ same. known_came given.input came (subst (λ (o : Option (List ℕ)). IfSome o (λ text. text ≡ came)) (talk_reads named.holds given.input rack words asks.0 asks.1 files rest reads) is), λ other. absurd (other refl)))
         (λ files rest reads. held_files words (record { job = Sessions rack Talk; is_quiet = asks.0 }) named.holds given.input files rest asks.1 reads) c.2
-    | inr none ↦ inr ((gave_up The why.NoMemory none.prints, none_begun received receipts lost_none named given The whole after comes had endings (λ all. refl) rack Talk none), none.status)
+    | inr none ↦ inr ((gave_up The why.NoMemory none.prints, none_begun received receipts no_write_failures named given The whole after comes had endings (λ all. refl) rack Talk none), none.status)
   ]
 
   -- a drive
-  module _ (batch port : Text) (port_b : Option Text) (from : Source Text) (wiring : Option Text) (first : ℕ) (goes_on : Bool) (workers : ℕ) where
+  module _ (batch port : Text) (port_b : Option Text) (from : ScheduleSource Text) (wiring : Option Text) (first : ℕ) (goes_on : Bool) (workers : ℕ) where
     abbrev Drives : Job
     Drives = OverPorts (Drive batch port port_b from wiring first goes_on workers)
 
@@ -216,15 +216,15 @@ either_used status (inl done) misused = omega (arith, done, misused)
 either_used status (inr refused) misused = omega (arith, refused, misused)
 
 pub keeps_promises : {C : Type 0} (e : JobEnd) (after : Ways) (received : C → Closed) (receipts : Receipts C) (comes : Text → Option (List ℕ)) (had : Text → List ℕ) (endings : List (Ending (List ℕ))) → e.given.clients ≡ clients_by comes had
-    → ((job : Job) (response : Response) → e.keeps job response → response.ports ≡ after) → ((job : Job) (response : Response) → e.keeps job response → KeepsSo e.named.holds received receipts (ends_of endings) lost_none job response)
+    → ((job : Job) (response : Response) → e.keeps job response → response.ports ≡ after) → ((job : Job) (response : Response) → e.keeps job response → KeepsSo e.named.holds received receipts (ends_of endings) no_write_failures job response)
     → (e.none → (receipts ≡ none_opened) × (after ≡ e.given.ports) × (ends_of endings ≡ [])) → EndsSo e
-    → KeepsPromises e.named.leads (world_of (ended_run e) e.given.ports after (kept_by received receipts) (clients_of comes had endings)) (IsToldInPart e.streams.out_before e.streams.out_after)
+    → KeepsPromises e.named.leads (world_of (ended_run e) e.given.ports after (saved_by received receipts) (clients_of comes had endings)) (IsToldInPart e.streams.out_before e.streams.out_after)
 keeps_promises e after received receipts comes had endings known ports so none is =
     let come = sessions_come e received receipts (ends_of endings) so (λ n. ((none n).0, (none n).2)) is in
     record {
       one = one_request e.words;
       ends = ends_well e is;
-      jobs = λ job asks. keeps_jobs received receipts comes had endings e.named e.given known e.words after (Appends e.streams.out_before e.streams.out_after) e.code true (λ lost. lost ≡ lost_none) (λ lost same all. same)
+      jobs = λ job asks. keeps_jobs received receipts comes had endings e.named e.given known e.words after (Appends e.streams.out_before e.streams.out_after) e.code true (λ lost. lost ≡ no_write_failures) (λ lost same all. same)
           (text_ends e is) (jobs_come e after ports (λ n. (none n).1) is) come (λ misused. asks_nothing e is (record { job = job; is_quiet = asks.0 }) asks.1 misused) (keeps_others received receipts comes had endings after e ports so none is) job asks;
       apart = keeps_apart e is;
       nothing = keeps_nothing received receipts comes had endings after e ports so none is;
@@ -233,7 +233,7 @@ keeps_promises e after received receipts comes had endings known ports so none i
 
 pub keeps_in_part : {C : Type 0} (words : List Text) (named : Named) (after : Ways) (given : Given) (out_before out_after : Option (List ℕ)) (code : ℕ) (received : C → Closed) (receipts : Receipts C) (comes : Text → Option (List ℕ)) (had : Text → List ℕ) (endings : List (Ending (List ℕ)))
     → given.clients ≡ clients_by comes had → code ≡ UNWRITTEN → IsCutFor named (leaving named.holds received receipts given.ports after (ends_of endings)) words given out_before out_after
-    → KeepsPromises named.leads (world_of (the_run named given words (Appends out_before out_after) code) given.ports after (kept_by received receipts) (clients_of comes had endings)) (IsToldInPart out_before out_after)
+    → KeepsPromises named.leads (world_of (the_run named given words (Appends out_before out_after) code) given.ports after (saved_by received receipts) (clients_of comes had endings)) (IsToldInPart out_before out_after)
 keeps_in_part words named after given out_before out_after code received receipts comes had endings known unwritten is =
     let run = the_run named given words (Appends out_before out_after) code in
     let left = leaving named.holds received receipts given.ports after (ends_of endings) in

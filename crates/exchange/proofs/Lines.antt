@@ -1,7 +1,7 @@
 -- What `drive` tells by lines before its answer.
 use Rattle.std.proofs.Common.{◌≡◌, [], ℕ, Bool, not, List, Option, Result, Ok, Err, IfOk, IfErr, IsErrAnd, refl, ap, subst}
 use Rattle.std.specs.Io.KnownBytes.{Appends}
-use Rattle.plan_answers.specs.declared.source.Source.{Source}
+use Rattle.plan_answers.specs.declared.source.ScheduleSource.{ScheduleSource}
 use Rattle.switch_driver.specs.Hearings.{Hearing}
 use Rattle.switch_driver.specs.Lines.{Dialogue, TellsLine}
 use Rattle.drive_answers.specs.Answers.{HasFailed, IsDriveAnswer}
@@ -12,24 +12,24 @@ use Rattle.drive_answers.specs.declared.fault.DriveFault.TheVariants.{Untold, No
 use Rattle.exchange.specs.Drives.{IsDriveBy, IsDriveCut}
 use Rattle.exchange.specs.Outcomes.{HasTold, IsMissedFor}
 use Rattle.named_files.specs.Notes.{IsNoAnswer}
-use Rattle.named_files.specs.declared.notes.NoAnswer.{NoAnswer}
-use Rattle.named_files.specs.declared.notes.NoAnswer.TheVariants.{Refused, Unwritten}
+use Rattle.named_files.specs.declared.notes.JobFailure.{JobFailure}
+use Rattle.named_files.specs.declared.notes.JobFailure.TheVariants.{Refused, OutputFailure}
 
 -- why there is no answer: where there was no memory, nothing was told, and no port was opened
-pub missed_by : (hears : Hearing Dialogue) (source : Source (List ℕ)) (batch : List ℕ) (wiring : Option (List ℕ)) (first : ℕ) (names : Names) (was opens : Ways) (told tells : Dialogue) (fault : DriveFault)
+pub missed_by : (hears : Hearing Dialogue) (source : ScheduleSource (List ℕ)) (batch : List ℕ) (wiring : Option (List ℕ)) (first : ℕ) (names : Names) (was opens : Ways) (told tells : Dialogue) (fault : DriveFault)
     → HasFailed hears source batch wiring first names was opens told tells fault → (fault ≡ NoMemory → (tells.told ≡ told.told) × (opens ≡ was)) × (fault ≡ Untold → HasFailed hears source batch wiring first names was opens told tells Untold)
 missed_by hears source batch wiring first names was opens told tells Untold failed = (λ bad. absurd (cc), λ same. failed)
 missed_by hears source batch wiring first names was opens told tells NoMemory failed = (λ same. (ap (λ (d : Dialogue). d.told) failed.0, failed.1), λ bad. absurd (cc))
 
-pub missed_after : {X : Type 0} (r : Result X NoAnswer) (fault : DriveFault) (before after : Option (List ℕ)) (is : List ℕ → X → Type 0) (behind cut : List ℕ → Type 0) (told : List ℕ) → Appends before after told → IsErrAnd r (λ missed. IsNoAnswer missed × IsMissedFor fault missed) → (fault ≡ NoMemory → behind told) → (fault ≡ Untold → cut told) → HasTold before after is behind cut r
+pub missed_after : {X : Type 0} (r : Result X JobFailure) (fault : DriveFault) (before after : Option (List ℕ)) (is : List ℕ → X → Type 0) (behind cut : List ℕ → Type 0) (told : List ℕ) → Appends before after told → IsErrAnd r (λ missed. IsNoAnswer missed × IsMissedFor fault missed) → (fault ≡ NoMemory → behind told) → (fault ≡ Untold → cut told) → HasTold before after is behind cut r
 missed_after (Ok done) fault before after is behind cut told appended made none some = absurd made
 missed_after (Err (Refused why line)) Untold before after is behind cut told appended made none some = absurd made.1
 missed_after (Err (Refused why line)) NoMemory before after is behind cut told appended made none some = (told, appended, tt, none refl)
-missed_after (Err (Unwritten what)) Untold before after is behind cut told appended made none some = (told, appended, tt, some refl)
-missed_after (Err (Unwritten what)) NoMemory before after is behind cut told appended made none some = absurd (let bad = made.1 in cc)
+missed_after (Err (OutputFailure what)) Untold before after is behind cut told appended made none some = (told, appended, tt, some refl)
+missed_after (Err (OutputFailure what)) NoMemory before after is behind cut told appended made none some = absurd (let bad = made.1 in cc)
 
 -- lines are waited for unless it goes on, and they are the first of the input
-pub driven_by : (r : Result DriveEnd DriveFault) (source : Source (List ℕ)) (batch : List ℕ) (wiring : Option (List ℕ)) (first : ℕ) (goes_on waits : Bool) (names : Names) (input left : Option (List ℕ)) (was opens : Ways) (text : List ℕ) → waits ≡ not goes_on → left ≡ input
+pub driven_by : (r : Result DriveEnd DriveFault) (source : ScheduleSource (List ℕ)) (batch : List ℕ) (wiring : Option (List ℕ)) (first : ℕ) (goes_on waits : Bool) (names : Names) (input left : Option (List ℕ)) (was opens : Ways) (text : List ℕ) → waits ≡ not goes_on → left ≡ input
     → IfOk r (λ end. (leaves : Option (List ℕ)) × IsDriveAnswer (TellsLine waits) source batch wiring first names was opens (record { told = []; left = left }) (record { told = text; left = leaves }) end.answer)
     → IfOk r (λ end. IsDriveBy source batch wiring first goes_on names input was opens text end.answer)
 driven_by (Ok end) source batch wiring first goes_on waits names input left was opens text so same is = (
@@ -40,7 +40,7 @@ driven_by (Ok end) source batch wiring first goes_on waits names input left was 
 driven_by (Err fault) source batch wiring first goes_on waits names input left was opens text so same is = tt
 
 -- the same where a line could be told in part alone
-pub cut_by : (r : Result DriveEnd DriveFault) (source : Source (List ℕ)) (batch : List ℕ) (wiring : Option (List ℕ)) (first : ℕ) (goes_on waits : Bool) (names : Names) (input left : Option (List ℕ)) (was opens : Ways) (text : List ℕ) → waits ≡ not goes_on → left ≡ input
+pub cut_by : (r : Result DriveEnd DriveFault) (source : ScheduleSource (List ℕ)) (batch : List ℕ) (wiring : Option (List ℕ)) (first : ℕ) (goes_on waits : Bool) (names : Names) (input left : Option (List ℕ)) (was opens : Ways) (text : List ℕ) → waits ≡ not goes_on → left ≡ input
     → IfErr r (λ fault. (fault ≡ NoMemory → (text ≡ []) × (opens ≡ was)) × (fault ≡ Untold → (leaves : Option (List ℕ)) × HasFailed (TellsLine waits) source batch wiring first names was opens (record { told = []; left = left }) (record { told = text; left = leaves }) Untold))
     → IfErr r (λ fault. (fault ≡ NoMemory → (text ≡ []) × (opens ≡ was)) × (fault ≡ Untold → IsDriveCut source batch wiring first goes_on names input was opens text))
 cut_by (Ok end) source batch wiring first goes_on waits names input left was opens text so same is = tt

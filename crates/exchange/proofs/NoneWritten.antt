@@ -9,7 +9,7 @@ use Rattle.named_files.specs.Streams.{Closed}
 use Rattle.named_files.specs.declared.outputs.Outputs.{Outputs}
 use Rattle.named_files.specs.declared.outputs.Receipts.{Receipts}
 use Rattle.named_files.proofs.Written.{nothing_gone}
-use Rattle.kept_sessions.proofs.Held.{as_held}
+use Rattle.recorded_sessions.proofs.Held.{as_held}
 
 -- nothing was written of what was opened for a job
 pub kept_none : {F C : Type 0} (holds : List ℕ → List ℕ → Type 0) (contents : F → Option (List ℕ)) (received : C → Closed) (job : Job) (outputs : Outputs F) (receipts : Receipts C)

@@ -5,7 +5,7 @@ use Rattle.std.specs.Prelude.{IfSome, codes, is_some, option_map, option_to_list
 use Rattle.std.specs.List.{AllByRecursion, flat_map, list_any}
 use Rattle.std.proofs.lemmas.List.Elements.{recursion_from_All}
 use Rattle.batch_book.proofs.OneReplay.{shape_stays}
-use Rattle.batch_book.specs.History.{Account, new_account}
+use Rattle.batch_book.specs.History.{BookView, new_book_view}
 use Rattle.batch_book.specs.Machine.{Machine, opened}
 use Rattle.batch_book.specs.Seats.{own}
 use Rattle.batch_book.specs.Values.{greatest}
@@ -27,23 +27,23 @@ use Rattle.drive_answers.specs.Ways.{Ways}
 use Rattle.exchange.proofs.EndStatuses.{gave_up}
 use Rattle.exchange.proofs.PromisedSessions.{AreCallsOf, HasOwn, all_own, all_sessions, all_stand, are_calls, calls_of, in_order, one_session, seen_within, session_so}
 use Rattle.exchange.specs.Keeping.{AreKeptBut}
-use Rattle.exchange.specs.Promises.{AreHeld, AreKept, AreToldKept, Calls, all_calls, Comes, GoesOnFrom, HasGivenUp, IsDone, Hosted, IsAsItWas, IsEmpty, IsHosted, IsKept, IsNoStart, IsRefusalLine, IsSessionOf, IsUndone, Run, Session, World, all_turns, clients_of, hosted_text, kept_by, name_at}
+use Rattle.exchange.specs.Promises.{HoldTexts, AreKept, AreToldKept, Calls, all_calls, Comes, GoesOnFrom, HasGivenUp, IsDone, Hosted, IsAsItWas, IsEmpty, IsHosted, IsKept, IsNoStart, IsRefusalLine, IsSessionOf, IsUndone, Run, Session, World, all_turns, clients_of, hosted_text, saved_by, name_at}
 use Rattle.exchange.specs.Responses.{Given, IsResponseTo, Named, Response}
-use Rattle.kept_sessions.specs.Answers.{IsLiveAnswer, IsWrongStart, hosting, loses, talking}
-use Rattle.kept_sessions.specs.Keeping.{AreLiveKept, AreScriptsKept, AreWritten, HasAllTold}
-use Rattle.kept_sessions.specs.Records.{BeginsFor, IsAsBegun, IsWrongFor}
+use Rattle.recorded_sessions.specs.Answers.{IsLiveAnswer, IsWrongStart, hosting, loses, talking}
+use Rattle.recorded_sessions.specs.Keeping.{AreLiveKept, AreScriptsKept, AreWritten, HasAllTold}
+use Rattle.recorded_sessions.specs.Records.{BeginsFor, IsAsBegun, IsWrongFor}
 use Rattle.module_memory.specs.Images.{image_of}
 use Rattle.module_memory.specs.Store.{Store}
 use Rattle.named_files.specs.Clients.{clients_by, ends_of}
 use Rattle.named_files.specs.Contents.{AreContents, Holding}
 use Rattle.named_files.specs.Notes.{unanswered}
-use Rattle.named_files.specs.Outputs.{HasNothingGone, IsFileWritten, IsUnput as IsPutNowhere, lost_none}
+use Rattle.named_files.specs.Outputs.{HasNothingGone, IsFileWritten, IsUnput as IsPutNowhere, no_write_failures}
 use Rattle.named_files.specs.Streams.{Closed}
-use Rattle.named_files.specs.declared.lost.Lost.{Lost}
-use Rattle.named_files.specs.declared.lost.Reason.{Reason}
+use Rattle.named_files.specs.declared.write_failures.WriteFailures.{WriteFailures}
+use Rattle.named_files.specs.declared.write_failures.WriteFailure.{WriteFailure}
 use Rattle.named_files.specs.declared.outputs.Receipts.{Receipts}
-use Rattle.named_files.specs.declared.unanswered.Unanswered.{Unanswered}
-use Rattle.named_files.specs.declared.unanswered.Unanswered.TheVariants as why
+use Rattle.named_files.specs.declared.refusal_cause.RefusalCause.{RefusalCause}
+use Rattle.named_files.specs.declared.refusal_cause.RefusalCause.TheVariants as why
 use Rattle.plan_answers.specs.Refusals.{Printed}
 use Rattle.plan_answers.specs.declared.limits.TheConstants.{REFUSED}
 use Rattle.rack_answers.specs.Openings.{IsRackOf}
@@ -61,7 +61,7 @@ use Rattle.session_answers.specs.declared.ended_session.Ending.TheVariants.{Serv
 -- ---- the files of a record and of an image
 
 module _ {C : Type 0} (received : C → Closed) where
-  kept_file : (whole : Bool) (name : Option Text) (bytes : List ℕ) (receipt : Option C) (lost : Option Reason) → (whole ≡ true → lost ≡ None) → IsFileWritten received name bytes receipt lost → IsKept whole name bytes (option_map received receipt)
+  kept_file : (whole : Bool) (name : Option Text) (bytes : List ℕ) (receipt : Option C) (lost : Option WriteFailure) → (whole ≡ true → lost ≡ None) → IsFileWritten received name bytes receipt lost → IsKept whole name bytes (option_map received receipt)
   kept_file whole None bytes receipt lost none is = ap (λ (r : Option C). option_map received r) is.0
   kept_file whole (Some name) bytes None lost none is = absurd is
   kept_file whole (Some name) bytes (Some receipt) None none is = (is.2, (bytes, [], sym (append-nil bytes), is.0), λ stands. is.0, λ all. is.1)
@@ -73,18 +73,18 @@ module _ {C : Type 0} (received : C → Closed) where
   )
 
   -- the record of live sessions has all that was told
-  all_told : (receipt : Option C) (names : List Text) (book : Account) (calls : Calls) → AreCallsOf calls book → IfSome receipt (λ r. HasAllTold names book (received r).bytes)
+  all_told : (receipt : Option C) (names : List Text) (book : BookView) (calls : Calls) → AreCallsOf calls book → IfSome receipt (λ r. HasAllTold names book (received r).bytes)
       → IfSome (option_map received receipt) (λ file. (rest : List ℕ) × (file.bytes ≡ Some (record_of names calls.opening (calls.earlier ++ calls.standing) ++ rest)))
   all_told None names book calls are told = tt
   all_told (Some receipt) names book calls are told =
       let r = told.2 in
       (r.rest, told.1 ∙ ap (λ (x : List ℕ). Some x) r.has ∙ ap₂ (λ (o : Store) (es : List Entry). Some (record_of names o es ++ r.rest)) (sym are.opening) (sym are.stand))
 
-  put_nowhere : (image : Option C) → IsPutNowhere received image → IfSome (option_map received image) (λ (file : Closed). file.stands ≡ false)
+  put_nowhere : (image : Option C) → IsPutNowhere received image → IfSome (option_map received image) (λ (file : Closed). file.durable ≡ false)
   put_nowhere None is = tt
   put_nowhere (Some receipt) is = is
 
-  whole_or_unput : (name : Option Text) (bytes : List ℕ) (recorded image : Option C) (lost : Option Reason) → IsFileWritten received name bytes recorded lost → (is_some lost ≡ true → IsPutNowhere received image) → IsKept true name bytes (option_map received recorded) ⊎ IfSome (option_map received image) (λ (file : Closed). file.stands ≡ false)
+  whole_or_unput : (name : Option Text) (bytes : List ℕ) (recorded image : Option C) (lost : Option WriteFailure) → IsFileWritten received name bytes recorded lost → (is_some lost ≡ true → IsPutNowhere received image) → IsKept true name bytes (option_map received recorded) ⊎ IfSome (option_map received image) (λ (file : Closed). file.durable ≡ false)
   whole_or_unput name bytes recorded image None is nowhere = inl (kept_file true name bytes recorded None (λ whole. refl) is)
   whole_or_unput name bytes recorded image (Some lost) is nowhere = inr (put_nowhere image (nowhere refl))
 
@@ -104,7 +104,7 @@ as_it_was holds received (Some out) names (Some receipt) run by_name (held, text
 -- ---- what comes of a job that has sessions
 
 -- the response to it was printed, or a front of it, and this is lost of what went to its files
-pub record Came {C : Type 0} (named : Named) (given : Given) (received : C → Closed) (receipts : Receipts C) (ends : List SessionEnd) (run : Run) (job : Job) (lost : Lost) : Type 0 where
+pub record Came {C : Type 0} (named : Named) (given : Given) (received : C → Closed) (receipts : Receipts C) (ends : List SessionEnd) (run : Run) (job : Job) (lost : WriteFailures) : Type 0 where
   pub response : Response
   pub is : IsResponseTo named given job response
   pub kept : AreKeptBut named.holds received job response.left receipts lost
@@ -168,9 +168,9 @@ kept_named None image name is all = absurd (cc)
 kept_named (Some recorded) image name is all = λ same. all.0 tt ((let e : recorded ≡ name = cc in e) ∙ same)
 
 -- a book with which sessions begin
-begun_so : (holds : Holding) (record_out : Option RecordFile) (opening : Store) (names : List Text) (was : Account) → BeginsFor holds record_out opening names was → (was.opening ≡ opening) × (was.machine.store.shape ≡ opening.shape)
-begun_so holds None opening names was is = (ap (λ (a : Account). a.opening) is, ap (λ (a : Account). a.machine.store.shape) is)
-begun_so holds (Some out) opening names was (held, holds_so, inl new) = (ap (λ (a : Account). a.opening) new.2, ap (λ (a : Account). a.machine.store.shape) new.2)
+begun_so : (holds : Holding) (record_out : Option RecordFile) (opening : Store) (names : List Text) (was : BookView) → BeginsFor holds record_out opening names was → (was.opening ≡ opening) × (was.machine.store.shape ≡ opening.shape)
+begun_so holds None opening names was is = (ap (λ (a : BookView). a.opening) is, ap (λ (a : BookView). a.machine.store.shape) is)
+begun_so holds (Some out) opening names was (held, holds_so, inl new) = (ap (λ (a : BookView). a.opening) new.2, ap (λ (a : BookView). a.machine.store.shape) new.2)
 begun_so holds (Some out) opening names was (held, holds_so, inr (resumes, r)) = (r.is_opening, shape_stays (opened opening) was.history was.machine r.remade.replayed.replay)
 
 module _ (comes : Text → Option (List ℕ)) (had : Text → List ℕ) (names : List Text) (endings : List (Ending (List ℕ))) (b : Beginning) (calls : Calls) (shape : b.shape ≡ calls.opening.shape) (recorded : b.loses ≡ calls.recorded) where
@@ -255,21 +255,21 @@ as_came calls came s is = record {
 
 -- ---- a job
 
-module _ {C : Type 0} (received : C → Closed) (receipts : Receipts C) (lost : Lost) (named : Named) (given : Given) (run : Run) (whole : Bool) (after : Ways) (comes : Text → Option (List ℕ)) (had : Text → List ℕ) (endings : List (Ending (List ℕ)))
-    (none_lost : whole ≡ true → lost ≡ lost_none) (rack : SharedRack) where
+module _ {C : Type 0} (received : C → Closed) (receipts : Receipts C) (lost : WriteFailures) (named : Named) (given : Given) (run : Run) (whole : Bool) (after : Ways) (comes : Text → Option (List ℕ)) (had : Text → List ℕ) (endings : List (Ending (List ℕ)))
+    (none_lost : whole ≡ true → lost ≡ no_write_failures) (rack : SharedRack) where
   abbrev The : World
-  The = record { run = run; whole = whole; before = given.ports; after = after; kept = kept_by received receipts; clients = clients_of comes had endings }
+  The = record { run = run; whole = whole; before = given.ports; after = after; kept = saved_by received receipts; clients = clients_of comes had endings }
 
-  record_is : (names : List Text) (calls : Calls) (book : Account) → AreCallsOf calls book → whole_record names book.opening book.history ≡ whole_record names calls.opening (all_calls calls)
+  record_is : (names : List Text) (calls : Calls) (book : BookView) → AreCallsOf calls book → whole_record names book.opening book.history ≡ whole_record names calls.opening (all_calls calls)
   record_is names calls book are = ap₂ (whole_record names) (sym are.opening) (sym are.entries)
 
-  are_kept : (names : List Text) (book : Account) (calls : Calls) → AreCallsOf calls book → AreWritten received (recorded_in rack) rack.image_out names book receipts lost → AreKept The rack names calls
+  are_kept : (names : List Text) (book : BookView) (calls : Calls) → AreCallsOf calls book → AreWritten received (recorded_in rack) rack.image_out names book receipts lost → AreKept The rack names calls
   are_kept names book calls are is = (
-    kept_file received whole (recorded_in rack) _ receipts.recorded lost.recorded (λ all. ap (λ (l : Lost). l.recorded) (none_lost all)) (subst (λ (x : List ℕ). IsFileWritten received (recorded_in rack) x receipts.recorded lost.recorded) (record_is names calls book are) is.0),
-    kept_file received whole rack.image_out _ receipts.image lost.image (λ all. ap (λ (l : Lost). l.image) (none_lost all)) (subst (λ (x : List ℕ). IsFileWritten received rack.image_out x receipts.image lost.image) (ap (λ (m : Machine). image_of m.store) (sym are.machine)) is.1),
+    kept_file received whole (recorded_in rack) _ receipts.recorded lost.recorded (λ all. ap (λ (l : WriteFailures). l.recorded) (none_lost all)) (subst (λ (x : List ℕ). IsFileWritten received (recorded_in rack) x receipts.recorded lost.recorded) (record_is names calls book are) is.0),
+    kept_file received whole rack.image_out _ receipts.image lost.image (λ all. ap (λ (l : WriteFailures). l.image) (none_lost all)) (subst (λ (x : List ℕ). IsFileWritten received rack.image_out x receipts.image lost.image) (ap (λ (m : Machine). image_of m.store) (sym are.machine)) is.1),
   )
 
-  are_told : (names : List Text) (book : Account) (calls : Calls) → AreCallsOf calls book → AreLiveKept named.holds received rack names (Some book) receipts lost → AreToldKept The rack names calls
+  are_told : (names : List Text) (book : BookView) (calls : Calls) → AreCallsOf calls book → AreLiveKept named.holds received rack names (Some book) receipts lost → AreToldKept The rack names calls
   are_told names book calls are is = (
     are_kept names book calls are is.0,
     all_told received receipts.recorded names book calls are is.3,
@@ -294,7 +294,7 @@ module _ {C : Type 0} (received : C → Closed) (receipts : Receipts C) (lost : 
   )
 
   -- there was no answer
-  gave_up_so : (job : SessionJob) (response : Response) (reason : Unanswered) → response.told ≡ [] → response.end ≡ unanswered reason → run.prints (response.told ++ response.end.text) → run.status ≡ response.end.status → IsUndone The (Sessions rack job) → Had The rack job
+  gave_up_so : (job : SessionJob) (response : Response) (reason : RefusalCause) → response.told ≡ [] → response.end ≡ unanswered reason → run.prints (response.told ++ response.end.text) → run.status ≡ response.end.status → IsUndone The (Sessions rack job) → Had The rack job
   gave_up_so job response reason none is prints status unbegun =
       inr ((gave_up run reason (subst (λ (p : Printed). run.prints p.text) is (subst (λ (x : List ℕ). run.prints (x ++ response.end.text)) none prints)), unbegun), status ∙ ap (λ (p : Printed). p.status) is)
 
@@ -303,12 +303,12 @@ module _ {C : Type 0} (received : C → Closed) (receipts : Receipts C) (lost : 
   scripts_unbegun : (scripts : List Text) (workers : ℕ) → AreScriptsKept received (recorded_in rack) rack.image_out None receipts lost → IsUndone The (Sessions rack (Serve scripts workers))
   scripts_unbegun scripts workers gone = (is_empty received (recorded_in rack) receipts.recorded gone.0, is_empty received rack.image_out receipts.image gone.1)
 
-  served_so : (scripts : List Text) (workers : ℕ) (texts : Files (List ℕ)) (printed : Printed) (left : Option Account) → run.status ≡ printed.status → AreScriptsKept received (recorded_in rack) rack.image_out left receipts lost → IsServeAnswer rack.shape texts.image texts.scripts printed left → HadOr The rack (Serve scripts workers) texts printed.text
+  served_so : (scripts : List Text) (workers : ℕ) (texts : Files (List ℕ)) (printed : Printed) (left : Option BookView) → run.status ≡ printed.status → AreScriptsKept received (recorded_in rack) rack.image_out left receipts lost → IsServeAnswer rack.shape texts.image texts.scripts printed left → HadOr The rack (Serve scripts workers) texts printed.text
   served_so scripts workers texts printed left status kept (refused refusal wrong refuses none) =
-      inr (((refusal, wrong, refuses.1.line), scripts_unbegun scripts workers (subst (λ (l : Option Account). AreScriptsKept received (recorded_in rack) rack.image_out l receipts lost) none kept)), status ∙ refuses.1.status)
+      inr (((refusal, wrong, refuses.1.line), scripts_unbegun scripts workers (subst (λ (l : Option BookView). AreScriptsKept received (recorded_in rack) rack.image_out l receipts lost) none kept)), status ∙ refuses.1.status)
   served_so scripts workers texts printed left status kept (served opening of_rack (sessions, of, book, is_left, few, closing)) =
       let one = closing.one in
-      let b = beginning false (new_account opening) in
+      let b = beginning false (new_book_view opening) in
       let parts = map (λ (t : Transcript). t.part) sessions in
       let calls = calls_of false opening [] one.made one.standing book in
       let all = all_sessions b calls texts.scripts sessions refl refl (recursion_from_All (HasItsScript b texts.scripts) sessions of.each) (all_own false opening [] parts book one) in
@@ -324,10 +324,10 @@ module _ {C : Type 0} (received : C → Closed) (receipts : Receipts C) (lost : 
         whole = all_stand false opening [] parts book one refl;
         status = status ∙ closing.status ∙ ap status_at all.1.failed;
         prints = closing.prints ∙ all.1.text;
-        kept = are_kept [] book calls (are_calls false opening [] parts book one) (subst (λ (l : Option Account). AreScriptsKept received (recorded_in rack) rack.image_out l receipts lost) is_left kept);
+        kept = are_kept [] book calls (are_calls false opening [] parts book one) (subst (λ (l : Option BookView). AreScriptsKept received (recorded_in rack) rack.image_out l receipts lost) is_left kept);
       })
 
-  pub scripts_come : (scripts : List Text) (workers : ℕ) → ((files : Files (List ℕ)) (rest : Option (List ℕ)) → AreContents named.holds given.input (files_of (Sessions rack (Serve scripts workers))) files rest → AreHeld run.holds (files_of (Sessions rack (Serve scripts workers))) files)
+  pub scripts_come : (scripts : List Text) (workers : ℕ) → ((files : Files (List ℕ)) (rest : Option (List ℕ)) → AreContents named.holds given.input (files_of (Sessions rack (Serve scripts workers))) files rest → HoldTexts run.holds (files_of (Sessions rack (Serve scripts workers))) files)
       → Came named given received receipts (ends_of endings) run (Sessions rack (Serve scripts workers)) lost → Had The rack (Serve scripts workers)
   scripts_come scripts workers held c = by c.is
     where
@@ -336,7 +336,7 @@ module _ {C : Type 0} (received : C → Closed) (receipts : Receipts C) (lost : 
           let is = comes.1 in
           inl (is.0, c.response.end.text, held is.0 is.1 is.2, subst (λ (x : List ℕ). run.prints (x ++ c.response.end.text)) is.3.1.0 c.prints, served_so scripts workers is.0 c.response.end c.response.left c.status c.kept is.3.1.1)
       by (inr none) =
-          gave_up_so (Serve scripts workers) c.response none.4.0 none.0 none.4.1 c.prints c.status (scripts_unbegun scripts workers (subst (λ (l : Option Account). AreScriptsKept received (recorded_in rack) rack.image_out l receipts lost) none.3 c.kept))
+          gave_up_so (Serve scripts workers) c.response none.4.0 none.0 none.4.1 c.prints c.status (scripts_unbegun scripts workers (subst (λ (l : Option BookView). AreScriptsKept received (recorded_in rack) rack.image_out l receipts lost) none.3 c.kept))
 
   -- ---- live sessions
 
@@ -352,12 +352,12 @@ module _ {C : Type 0} (received : C → Closed) (receipts : Receipts C) (lost : 
     live_unbegun : AreLiveKept named.holds received rack names None receipts lost → ends_of endings ≡ [] → IsAsItWas run rack.record_out names (option_map received receipts.recorded) × IsEmpty rack.image_out (option_map received receipts.image) × (endings ≡ [])
     live_unbegun gone ends = (as_it_was named.holds received rack.record_out names receipts.recorded run by_name gone.0, is_empty received rack.image_out receipts.image gone.1, none_ended endings ends)
 
-    begins_for : (record_out : Option RecordFile) (opening : Store) (was : Account) → ((out : RecordFile) (text : List ℕ) → record_out ≡ Some out → named.holds out.name text → run.holds out.name text) → BeginsFor named.holds record_out opening names was → BeginsFor run.holds record_out opening names was
+    begins_for : (record_out : Option RecordFile) (opening : Store) (was : BookView) → ((out : RecordFile) (text : List ℕ) → record_out ≡ Some out → named.holds out.name text → run.holds out.name text) → BeginsFor named.holds record_out opening names was → BeginsFor run.holds record_out opening names was
     begins_for None opening was by is = is
     begins_for (Some out) opening was by (held, holds_so, begins) = (held, by out held refl holds_so, begins)
 
     -- how their calls go on from those of the record
-    module _ (opening : Store) (was : Account) (begins : BeginsFor named.holds rack.record_out opening names was) (parts : List Part) (book : Account) (one : HaveOneHistory (loses rack) was.opening was.history parts book) where
+    module _ (opening : Store) (was : BookView) (begins : BeginsFor named.holds rack.record_out opening names was) (parts : List Part) (book : BookView) (one : HaveOneHistory (loses rack) was.opening was.history parts book) where
       abbrev Theirs : Calls
       Theirs = calls_of (loses rack) was.opening was.history one.made one.standing book
 
@@ -376,7 +376,7 @@ module _ {C : Type 0} (received : C → Closed) (receipts : Receipts C) (lost : 
   -- ---- `host`
 
   module _ (by_name : (out : RecordFile) (text : List ℕ) → rack.record_out ≡ Some out → named.holds out.name text → run.holds out.name text) (names : List Text) (workers : ℕ) where
-    hosted_so : (texts : Files (List ℕ)) (ends : List SessionEnd) (printed : Printed) (left : Option Account) → ends ≡ ends_of endings → run.status ≡ printed.status → AreLiveKept named.holds received rack names left receipts lost
+    hosted_so : (texts : Files (List ℕ)) (ends : List SessionEnd) (printed : Printed) (left : Option BookView) → ends ≡ ends_of endings → run.status ≡ printed.status → AreLiveKept named.holds received rack names left receipts lost
         → IsLiveAnswer named.holds rack names texts.image (hosting rack (clients_by comes had names) ends printed) printed left → HadOr The rack (Host names workers) texts printed.text
     hosted_so texts ends printed None same status kept (unserved, (refusal, refuses, inl wrong)) =
         inr (((refusal, inl (wrong_start by_name names texts.image refusal wrong), refuses.1.line), live_unbegun by_name names kept (sym same ∙ unserved)), status ∙ refuses.1.status)
@@ -403,7 +403,7 @@ module _ {C : Type 0} (received : C → Closed) (receipts : Receipts C) (lost : 
         })
 
     pub clients_come : given.clients names ≡ clients_by comes had names
-        → ((files : Files (List ℕ)) (rest : Option (List ℕ)) → AreContents named.holds given.input (files_of (Sessions rack (Host names workers))) files rest → AreHeld run.holds (files_of (Sessions rack (Host names workers))) files)
+        → ((files : Files (List ℕ)) (rest : Option (List ℕ)) → AreContents named.holds given.input (files_of (Sessions rack (Host names workers))) files rest → HoldTexts run.holds (files_of (Sessions rack (Host names workers))) files)
         → Came named given received receipts (ends_of endings) run (Sessions rack (Host names workers)) lost → Had The rack (Host names workers)
     clients_come known held c = by c.is
       where
@@ -419,12 +419,12 @@ module _ {C : Type 0} (received : C → Closed) (receipts : Receipts C) (lost : 
                   (subst (λ (k : KnownClients). IsLiveAnswer named.holds rack names is.0.image (hosting rack k c.response.ends c.response.end) c.response.end c.response.left) known is.3.1.1),
             )
         by (inr none) =
-            gave_up_so (Host names workers) c.response none.4.0 none.0 none.4.1 c.prints c.status (live_unbegun by_name names (subst (λ (l : Option Account). AreLiveKept named.holds received rack names l receipts lost) none.3 c.kept) (sym c.ends_are ∙ none.2))
+            gave_up_so (Host names workers) c.response none.4.0 none.0 none.4.1 c.prints c.status (live_unbegun by_name names (subst (λ (l : Option BookView). AreLiveKept named.holds received rack names l receipts lost) none.3 c.kept) (sym c.ends_are ∙ none.2))
 
   -- ---- `talk`
 
   module _ (by_name : (out : RecordFile) (text : List ℕ) → rack.record_out ≡ Some out → named.holds out.name text → run.holds out.name text) where
-    talked_so : (texts : Files (List ℕ)) (before after : Option (List ℕ)) (told : List ℕ) (printed : Printed) (left : Option Account) → ((came : List ℕ) → IfSome before (λ text. text ≡ came) → run.holds input_name came)
+    talked_so : (texts : Files (List ℕ)) (before after : Option (List ℕ)) (told : List ℕ) (printed : Printed) (left : Option BookView) → ((came : List ℕ) → IfSome before (λ text. text ≡ came) → run.holds input_name came)
         → ends_of endings ≡ [] → run.status ≡ printed.status → AreLiveKept named.holds received rack [] left receipts lost
         → IsLiveAnswer named.holds rack [] texts.image (talking rack before after told printed) printed left → HadOr The rack Talk texts (told ++ printed.text)
     talked_so texts before after told printed None input ends status kept (untouched, (refusal, refuses, inr none)) = absurd none.2
@@ -452,7 +452,7 @@ module _ {C : Type 0} (received : C → Closed) (receipts : Receipts C) (lost : 
         })
 
     pub talk_comes : ((before : Option (List ℕ)) (files : Files (List ℕ)) → AreContents named.holds given.input (files_of (Sessions rack Talk)) files before → (came : List ℕ) → IfSome before (λ text. text ≡ came) → run.holds input_name came)
-        → ((files : Files (List ℕ)) (rest : Option (List ℕ)) → AreContents named.holds given.input (files_of (Sessions rack Talk)) files rest → AreHeld run.holds (files_of (Sessions rack Talk)) files)
+        → ((files : Files (List ℕ)) (rest : Option (List ℕ)) → AreContents named.holds given.input (files_of (Sessions rack Talk)) files rest → HoldTexts run.holds (files_of (Sessions rack Talk)) files)
         → Came named given received receipts (ends_of endings) run (Sessions rack Talk) lost → Had The rack Talk
     talk_comes input held c = by c.is
       where
@@ -467,4 +467,4 @@ module _ {C : Type 0} (received : C → Closed) (receipts : Receipts C) (lost : 
               talked_so is.0 is.1 is.3.1.0 c.response.told c.response.end c.response.left (input is.1 is.0 is.2) (sym c.ends_are ∙ is.3.1.2) c.status c.kept is.3.1.1,
             )
         by (inr none) =
-            gave_up_so Talk c.response none.4.0 none.0 none.4.1 c.prints c.status (live_unbegun by_name [] (subst (λ (l : Option Account). AreLiveKept named.holds received rack [] l receipts lost) none.3 c.kept) (sym c.ends_are ∙ none.2))
+            gave_up_so Talk c.response none.4.0 none.0 none.4.1 c.prints c.status (live_unbegun by_name [] (subst (λ (l : Option BookView). AreLiveKept named.holds received rack [] l receipts lost) none.3 c.kept) (sym c.ends_are ∙ none.2))

@@ -4,10 +4,10 @@ use Rattle.std.specs.Prelude.{◌==◌, codes}
 use Rattle.std.specs.List.{AllByRecursion}
 use Rattle.std.proofs.lemmas.List.{append-nil}
 use Rattle.batch.specs.Batches.{IsBatch}
-use Rattle.batch.specs.Extent.{widest}
+use Rattle.batch.specs.ShapeView.{widest}
 use Rattle.batch.specs.declared.transfer.Transfer.{Transfer}
 use Rattle.board_wiring.specs.Boards.{IsBoardOf, IsFilled}
-use Rattle.board_wiring.specs.Lacks.{HasWaysOn}
+use Rattle.board_wiring.specs.Missing.{HasWaysOn}
 use Rattle.board_wiring.specs.declared.board.Board.{Board as BoardText}
 use Rattle.c004_commands.specs.Commands.{text}
 use Rattle.c004_commands.specs.declared.command.Command.TheVariants.{Settle}
@@ -39,17 +39,17 @@ use Rattle.link_graph.specs.Schedules.{IsScheduleOf}
 use Rattle.plan_answers.specs.Refusals.{IsRefused, Printed}
 use Rattle.plan_answers.specs.Schedules.{IsScheduleFrom}
 use Rattle.plan_answers.specs.declared.limits.TheConstants.{DONE, REFUSED}
-use Rattle.plan_answers.specs.declared.source.Source.{Source}
-use Rattle.plan_answers.specs.declared.source.Source.TheVariants as source
+use Rattle.plan_answers.specs.declared.source.ScheduleSource.{ScheduleSource}
+use Rattle.plan_answers.specs.declared.source.ScheduleSource.TheVariants as source
 use Rattle.rack_answers.proofs.ReadBatches.{all_joined}
 use Rattle.rack_answers.specs.Boards.{joined_on}
 use Rattle.refusals.specs.Refusals.{refusal_words}
 use Rattle.refusals.specs.declared.refusal.Refusal.{Refusal}
 use Rattle.switch_driver.proofs.Telling.{replies_tell}
 use Rattle.switch_driver.specs.Driving.{EndsWith, HaveStood, Stood, standing_after}
-use Rattle.switch_driver.specs.Lines.{Dialogue, TellsLine, stage_line}
+use Rattle.switch_driver.specs.Lines.{Dialogue, TellsLine, driven_line}
 use Rattle.switch_driver.specs.Steps.{Stands as StandsOn, changed, kept, settled_steps, wirings_of}
-use Rattle.switch_driver.specs.declared.driving.Driven.TheVariants.{Completed, Halted, Stopped}
+use Rattle.switch_driver.specs.declared.driving.DriveOutcome.TheVariants.{Completed, Halted, Stopped}
 use Rattle.switch_driver.specs.declared.drive_observer.Halt.{Halt}
 use Rattle.switch_driver.specs.declared.drive_observer.Halt.TheVariants.{Left, Unheard, Untold}
 use Rattle.switch_settings.proofs.Turning.{ordered_switch}
@@ -246,7 +246,7 @@ module _ (board : Option BoardWiring) (wide : Bool) (batch : List Transfer) (set
         passed = grown.passed;
         known = grown.known;
         stood = (t.passed, grown.more, grown.parts, t.stood, turned_all (first + n) (pairs_at batch settings (first + n)) grown.passed refl (omega arith) grown.is);
-        lines = hears.0 ∙ ap (λ (x : List ℕ). x ++ stage_line (first + n) (numbers_in settings (first + n))) t.lines;
+        lines = hears.0 ∙ ap (λ (x : List ℕ). x ++ driven_line (first + n) (numbers_in settings (first + n))) t.lines;
         last = λ m is. subst (λ (j : ℕ). AreAnswered (switches_of board wide) (pairs_at batch settings (first + j)) grown.passed) (omega (arith, is)) grown.is;
       }
 
@@ -300,12 +300,12 @@ many_switches None true = refl
 many_switches None false = refl
 
 -- what is so of the texts, however the drive went
-record Read (from : Source Text) (names : Names) (texts : Files (List ℕ)) (board : Option BoardWiring) (transfers : List Transfer) (settings : List (List ℕ)) : Type 0 where
+record Read (from : ScheduleSource Text) (names : Names) (texts : Files (List ℕ)) (board : Option BoardWiring) (transfers : List Transfer) (settings : List (List ℕ)) : Type 0 where
   said : FilesSaySchedule from texts transfers settings
   wired : IsWired texts.wiring transfers board
   given : Given board (is_wide_over names transfers) transfers settings
 
-read_so : (from : Source Text) (names : Names) (texts : Files (List ℕ)) (board : Option BoardText) (filled : Option BoardWiring) (transfers : List Transfer) (settings : List (List ℕ))
+read_so : (from : ScheduleSource Text) (names : Names) (texts : Files (List ℕ)) (board : Option BoardText) (filled : Option BoardWiring) (transfers : List Transfer) (settings : List (List ℕ))
     → IsBoardOf texts.wiring board → IsScheduleFrom (source_in from (text_in texts.schedule)) widest (text_in texts.list) transfers settings → HasWaysOn board transfers → IsFilled board filled → Read from names texts filled transfers settings
 read_so from names texts board filled transfers settings of is ways fills =
     let source = source_in from (text_in texts.schedule) in
@@ -318,8 +318,8 @@ read_so from names texts board filled transfers settings of is ways fills =
       given = record { fits = fits; is = schedule_of source text transfers settings said; has = all_joined board filled (how_many names == 2) transfers fits fills ways };
     }
 
-more_lines : (settings : List (List ℕ)) (first n k : ℕ) → first + n ≡ k → lines_told settings first n ++ stage_line k (numbers_in settings k) ≡ lines_told settings first (n + 1)
-more_lines settings first n k at = let e : suc n ≡ n + 1 = omega arith in subst (λ (m : ℕ). lines_told settings first n ++ stage_line k (numbers_in settings k) ≡ lines_told settings first m) e (ap (λ (m : ℕ). lines_told settings first n ++ stage_line m (numbers_in settings m)) (sym at))
+more_lines : (settings : List (List ℕ)) (first n k : ℕ) → first + n ≡ k → lines_told settings first n ++ driven_line k (numbers_in settings k) ≡ lines_told settings first (n + 1)
+more_lines settings first n k at = let e : suc n ≡ n + 1 = omega arith in subst (λ (m : ℕ). lines_told settings first n ++ driven_line k (numbers_in settings k) ≡ lines_told settings first m) e (ap (λ (m : ℕ). lines_told settings first n ++ driven_line m (numbers_in settings m)) (sym at))
 
 suc_stood : (board : Option BoardWiring) (wide : Bool) (batch : List Transfer) (settings : List (List ℕ)) (first n : ℕ) (earlier more passed : List Passing) → passed ≡ earlier ++ more → StoodInTurn board wide batch settings first n earlier → Stands board wide batch settings (first + n) passed → StoodInTurn board wide batch settings first (suc n) passed
 suc_stood board wide batch settings first n earlier more passed parts stood stands = (earlier, more, parts, stood, stands)
@@ -328,13 +328,13 @@ stood_more : (board : Option BoardWiring) (wide : Bool) (batch : List Transfer) 
 stood_more board wide batch settings first n earlier more passed parts stood stands = let e : suc n ≡ n + 1 = omega arith in subst (λ (m : ℕ). StoodInTurn board wide batch settings first m passed) e (suc_stood board wide batch settings first n earlier more passed parts stood stands)
 
 -- settings stood, the last one was told, and no other came
-ended_at : (halt : Halt) (waits : Bool) (old : Dialogue) (k : ℕ) (numbers : List ℕ) (new : Dialogue) → (halt ≡ Left) ⊎ (halt ≡ Unheard) → TellsLine waits old k numbers (Err halt) new → new.told ≡ old.told ++ stage_line k numbers
+ended_at : (halt : Halt) (waits : Bool) (old : Dialogue) (k : ℕ) (numbers : List ℕ) (new : Dialogue) → (halt ≡ Left) ⊎ (halt ≡ Unheard) → TellsLine waits old k numbers (Err halt) new → new.told ≡ old.told ++ driven_line k numbers
 ended_at Left waits old k numbers new which is = is.0
 ended_at Unheard waits old k numbers new which is = is.0
 ended_at Untold waits old k numbers new (inl which) is = absurd (cc)
 ended_at Untold waits old k numbers new (inr which) is = absurd (cc)
 
-module _ (w : World) (from : Source Text) (first : ℕ) (names : Names) (texts : Files (List ℕ)) (waits : Bool) (filled : Option BoardWiring) (transfers : List Transfer) (settings : List (List ℕ)) (start final : Dialogue) (r : Read from names texts filled transfers settings) (none : start.told ≡ []) where
+module _ (w : World) (from : ScheduleSource Text) (first : ℕ) (names : Names) (texts : Files (List ℕ)) (waits : Bool) (filled : Option BoardWiring) (transfers : List Transfer) (settings : List (List ℕ)) (start final : Dialogue) (r : Read from names texts filled transfers settings) (none : start.told ≡ []) where
   abbrev Stopping : Halt → ℕ → Option (List Passing) → Type 0
   Stopping halt k carried = EndsWith (TellsLine waits) halt (rack_for filled (is_wide_over names transfers)) transfers settings first k (Some []) start carried final
 
@@ -422,7 +422,7 @@ module _ (w : World) (from : Source Text) (first : ℕ) (names : Names) (texts :
       → Drove (final.told ++ printed.text)
   left_at halt k line carried failed printed status which went ways text is =
       let told : final.told ≡ lines_told settings first (went.count + 1) = ended_at halt waits went.telling k (numbers_in settings k) final which went.said
-      ∙ ap (λ (x : List ℕ). x ++ stage_line k (numbers_in settings k)) (told_before halt k carried went) ∙ more_lines settings first went.count k went.at in
+      ∙ ap (λ (x : List ℕ). x ++ driven_line k (numbers_in settings k)) (told_before halt k carried went) ∙ more_lines settings first went.count k went.at in
       subst Drove (ap₂ (λ (x y : List ℕ). x ++ y) (sym told) (sym text)) (last_stood halt k line carried failed status went ways is)
 
 -- what is first wrong with the texts
@@ -433,7 +433,7 @@ not_begun : (first n : ℕ) → ((first ≡ 0) ⊎ (first < n) → ⊥) → (0 <
 not_begun zero n other = absurd (other (inl refl))
 not_begun (suc m) n other = (omega arith, not_less (suc m) n (λ less. other (inr less)))
 
-wrong_on : (from : Source (List ℕ)) (text : List ℕ) (wiring : Option (List ℕ)) (first : ℕ) (refusal : Refusal) → IsFirstDriveWrong from text wiring first refusal → IsFirstWrongOn from text wiring first refusal
+wrong_on : (from : ScheduleSource (List ℕ)) (text : List ℕ) (wiring : Option (List ℕ)) (first : ℕ) (refusal : Refusal) → IsFirstDriveWrong from text wiring first refusal → IsFirstWrongOn from text wiring first refusal
 wrong_on from text wiring first refusal (drives.wiring_wrong fault wrong is) = wiring_wrong fault wrong is
 wrong_on from text wiring first refusal (drives.lacking board of lacks) = lacking board of lacks
 wrong_on from text wiring first refusal (drives.texts_wrong board of wrong has) = texts_wrong board of wrong has
@@ -441,13 +441,13 @@ wrong_on from text wiring first refusal (drives.no_setting board batch settings 
     let begun = not_begun first (length settings) other in no_setting board batch settings of (scheduled from text batch settings is) ways begun.0 begun.1 same
 
 -- what a drive printed, or its refusal; then no port was opened
-abbrev pub DroveOr : World → Names → Source Text → ℕ → Files (List ℕ) → List ℕ → Type 0
+abbrev pub DroveOr : World → Names → ScheduleSource Text → ℕ → Files (List ℕ) → List ℕ → Type 0
 DroveOr w names from first texts printed =
     HasDriven w names from first texts printed
     ⊎ ((IsRefusalLine (λ refusal. IsFirstWrongOn (source_in from (text_in texts.schedule)) (text_in texts.list) texts.wiring first refusal ⊎ AreNoWays names from texts refusal) printed
     × (w.after ≡ w.before)) × (w.run.status ≡ REFUSED))
 
-module _ (w : World) (from : Source Text) (first : ℕ) (names : Names) (texts : Files (List ℕ)) (goes_on : Bool) where
+module _ (w : World) (from : ScheduleSource Text) (first : ℕ) (names : Names) (texts : Files (List ℕ)) (goes_on : Bool) where
   module _ (start final : Dialogue) (printed : Printed) (none : start.told ≡ []) (status : w.run.status ≡ printed.status) where
     -- the refusal was all that was printed, and no port was opened
     refused_so : (refusal : Refusal) → final ≡ start → IsRefused (refusal_words refusal) printed → w.after ≡ w.before
@@ -485,7 +485,7 @@ module _ (w : World) (from : Source Text) (first : ℕ) (names : Names) (texts :
       let read = read_so from names texts failed.0 failed.1 failed.2 failed.3 failed.4 failed.5 failed.6 failed.7 in
       let lines = told_before w from first names texts (not goes_on) failed.1 failed.2 failed.3 start final read refl Untold failed.8.0 over.carried over.went in
       let said = over.went.said in
-      let line = stage_line failed.8.0 (numbers_in failed.3 failed.8.0) in
+      let line = driven_line failed.8.0 (numbers_in failed.3 failed.8.0) in
       let more = said.1 ++ left_line failed.8.0 in
       let whole : told ++ more ≡ lines_told failed.3 first (over.went.count + 1) ++ left_line failed.8.0 =
       ap (λ (x : List ℕ). x ++ more) (said.3 ∙ ap (λ (x : List ℕ). x ++ said.0) lines) ∙ append_assoc (lines_told failed.3 first over.went.count) said.0 more

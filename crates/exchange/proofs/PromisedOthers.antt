@@ -3,7 +3,7 @@ use Rattle.std.proofs.Common.{◌≡◌, ◌∙◌, ℕ, Bool, true, List, [], O
 use Rattle.std.specs.Prelude.{option_map}
 use Rattle.std.specs.Io.KnownBytes.{Appends}
 use Rattle.std.proofs.KnownBytes.{Appends-nil}
-use Rattle.batch_book.specs.History.{Account}
+use Rattle.batch_book.specs.History.{BookView}
 use Rattle.clap.specs.Values.{kind_of}
 use Rattle.clap.specs.Words.{IsAmong, Text}
 use Rattle.clap.specs.declared.error.Error.{Error}
@@ -22,16 +22,16 @@ use Rattle.command_words.proofs.OneRequest.{no_fault, one_request}
 use Rattle.exchange.proofs.PromisedCalls.{none_ended}
 use Rattle.exchange.specs.Ends.{IsCutFor, IsDoneInPart, IsEndWithoutArguments, IsNoneLeft, leaving}
 use Rattle.exchange.specs.Keeping.{AreKeptBut}
-use Rattle.exchange.specs.Promises.{AskForHelp, AsksFor, IsMisused, KeepsNothing, KeepsUnread, LeavesAll, LeavesOthers, Run, World, clients_of, kept_by, run_of, world_of}
+use Rattle.exchange.specs.Promises.{AskForHelp, AsksFor, IsMisused, KeepsNothing, KeepsUnread, LeavesAll, LeavesOthers, Run, World, clients_of, saved_by, run_of, world_of}
 use Rattle.exchange.specs.Responses.{Given, IsAnswerTo, IsResponseTo, IsToldCut, Named, Response}
 use Rattle.exchange.specs.declared.limits.TheConstants.{UNWRITTEN}
 use Rattle.plan_answers.specs.declared.limits.TheConstants.{DONE}
-use Rattle.kept_sessions.specs.Keeping.{AreScriptsKept}
+use Rattle.recorded_sessions.specs.Keeping.{AreScriptsKept}
 use Rattle.named_files.specs.Clients.{ends_of}
 use Rattle.named_files.specs.Contents.{Holding}
-use Rattle.named_files.specs.Outputs.{HasNothingGone, lost_none}
+use Rattle.named_files.specs.Outputs.{HasNothingGone, no_write_failures}
 use Rattle.named_files.specs.Streams.{Closed}
-use Rattle.named_files.specs.declared.lost.Lost.{Lost}
+use Rattle.named_files.specs.declared.write_failures.WriteFailures.{WriteFailures}
 use Rattle.named_files.specs.declared.outputs.Receipts.{Receipts}
 use Rattle.session_answers.specs.declared.ended_session.Ending.{Ending}
 
@@ -39,15 +39,15 @@ use Rattle.session_answers.specs.declared.ended_session.Ending.{Ending}
 
 module _ {C : Type 0} (received : C → Closed) (receipts : Receipts C) (comes : Text → Option (List ℕ)) (had : Text → List ℕ) (endings : List (Ending (List ℕ))) (was after : Ways) (run : Run) (whole : Bool) where
   abbrev The : World
-  The = record { run = run; whole = whole; before = was; after = after; kept = kept_by received receipts; clients = clients_of comes had endings }
+  The = record { run = run; whole = whole; before = was; after = after; kept = saved_by received receipts; clients = clients_of comes had endings }
 
   none_gone : (receipt : Option C) → HasNothingGone received None receipt → option_map received receipt ≡ None
   none_gone None is = refl
   none_gone (Some receipt) is = absurd is
 
-  no_files : (left : Option Account) (lost : Lost) → left ≡ None → AreScriptsKept received None None left receipts lost → (option_map received receipts.recorded ≡ None) × (option_map received receipts.image ≡ None)
+  no_files : (left : Option BookView) (lost : WriteFailures) → left ≡ None → AreScriptsKept received None None left receipts lost → (option_map received receipts.recorded ≡ None) × (option_map received receipts.image ≡ None)
   no_files left lost none kept =
-      let gone = subst (λ (l : Option Account). AreScriptsKept received None None l receipts lost) none kept in
+      let gone = subst (λ (l : Option BookView). AreScriptsKept received None None l receipts lost) none kept in
       (none_gone receipts.recorded gone.0, none_gone receipts.image gone.1)
 
   -- nothing was opened
@@ -64,7 +64,7 @@ module _ {C : Type 0} (received : C → Closed) (receipts : Receipts C) (comes :
   all_left_by (Sessions rack Talk) all = (all.0, all.3)
 
   -- an answer to it leaves this
-  answer_left : (holds : Holding) (job : Job) (files : Files (List ℕ)) (given : Given) (response : Response) (lost : Lost) → given.ports ≡ was → response.ports ≡ after → response.ends ≡ ends_of endings → AreKeptBut holds received job response.left receipts lost → IsAnswerTo holds job files given response → LeavesOthers The job
+  answer_left : (holds : Holding) (job : Job) (files : Files (List ℕ)) (given : Given) (response : Response) (lost : WriteFailures) → given.ports ≡ was → response.ports ≡ after → response.ends ≡ ends_of endings → AreKeptBut holds received job response.left receipts lost → IsAnswerTo holds job files given response → LeavesOthers The job
   answer_left holds (Texts job) files given response lost same ports ends kept is = let none = no_files response.left lost is.0 kept in (sym ports ∙ is.2 ∙ same, none.0, none.1, none_ended endings (sym ends ∙ is.1))
   answer_left holds (OverPorts C004) files given response lost same ports ends kept is = let none = no_files response.left lost is.0 kept in (sym ports ∙ is.2.1 ∙ same, none.0, none.1, none_ended endings (sym ends ∙ is.1))
   answer_left holds (OverPorts (Drive batch port port_b source wiring first goes_on workers)) files given response lost same ports ends kept is = let none = no_files response.left lost is.0 kept in (none.0, none.1, none_ended endings (sym ends ∙ is.1))
@@ -73,7 +73,7 @@ module _ {C : Type 0} (received : C → Closed) (receipts : Receipts C) (comes :
   answer_left holds (Sessions rack Talk) files given response lost same ports ends kept is = (sym ports ∙ is.0 ∙ same, none_ended endings (sym ends ∙ is.1.2))
 
   -- so does a refusal before it
-  none_left : (holds : Holding) (job : Job) (lost : Lost) → after ≡ was → ends_of endings ≡ [] → AreKeptBut holds received job None receipts lost → LeavesOthers The job
+  none_left : (holds : Holding) (job : Job) (lost : WriteFailures) → after ≡ was → ends_of endings ≡ [] → AreKeptBut holds received job None receipts lost → LeavesOthers The job
   none_left holds (Texts job) lost ports ends kept = let none = no_files None lost refl kept in (ports, none.0, none.1, none_ended endings ends)
   none_left holds (OverPorts C004) lost ports ends kept = let none = no_files None lost refl kept in (ports, none.0, none.1, none_ended endings ends)
   none_left holds (OverPorts (Drive batch port port_b source wiring first goes_on workers)) lost ports ends kept = let none = no_files None lost refl kept in (none.0, none.1, none_ended endings ends)
@@ -81,15 +81,15 @@ module _ {C : Type 0} (received : C → Closed) (receipts : Receipts C) (comes :
   none_left holds (Sessions rack (Host clients workers)) lost ports ends kept = ports
   none_left holds (Sessions rack Talk) lost ports ends kept = (ports, none_ended endings ends)
 
-  response_left : (named : Named) (given : Given) (job : Job) (response : Response) (lost : Lost) → given.ports ≡ was → response.ports ≡ after → KeepsSo named.holds received receipts (ends_of endings) lost job response → IsResponseTo named given job response → LeavesOthers The job
+  response_left : (named : Named) (given : Given) (job : Job) (response : Response) (lost : WriteFailures) → given.ports ≡ was → response.ports ≡ after → KeepsSo named.holds received receipts (ends_of endings) lost job response → IsResponseTo named given job response → LeavesOthers The job
   response_left named given job response lost same ports kept (inl comes) = answer_left named.holds job comes.1.0 _ response lost same ports kept.1 kept.0 comes.1.3
   response_left named given job response lost same ports kept (inr none) =
-      none_left named.holds job lost (sym ports ∙ none.1 ∙ same) (sym kept.1 ∙ none.2) (subst (λ (l : Option Account). AreKeptBut named.holds received job l receipts lost) none.3 kept.0)
+      none_left named.holds job lost (sym ports ∙ none.1 ∙ same) (sym kept.1 ∙ none.2) (subst (λ (l : Option BookView). AreKeptBut named.holds received job l receipts lost) none.3 kept.0)
 
   -- so does what was told before an answer that couldn't all be written
-  cut_left : (holds : Holding) (job : Job) (files : Files (List ℕ)) (input : Option (List ℕ)) (told : List ℕ) → IsToldCut job files input was after told → ends_of endings ≡ [] → AreKeptBut holds received job None receipts lost_none → LeavesOthers The job
-  cut_left holds (OverPorts C004) files input told is none kept = let gone = no_files None lost_none refl kept in (is.1, gone.0, gone.1, none_ended endings none)
-  cut_left holds (OverPorts (Drive batch port port_b source wiring first goes_on workers)) files input told is none kept = let gone = no_files None lost_none refl kept in (gone.0, gone.1, none_ended endings none)
+  cut_left : (holds : Holding) (job : Job) (files : Files (List ℕ)) (input : Option (List ℕ)) (told : List ℕ) → IsToldCut job files input was after told → ends_of endings ≡ [] → AreKeptBut holds received job None receipts no_write_failures → LeavesOthers The job
+  cut_left holds (OverPorts C004) files input told is none kept = let gone = no_files None no_write_failures refl kept in (is.1, gone.0, gone.1, none_ended endings none)
+  cut_left holds (OverPorts (Drive batch port port_b source wiring first goes_on workers)) files input told is none kept = let gone = no_files None no_write_failures refl kept in (gone.0, gone.1, none_ended endings none)
   cut_left holds job files input told is none kept = absurd is
 
 -- ---- help
@@ -115,11 +115,11 @@ module _ {C : Type 0} (received : C → Closed) (receipts : Receipts C) (comes :
   World1 was run whole = The received receipts comes had endings was after run whole
 
   -- where all was written
-  module _ (e : JobEnd) (ports : (job : Job) (response : Response) → e.keeps job response → response.ports ≡ after) (so : (job : Job) (response : Response) → e.keeps job response → KeepsSo e.named.holds received receipts (ends_of endings) lost_none job response)
+  module _ (e : JobEnd) (ports : (job : Job) (response : Response) → e.keeps job response → response.ports ≡ after) (so : (job : Job) (response : Response) → e.keeps job response → KeepsSo e.named.holds received receipts (ends_of endings) no_write_failures job response)
       (none : e.none → IsNoneLeft receipts e.given.ports after (ends_of endings)) (is : EndsSo e) where
     pub keeps_others : (job : Job) → AsksFor (ended_run e) job → LeavesOthers (World1 e.given.ports (ended_run e) true) job
     keeps_others job asks = elim (end_of e (record { job = job; is_quiet = asks.0 }) asks.1 is) [
-      | inl done ↦ response_left received receipts comes had endings e.given.ports after (ended_run e) true e.named e.given job done.0 lost_none refl (ports job done.0 done.2) (so job done.0 done.2) done.1
+      | inl done ↦ response_left received receipts comes had endings e.given.ports after (ended_run e) true e.named e.given job done.0 no_write_failures refl (ports job done.0 done.2) (so job done.0 done.2) done.1
       | inr gives_up ↦ all_left_by received receipts comes had endings e.given.ports after (ended_run e) true job (all_left received receipts comes had endings e.given.ports after (ended_run e) true (none gives_up.0))
     ]
 
@@ -165,7 +165,7 @@ module _ {C : Type 0} (received : C → Closed) (receipts : Receipts C) (comes :
 
   -- where the arguments can't be read
   pub keeps_unread : {X E : Type 0} (arguments : Result X E) (holds : Holding) (input before behind : Option (List ℕ)) (was : Ways) (code : ℕ) → OnErr arguments (IsNoneLeft receipts was after (ends_of endings) × ((code ≡ UNWRITTEN) ⊎ IsEndWithoutArguments before behind code))
-      → OnErr arguments (KeepsUnread (world_of (run_of holds input (Appends before behind) [] code) was after (kept_by received receipts) (clients_of comes had endings)))
+      → OnErr arguments (KeepsUnread (world_of (run_of holds input (Appends before behind) [] code) was after (saved_by received receipts) (clients_of comes had endings)))
   keeps_unread (Ok words) holds input before behind was code is = tt
   keeps_unread (Err error) holds input before behind was code is = (all_left received receipts comes had endings was after (run_of holds input (Appends before behind) [] code) true is.0, misused is.1)
     where

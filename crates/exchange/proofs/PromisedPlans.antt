@@ -1,7 +1,7 @@
 -- The promises of `plan`, `check` and `direct`.
 use Rattle.std.proofs.Common.{◌≡◌, ◌≤◌, ◌∙◌, ℕ, List, ap, arith}
 use Rattle.std.proofs.lemmas.List.Elements.{All-weaker}
-use Rattle.batch.specs.Extent.{Extent, widest}
+use Rattle.batch.specs.ShapeView.{ShapeView, widest}
 use Rattle.batch.specs.declared.limits.TheConstants.{MAX_BLOCKS, MAX_MODULES}
 use Rattle.batch.specs.Text.{Denotes, IsWithin}
 use Rattle.batch.specs.declared.transfer.Transfer.{Transfer}
@@ -24,7 +24,7 @@ use Rattle.plan_answers.specs.declared.source.Planning.TheVariants.{Plain, Stead
 -- ---- batches
 
 -- a text that denotes a batch of a shape denotes it in the widest too
-pub wider : (shape : Extent) (text : List ℕ) (batch : List Transfer) → shape.modules ≤ MAX_MODULES → shape.blocks ≤ MAX_BLOCKS → Denotes shape text batch → Denotes widest text batch
+pub wider : (shape : ShapeView) (text : List ℕ) (batch : List Transfer) → shape.modules ≤ MAX_MODULES → shape.blocks ≤ MAX_BLOCKS → Denotes shape text batch → Denotes widest text batch
 wider shape text batch few_modules few_blocks is = record {
   spelled = is.spelled;
   few = is.few;

@@ -1,7 +1,7 @@
 -- What is first wrong, of jobs whose files are all that they ask for.
 use Rattle.std.proofs.Common.{◌≡◌, ℕ, Bool, List, Option, Some, None, inl, inr, refl}
 use Rattle.batch.proofs.OneReading as batch_reading
-use Rattle.batch.specs.Extent.{widest}
+use Rattle.batch.specs.ShapeView.{widest}
 use Rattle.board_wiring.specs.Boards.{IsBoardOf}
 use Rattle.board_wiring.specs.Sources.{of_wiring}
 use Rattle.board_wiring.specs.declared.board.Board.{Board}
@@ -21,7 +21,7 @@ use Rattle.plan_answers.specs.Drawings.{drawn, undrawn}
 use Rattle.plan_answers.specs.Pricing.{priced, unpriced}
 use Rattle.plan_answers.specs.Refusals.{Printed}
 use Rattle.plan_answers.specs.declared.limits.TheConstants.{REFUSED}
-use Rattle.plan_answers.specs.declared.source.Source.{Source}
+use Rattle.plan_answers.specs.declared.source.ScheduleSource.{ScheduleSource}
 use Rattle.rack_answers.specs.Answers.{ran, run_refused}
 use Rattle.rack_answers.specs.Orders as ordering
 use Rattle.rack_answers.specs.Switching as switching
@@ -31,12 +31,12 @@ use Rattle.refusals.specs.declared.refusal.Refusal.TheVariants.{Overlap}
 
 -- ---- what is first wrong
 
-switched : (from : Source (List ℕ)) (has_two : Bool) (text : List ℕ) (wiring : Option (List ℕ)) (board : Option Board) (printed : Printed) → IsBoardOf wiring board → IsSwitched from has_two board text printed → printed.status ≡ REFUSED → IsRefusalLine (IsFirstWrongOn from text wiring 0) printed.text
+switched : (from : ScheduleSource (List ℕ)) (has_two : Bool) (text : List ℕ) (wiring : Option (List ℕ)) (board : Option Board) (printed : Printed) → IsBoardOf wiring board → IsSwitched from has_two board text printed → printed.status ≡ REFUSED → IsRefusalLine (IsFirstWrongOn from text wiring 0) printed.text
 switched from has_two text wiring board printed of (switching.switched filled transfers settings is ways fills tells) status = absurd (done_is printed.status tells.1 status)
 switched from has_two text wiring board printed of (switching.lacking refusal lacks line) status = (refusal, lacking board of lacks, line.line)
 switched from has_two text wiring board printed of (switching.wrong refusal wrong has line) status = (refusal, texts_wrong board of wrong has, line.line)
 
-switched_on : (from : Source (List ℕ)) (has_two : Bool) (text : List ℕ) (wiring : Option (List ℕ)) (printed : Printed) → IsOn (λ board. IsSwitched from has_two board text) wiring printed → printed.status ≡ REFUSED → IsRefusalLine (IsFirstWrongOn from text wiring 0) printed.text
+switched_on : (from : ScheduleSource (List ℕ)) (has_two : Bool) (text : List ℕ) (wiring : Option (List ℕ)) (printed : Printed) → IsOn (λ board. IsSwitched from has_two board text) wiring printed → printed.status ≡ REFUSED → IsRefusalLine (IsFirstWrongOn from text wiring 0) printed.text
 switched_on from has_two text None printed is status = switched from has_two text None None printed tt is status
 switched_on from has_two text (Some wiring) printed (switching.wired board denotes is) status = switched from has_two text (Some wiring) (Some board) printed denotes is status
 switched_on from has_two text (Some wiring) printed (switching.miswired fault first line) status = (of_wiring fault, wiring_wrong fault first refl, line.line)

@@ -14,7 +14,7 @@ use Rattle.exchange.proofs.HeldFiles.{held_files, pass}
 use Rattle.exchange.specs.Promises.{AsksFor, Comes, HasGivenUp, HasReplied, Run}
 use Rattle.exchange.specs.Responses.{Given, IsC004By, Named}
 use Rattle.named_files.specs.Contents.{AreContents, Holding}
-use Rattle.named_files.specs.declared.unanswered.Unanswered.TheVariants as why
+use Rattle.named_files.specs.declared.refusal_cause.RefusalCause.TheVariants as why
 use Rattle.plan_answers.specs.Refusals.{Printed}
 use Rattle.plan_answers.specs.declared.limits.TheConstants.{DONE, REFUSED}
 

@@ -1,6 +1,6 @@
 -- Right texts of jobs have nothing wrong.
 use Rattle.std.proofs.Common.{◌≡◌, ℕ, List, length, Option, Some, None, refl, ap, subst, arith, inl, inr, ◌⊎◌}
-use Rattle.batch.specs.Extent.{widest, Extent, IsShape}
+use Rattle.batch.specs.ShapeView.{widest, ShapeView, IsShape}
 use Rattle.batch.specs.declared.transfer.Transfer.{Transfer}
 use Rattle.batch.proofs.Shapes.{widest_shape, one_shape}
 use Rattle.clap.specs.Words.{Text}
@@ -12,7 +12,7 @@ use Rattle.plan_answers.proofs.Ranges.{one_range}
 use Rattle.plan_answers.specs.Schedules.{AreRight, IsWrongFrom}
 use Rattle.plan_answers.specs.Drawings.{IsFirstUndrawn, invalid, no_range, no_setting, AreWanted, IsBadSettingsText, IsOutside}
 use Rattle.plan_answers.specs.declared.setting_range.SettingRange.{SettingRange}
-use Rattle.plan_answers.specs.declared.source.Source.{Source}
+use Rattle.plan_answers.specs.declared.source.ScheduleSource.{ScheduleSource}
 use Rattle.refusals.specs.declared.refusal.Refusal.{Refusal}
 use Rattle.batch.proofs.OneReading as batch_reading
 use Rattle.batch.specs.Overlap.{IsApart}
@@ -57,14 +57,14 @@ drawings_right text schedule chosen refusal can (no_setting range batch settings
 -- ---- switches
 
 -- without a wiring there is no board, so nothing of one is wrong
-usual_right : (from : Source (List ℕ)) (text : List ℕ) (batch : List Transfer) (refusal : Refusal) → AreRight from widest text batch → IsFirstWrongOn from text None 0 refusal → ⊥
+usual_right : (from : ScheduleSource (List ℕ)) (text : List ℕ) (batch : List Transfer) (refusal : Refusal) → AreRight from widest text batch → IsFirstWrongOn from text None 0 refusal → ⊥
 usual_right from text batch refusal right (wiring_wrong fault wrong is) = wrong
 usual_right from text batch refusal right (lacking None of lack) = lack.2
 usual_right from text batch refusal right (lacking (Some board) of lack) = of
 usual_right from text batch refusal right (texts_wrong board of wrong lacks) = right_or_wrong from widest widest_shape text batch refusal right wrong
 usual_right from text batch refusal right (no_first board other settings of says ways some most is) = absurd (omega (arith, some))
 
-switches_right : (from : Source (List ℕ)) (text : List ℕ) (wiring : Option (List ℕ)) (refusal : Refusal) → CanBeSwitched from text wiring → IsFirstWrongOn from text wiring 0 refusal → ⊥
+switches_right : (from : ScheduleSource (List ℕ)) (text : List ℕ) (wiring : Option (List ℕ)) (refusal : Refusal) → CanBeSwitched from text wiring → IsFirstWrongOn from text wiring 0 refusal → ⊥
 switches_right from text wiring refusal can wrong = usual_right from text can.batch refusal can.right (subst (λ (w : Option (List ℕ)). IsFirstWrongOn from text w 0 refusal) can.usual wrong)
 
 -- ---- each job
@@ -85,20 +85,20 @@ checks_right text other printed refusal shown wrong =
     let same : refuses ≡ line = one_verdict widest widest_shape text other line refuses is (answers.refused refusal wrong (record { line = refl; status = refl })) in
     done_is REFUSED (ap (λ (p : Printed). p.status) same) refl
 
-of_apart : (shape : Extent) → IsShape shape → (from : Source (List ℕ)) (text : List ℕ) (one other : List Transfer) → AreRight from shape text one → AreRight from shape text other → IsApart one → IsApart other
+of_apart : (shape : ShapeView) → IsShape shape → (from : ScheduleSource (List ℕ)) (text : List ℕ) (one other : List Transfer) → AreRight from shape text one → AreRight from shape text other → IsApart one → IsApart other
 of_apart shape valid from text one other a b apart =
     subst IsApart (batch_reading.one_batch shape valid text one other (right_denoted from shape text one a) (right_denoted from shape text other b)) apart
 
-runs_right : (from : Source (List ℕ)) (shape text : List ℕ) (image : Option (List ℕ)) (refusal : Refusal) → CanBeRun from shape text image → IsFirstRunWrong from shape text image refusal → ⊥
+runs_right : (from : ScheduleSource (List ℕ)) (shape text : List ℕ) (image : Option (List ℕ)) (refusal : Refusal) → CanBeRun from shape text image → IsFirstRunWrong from shape text image refusal → ⊥
 runs_right from shape text image refusal can (shape_wrong bad is) = bad can.extent can.shaped
 runs_right from shape text image refusal can (run_texts_wrong extent denotes wrong) =
-    right_or_wrong from extent denotes.allowed text can.batch refusal (subst (λ (e : Extent). AreRight from e text can.batch) (one_shape shape can.extent extent can.shaped denotes) can.right) wrong
+    right_or_wrong from extent denotes.allowed text can.batch refusal (subst (λ (e : ShapeView). AreRight from e text can.batch) (one_shape shape can.extent extent can.shaped denotes) can.right) wrong
 runs_right from shape text image refusal can (run_wrong extent transfers denotes right (image_wrong fault wrong is)) =
-    not_wrong extent image fault (subst (λ (e : Extent). IsRightImage e image) (one_shape shape can.extent extent can.shaped denotes) can.fits) wrong
+    not_wrong extent image fault (subst (λ (e : ShapeView). IsRightImage e image) (one_shape shape can.extent extent can.shaped denotes) can.fits) wrong
 runs_right from shape text image refusal can (run_wrong extent transfers denotes right (overlapping fits over)) =
-    of_apart extent denotes.allowed from text can.batch transfers (subst (λ (e : Extent). AreRight from e text can.batch) (one_shape shape can.extent extent can.shaped denotes) can.right) right can.apart over.0 over.1 over.2.overlap
+    of_apart extent denotes.allowed from text can.batch transfers (subst (λ (e : ShapeView). AreRight from e text can.batch) (one_shape shape can.extent extent can.shaped denotes) can.right) right can.apart over.0 over.1 over.2.overlap
 
-orders_right : (from : Source (List ℕ)) (text : List ℕ) (transfers : List Transfer) (refusal : Refusal) → AreRight from widest text transfers → IsApart transfers → (IsWrongFrom from widest text refusal ⊎ IsFirstOverlapIn from text refusal) → ⊥
+orders_right : (from : ScheduleSource (List ℕ)) (text : List ℕ) (transfers : List Transfer) (refusal : Refusal) → AreRight from widest text transfers → IsApart transfers → (IsWrongFrom from widest text refusal ⊎ IsFirstOverlapIn from text refusal) → ⊥
 orders_right from text transfers refusal right apart (inl wrong) = right_or_wrong from widest widest_shape text transfers refusal right wrong
 orders_right from text transfers refusal right apart (inr over) = of_apart widest widest_shape from text transfers over.0 right over.1 apart over.2.0 over.2.1 over.2.2.overlap
 

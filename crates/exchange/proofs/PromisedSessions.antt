@@ -5,9 +5,9 @@ use Rattle.std.proofs.lemmas.List.Elements.{recursion_from_All}
 use Rattle.std.specs.Prelude.{IfSome, is_some, slice_get, unwrap_or}
 use Rattle.std.specs.List.{AllByRecursion, flat_map, list_any}
 use Rattle.std.specs.Io.KnownBytes.{Consumes, IsAtEnd}
-use Rattle.batch.specs.Extent.{Extent}
+use Rattle.batch.specs.ShapeView.{ShapeView}
 use Rattle.batch_book.proofs.Fronts.{front, starts, starts_same, starts_then}
-use Rattle.batch_book.specs.History.{Account, AreUnstopped, IsReplay, Starts}
+use Rattle.batch_book.specs.History.{BookView, AreUnstopped, IsReplay, IsPrefix}
 use Rattle.batch_book.specs.Machine.{opened}
 use Rattle.batch_book.specs.Seats.{own}
 use Rattle.batch_book.specs.Values.{greatest}
@@ -16,7 +16,7 @@ use Rattle.batch_book.specs.declared.entry.Entry.{Entry}
 use Rattle.client_session.proofs.Lists.{every_both}
 use Rattle.client_session.specs.Seats.{SeatView}
 use Rattle.client_session.specs.Sessions.{HasEnded, IsSession, added_entries, lines_of, lost_entries, lost_texts}
-use Rattle.client_session.specs.Turns.{AreReadings, IsAboveReadings, IsBegun as HasBegunBefore, IsFetching, IsLostTurn, IsTurn, LostTurn, Turn as Turned, readings_of, turn_text}
+use Rattle.client_session.specs.Turns.{AreReadings, IsAboveReadings, MayHaveAdded as HasBegunBefore, IsFetching, IsLostTurn, IsTurn, LostTurn, Turn as Turned, readings_of, turn_text}
 use Rattle.client_session.specs.declared.command.SessionCommand.{SessionCommand}
 use Rattle.client_session.specs.declared.command.SessionCommand.TheVariants.{Batch, Bye, Drop, Peek, Plan as PlanOf, Poke, Progress, Run as RunOf, Show}
 use Rattle.client_session.specs.declared.fault.ServeFault.{ServeFault}
@@ -44,7 +44,7 @@ record HasEndedSo (number : ℕ) (recorded : Bool) (old new : SeatView) (fault :
   bytes : read ≡ flat_map turn_text (turns ++ held) ++ left
   lines : lines_of turns ≡ told ++ untold
   entries : made ≡ added_entries (turns ++ held) ++ unseen
-  stand : Starts (added_entries turns) new.log
+  stand : IsPrefix (added_entries turns) new.log
   readings : AreReadings old.seen new.seen (turns ++ held)
   ends : EndsSo recorded (session_so number fault turns held told (left ++ unwrap_or after [])) untold unseen fault
 
@@ -107,7 +107,7 @@ ended_so number recorded (Some Record) after old new read made told none its sam
   bytes = b.session.bytes_are;
   lines = sym b.told ∙ sym (append-nil told);
   entries = b.entries_are ∙ ap (λ (x : List Entry). x ++ lost_entries b.lost) b.session.entries_are;
-  stand = subst (λ (x : List Entry). Starts (x ++ added_entries b.turns) new.log) none b.recorded;
+  stand = subst (λ (x : List Entry). IsPrefix (x ++ added_entries b.turns) new.log) none b.recorded;
   readings = b.session.readings;
   ends = (lost refl, refl, subst (λ (n : ℕ). (id : ℕ) × IsFetching n id (lost_entries b.lost)) its (lost_fetching old.session b.lost b.are_lost b.one), b.may_end, b.few);
 }
@@ -126,7 +126,7 @@ read_so (Some xs) (Some ys) read front left c is = c ∙ ap (λ (x : List ℕ). 
 
 -- what a session asked are its own calls, and what it could be told stand first of these
 abbrev pub HasOwn : Calls → Part → Type 0
-HasOwn calls p = (p.asked ≡ own p.session calls.made) × Starts p.log (own p.session calls.standing)
+HasOwn calls p = (p.asked ≡ own p.session calls.made) × IsPrefix p.log (own p.session calls.standing)
 
 -- what is so of the session of a transcript
 pub record IsSeen (b : Beginning) (calls : Calls) (came : Option (List ℕ)) (t : Transcript) (s : Session) : Type 0 where
@@ -154,7 +154,7 @@ one_session b calls before after t shape recorded h owns =
           untold = e.untold;
           unseen = e.unseen;
           read = read_so before after h.read (flat_map turn_text turns) e.left h.consumed e.bytes;
-          each = subst (λ (n : ℕ). AllByRecursion (IsTurn calls.opening.shape n) turns) h.is_new.session_is (subst (λ (x : Extent). AllByRecursion (IsTurn x h.seat.session) turns) (h.is_new.shape_is ∙ shape) e.each);
+          each = subst (λ (n : ℕ). AllByRecursion (IsTurn calls.opening.shape n) turns) h.is_new.session_is (subst (λ (x : ShapeView). AllByRecursion (IsTurn x h.seat.session) turns) (h.is_new.shape_is ∙ shape) e.each);
           lines = e.lines;
           entries = sym owns.0 ∙ e.entries;
           stand = starts_then (added_entries e.turns) t.part.log (own t.part.session calls.standing) e.stand owns.1;
@@ -180,18 +180,18 @@ seen_within turns low high most le r = record { low = r.low; high = none_ahead t
 -- ---- the order of calls
 
 -- the calls of a book that sessions leave, which they began with these
-abbrev pub calls_of : Bool → Store → (earlier made standing : List Entry) → Account → Calls
+abbrev pub calls_of : Bool → Store → (earlier made standing : List Entry) → BookView → Calls
 calls_of loses opening earlier made standing book = record { opening = opening; earlier = earlier; made = made; recorded = loses; standing = standing; left = book.machine }
 
 -- the calls are those of the book
-pub record AreCallsOf (calls : Calls) (book : Account) : Type 0 where
+pub record AreCallsOf (calls : Calls) (book : BookView) : Type 0 where
   pub opening : calls.opening ≡ book.opening
   pub entries : all_calls calls ≡ book.history
   pub machine : calls.left ≡ book.machine
-  pub stand : calls.earlier ++ calls.standing ≡ book.stands
+  pub stand : calls.earlier ++ calls.standing ≡ book.durable
 
 -- what starts another after the same
-same_behind : (earlier standing made : List Entry) → Starts (earlier ++ standing) (earlier ++ made) → Starts standing made
+same_behind : (earlier standing made : List Entry) → IsPrefix (earlier ++ standing) (earlier ++ made) → IsPrefix standing made
 same_behind earlier standing made is =
     let f = front (earlier ++ standing) (earlier ++ made) is in starts standing made f.0 (append_cancel_left earlier made (standing ++ f.0) (f.1 ∙ append_assoc earlier standing f.0))
 
@@ -200,7 +200,7 @@ whole_so : (whole loses : Bool) → (whole ≡ false → loses ≡ true) → los
 whole_so true loses lost none = refl
 whole_so false loses lost none = absurd (let bad : false ≡ true = sym none ∙ lost refl in cc)
 
-module _ (loses : Bool) (opening : Store) (earlier : List Entry) (parts : List Part) (book : Account) (one : HaveOneHistory loses opening earlier parts book) where
+module _ (loses : Bool) (opening : Store) (earlier : List Entry) (parts : List Part) (book : BookView) (one : HaveOneHistory loses opening earlier parts book) where
   abbrev pub theirs : Calls
   theirs = calls_of loses opening earlier one.made one.standing book
 
@@ -208,13 +208,13 @@ module _ (loses : Bool) (opening : Store) (earlier : List Entry) (parts : List P
   are_calls = record { opening = sym one.is_opening; entries = sym one.are; machine = refl; stand = sym one.stand }
 
   pub all_own : AllByRecursion (HasOwn theirs) parts
-  all_own = every_both (λ (p : Part). p.asked ≡ own p.session one.made) (λ (p : Part). Starts p.log (own p.session one.standing)) (HasOwn theirs) parts (λ p asked log. (asked, log)) (recursion_from_All _ parts one.are_parts) (recursion_from_All _ parts one.recorded)
+  all_own = every_both (λ (p : Part). p.asked ≡ own p.session one.made) (λ (p : Part). IsPrefix p.log (own p.session one.standing)) (HasOwn theirs) parts (λ p asked log. (asked, log)) (recursion_from_All _ parts one.are_parts) (recursion_from_All _ parts one.recorded)
 
   pub in_order : (ss : List Session) → fold (λ a (s : Session). a + length (own s.number one.made)) 0 ss ≡ fold (λ a (p : Part). a + length p.asked) 0 parts → AllByRecursion (λ (s : Session). AreReadings (greatest earlier) (greatest book.history) (all_turns s)) ss → HaveOneOrder theirs ss
   in_order ss same seen = record {
     right = subst (λ (es : List Entry). IsReplay (opened opening) es book.machine) one.are one.replay;
     no_other = one.counted ∙ sym same;
-    front = same_behind earlier one.standing one.made (subst (λ (x : List Entry). Starts x (earlier ++ one.made)) one.stand (subst (λ (x : List Entry). Starts book.stands x) one.are one.front));
+    front = same_behind earlier one.standing one.made (subst (λ (x : List Entry). IsPrefix x (earlier ++ one.made)) one.stand (subst (λ (x : List Entry). IsPrefix book.durable x) one.are one.front));
     unstopped = subst AreUnstopped one.are one.unstopped;
     seen = subst (λ (es : List Entry). AllByRecursion (λ (s : Session). AreReadings (greatest earlier) (greatest es) (all_turns s)) ss) one.are seen;
   }

@@ -3,7 +3,7 @@ use Rattle.std.proofs.Common.{◌≡◌, ◌<◌, ℕ, zero, suc, Bool, true, fa
 use Rattle.std.specs.Prelude.{◌||◌, IfSome}
 use Rattle.std.specs.List.{AllByRecursion}
 use Rattle.batch.specs.Batches.{IsBatch}
-use Rattle.batch.specs.Extent.{widest}
+use Rattle.batch.specs.ShapeView.{widest}
 use Rattle.batch.specs.declared.transfer.Transfer.{Transfer}
 use Rattle.board_wiring.specs.Boards.{IsBoardOf}
 use Rattle.board_wiring.specs.declared.board.Board.{Board as BoardText}
@@ -33,8 +33,8 @@ use Rattle.plan_answers.proofs.PlanText.{plan_can_say}
 use Rattle.plan_answers.specs.Refusals.{Printed}
 use Rattle.plan_answers.specs.Schedules.{IsScheduleFrom}
 use Rattle.plan_answers.specs.declared.limits.TheConstants.{DONE}
-use Rattle.plan_answers.specs.declared.source.Source.{Source}
-use Rattle.plan_answers.specs.declared.source.Source.TheVariants as source
+use Rattle.plan_answers.specs.declared.source.ScheduleSource.{ScheduleSource}
+use Rattle.plan_answers.specs.declared.source.ScheduleSource.TheVariants as source
 use Rattle.rack_answers.specs.Orders as ordering
 use Rattle.rack_answers.specs.Orders.{IsOrdered}
 use Rattle.rack_answers.specs.Switching as switching
@@ -48,11 +48,11 @@ use Rattle.batch.specs.Text.{IsNumber}
 
 -- ---- schedules
 
-pub schedule_of : (from : Source (List ℕ)) (text : List ℕ) (batch : List Transfer) (settings : List (List ℕ)) → SaySchedule from text batch settings → IsScheduleOf batch settings
+pub schedule_of : (from : ScheduleSource (List ℕ)) (text : List ℕ) (batch : List Transfer) (settings : List (List ℕ)) → SaySchedule from text batch settings → IsScheduleOf batch settings
 schedule_of (source.Plan planning) text batch settings is = is.1.shortest.schedule
 schedule_of (source.Text schedule) text batch settings is = is.valid
 
-pub batch_of : (from : Source (List ℕ)) (text : List ℕ) (batch : List Transfer) (settings : List (List ℕ)) → IsScheduleFrom from widest text batch settings → IsBatch batch
+pub batch_of : (from : ScheduleSource (List ℕ)) (text : List ℕ) (batch : List Transfer) (settings : List (List ℕ)) → IsScheduleFrom from widest text batch settings → IsBatch batch
 batch_of from text batch settings is = let reads = denoted from widest text batch settings is in record { few = reads.few; within = reads.within }
 
 -- ---- what a switch is sent
@@ -85,7 +85,7 @@ turned batch settings (Some w) wide fits is has = (turns batch settings fits is 
 
 -- ---- `switch`
 
-switched : (from : Source Text) (has_two : Bool) (texts : Files (List ℕ)) (board : Option BoardText) (printed : Printed) → IsBoardOf texts.wiring board → printed.status ≡ DONE
+switched : (from : ScheduleSource Text) (has_two : Bool) (texts : Files (List ℕ)) (board : Option BoardText) (printed : Printed) → IsBoardOf texts.wiring board → printed.status ≡ DONE
     → IsSwitched (source_in from (text_in texts.schedule)) has_two board (text_in texts.list) printed → HasSwitched from has_two texts printed.text
 switched from has_two texts board printed of status (switching.switched wiring transfers settings is ways filled tells) =
     let source = source_in from (text_in texts.schedule) in
@@ -106,24 +106,24 @@ switched from has_two texts board printed of status (switching.lacking refusal l
 switched from has_two texts board printed of status (switching.wrong refusal wrong has line) = absurd (never_done printed.status line.status status)
 
 -- the same where the board is that of the wiring's text, if there is one
-on_board : (from : Source Text) (has_two : Bool) (texts : Files (List ℕ)) (wiring : Option (List ℕ)) (printed : Printed) → texts.wiring ≡ wiring → printed.status ≡ DONE
+on_board : (from : ScheduleSource Text) (has_two : Bool) (texts : Files (List ℕ)) (wiring : Option (List ℕ)) (printed : Printed) → texts.wiring ≡ wiring → printed.status ≡ DONE
     → IsOn (λ board. IsSwitched (source_in from (text_in texts.schedule)) has_two board (text_in texts.list)) wiring printed → HasSwitched from has_two texts printed.text
 on_board from has_two texts None printed same status is = switched from has_two texts None printed (subst (λ (w : Option (List ℕ)). IsBoardOf w None) (sym same) tt) status is
 on_board from has_two texts (Some wiring) printed same status (switching.wired board denotes is) = switched from has_two texts (Some board) printed (subst (λ (w : Option (List ℕ)). IsBoardOf w (Some board)) (sym same) denotes) status is
 on_board from has_two texts (Some wiring) printed same status (switching.miswired fault wrong line) = absurd (never_done printed.status line.status status)
 
-pub switched_so : (from : Source Text) (has_two : Bool) (texts : Files (List ℕ)) (printed : Printed) → printed.status ≡ DONE
+pub switched_so : (from : ScheduleSource Text) (has_two : Bool) (texts : Files (List ℕ)) (printed : Printed) → printed.status ≡ DONE
     → IsOn (λ board. IsSwitched (source_in from (text_in texts.schedule)) has_two board (text_in texts.list)) texts.wiring printed → HasSwitched from has_two texts printed.text
 switched_so from has_two texts printed status is = on_board from has_two texts texts.wiring printed refl status is
 
 -- ---- `orders`
 
 -- a text can say how many settings there are
-few_settings : (from : Source (List ℕ)) (text : List ℕ) (batch : List Transfer) (settings : List (List ℕ)) → IsBatch batch → IsScheduleFrom from widest text batch settings → IsNumber (length settings)
+few_settings : (from : ScheduleSource (List ℕ)) (text : List ℕ) (batch : List Transfer) (settings : List (List ℕ)) → IsBatch batch → IsScheduleFrom from widest text batch settings → IsNumber (length settings)
 few_settings (source.Plan planning) text batch settings fits is = (plan_can_say planning batch settings is.1.0 fits is.1.1).settings_fit.count
 few_settings (source.Text schedule) text batch settings fits is = is.texts.schedule_read.can_say.settings_fit.count
 
-pub ordered : (from : Source Text) (only : Option ℕ) (texts : Files (List ℕ)) (printed : Printed) → printed.status ≡ DONE
+pub ordered : (from : ScheduleSource Text) (only : Option ℕ) (texts : Files (List ℕ)) (printed : Printed) → printed.status ≡ DONE
     → IsOrdered (source_in from (text_in texts.schedule)) only (text_in texts.list) printed → HasOrdered from only texts printed.text
 ordered from only texts printed status (ordering.ordered transfers settings is (ordering.told apart told done)) =
     let source = source_in from (text_in texts.schedule) in

@@ -4,17 +4,17 @@ use Rattle.std.specs.Prelude.{String}
 use Rattle.std.specs.Global.{Global}
 use Rattle.std.specs.Io.KnownBytes.{Appends}
 use Rattle.std.proofs.KnownBytes.{Appends-nil, Appends-trans}
-use Rattle.client_session.specs.Listening.{TellsOfRefusals, Told as Heard}
+use Rattle.client_session.specs.Listening.{TellsOfRefusals, ListenerLog as Heard}
 use Rattle.plan_answers.specs.Refusals.{Printed}
 use Rattle.command_words.specs.declared.jobs.Job.{Job}
 use Rattle.command_words.specs.declared.jobs.Request.{Request}
-use Rattle.batch_book.specs.History.{Account}
-use Rattle.named_files.specs.declared.unwritten.Unwritten.{Unwritten}
-use Rattle.named_files.specs.declared.unwritten.Unwritten.TheVariants as unwritten
-use Rattle.named_files.specs.declared.unanswered.Unanswered.{Unanswered}
-use Rattle.named_files.specs.declared.unanswered.Unanswered.TheVariants.{NoMemory}
-use Rattle.named_files.specs.Outputs.{lost_none}
-use Rattle.exchange.specs.declared.answered.Answered.{Answered}
+use Rattle.batch_book.specs.History.{BookView}
+use Rattle.named_files.specs.declared.output_failure.OutputFailure.{OutputFailure}
+use Rattle.named_files.specs.declared.output_failure.OutputFailure.TheVariants as unwritten
+use Rattle.named_files.specs.declared.refusal_cause.RefusalCause.{RefusalCause}
+use Rattle.named_files.specs.declared.refusal_cause.RefusalCause.TheVariants.{NoMemory}
+use Rattle.named_files.specs.Outputs.{no_write_failures}
+use Rattle.exchange.specs.declared.answered.NotedAnswer.{NotedAnswer}
 use Rattle.named_files.specs.DistinctFiles.{AreSeenApart}
 use Rattle.drive_answers.specs.Ways.{Ways}
 use Rattle.session_answers.specs.HostAnswers.{SessionEnd}
@@ -75,9 +75,9 @@ noted overlap request end (Some line) eb em ea on beside (inr t) =
     (em, beside, inr (t.0, t.1, rw same on, t.3))
 
 -- an answer that is printed after it
-pub answered : {E : Type 0} (r : Result ℕ E) (named : Named) (keeps : Job → Response → Type 0) (given : Given) (request : Request) (told : List ℕ) (left : Option Account) (ports : Ways) (ends : List SessionEnd) (done : Answered) (out_before out_after has eb em ea : Option (List ℕ))
-    → Appends out_before out_after told → AreSeenApart named.leads (file_uses request.job) → IsJobAnswer named.holds given request.job (record { told = told; end = done.answer; left = left; ports = ports; ends = ends }) → (done.lost ≡ lost_none → keeps request.job (record { told = told; end = done.answer; left = left; ports = ports; ends = ends })) → IsAnswered done
-    → IsBeside (IsJobWarnedOf named.holds given request.job) request eb em → IfOk r (λ status. IsPrinted out_after has done.answer status × (done.lost ≡ lost_none)) → IsToldUnless request.is_quiet (bytes_of_line done.note) em ea
+pub answered : {E : Type 0} (r : Result ℕ E) (named : Named) (keeps : Job → Response → Type 0) (given : Given) (request : Request) (told : List ℕ) (left : Option BookView) (ports : Ways) (ends : List SessionEnd) (done : NotedAnswer) (out_before out_after has eb em ea : Option (List ℕ))
+    → Appends out_before out_after told → AreSeenApart named.leads (file_uses request.job) → IsJobAnswer named.holds given request.job (record { told = told; end = done.answer; left = left; ports = ports; ends = ends }) → (done.lost ≡ no_write_failures → keeps request.job (record { told = told; end = done.answer; left = left; ports = ports; ends = ends })) → IsAnswered done
+    → IsBeside (IsJobWarnedOf named.holds given request.job) request eb em → IfOk r (λ status. IsPrinted out_after has done.answer status × (done.lost ≡ no_write_failures)) → IsToldUnless request.is_quiet (bytes_of_line done.note) em ea
     → IfOk r (IsDone named keeps given request (streams_of out_before has eb ea))
 answered (Ok status) named keeps given request told left ports ends done out_before out_after has eb em ea first apart is kept note beside then said = (
   record { told = told; end = done.answer; left = left; ports = ports; ends = ends },
@@ -89,7 +89,7 @@ answered (Ok status) named keeps given request told left ports ends done out_bef
 answered (Err e) named keeps given request told left ports ends done out_before out_after has eb em ea first apart is kept note beside then said = tt
 
 -- and why there is none
-pub not_answered : {E : Type 0} (r : Result ℕ E) (named : Named) (keeps : Job → Response → Type 0) (given : Given) (request : Request) (told : List ℕ) (why : Unanswered) (line : Option (String Global)) (out_before out_after has eb em ea : Option (List ℕ))
+pub not_answered : {E : Type 0} (r : Result ℕ E) (named : Named) (keeps : Job → Response → Type 0) (given : Given) (request : Request) (told : List ℕ) (why : RefusalCause) (line : Option (String Global)) (out_before out_after has eb em ea : Option (List ℕ))
     → Appends out_before out_after told → (told ≡ []) → keeps request.job (record { told = told; end = unanswered why; left = None; ports = given.ports; ends = [] }) → IsNoteOn (unanswered why) (bytes_of_line line)
     → IsBeside (IsJobWarnedOf named.holds given request.job) request eb em → IfOk r (IsPrinted out_after has (unanswered why)) → IsToldUnless request.is_quiet (bytes_of_line line) em ea
     → IfOk r (IsDone named keeps given request (streams_of out_before has eb ea))
@@ -123,13 +123,13 @@ printed_in_part : (before mid after : Option (List ℕ)) (told text : List ℕ) 
 printed_in_part before mid after told text first t = (told ++ t.0, t.1, ap (λ (x : List ℕ). told ++ x) t.2 ∙ sym (append_assoc told t.0 t.1), Appends-trans before mid after told t.0 first t.3)
 
 -- what couldn't be written of an answer
-of_answer : (done : Answered) (what : Unwritten) (before after : Option (List ℕ)) → IsUnwrittenOf done before after what → IsToldInPart before after done.answer.text
+of_answer : (done : NotedAnswer) (what : OutputFailure) (before after : Option (List ℕ)) → IsUnwrittenOf done before after what → IsToldInPart before after done.answer.text
 of_answer done (unwritten.Answer error lost) before after is = is.1
 of_answer done unwritten.Nowhere before after is = absurd is
 of_answer done (unwritten.Setting reason) before after is = absurd is
-of_answer done (unwritten.Kept lost) before after is = (done.answer.text, [], sym (append-nil done.answer.text), is.0)
+of_answer done (unwritten.SessionFiles lost) before after is = (done.answer.text, [], sym (append-nil done.answer.text), is.0)
 
-pub answered_in_part : (r : Result ℕ Unwritten) (named : Named) (leaves : Leaving) (arguments : List (List ℕ)) (given : Given) (request : Request) (told : List ℕ) (left : Option Account) (done : Answered) (before mid after : Option (List ℕ))
+pub answered_in_part : (r : Result ℕ OutputFailure) (named : Named) (leaves : Leaving) (arguments : List (List ℕ)) (given : Given) (request : Request) (told : List ℕ) (left : Option BookView) (done : NotedAnswer) (before mid after : Option (List ℕ))
     → AskFor arguments request → Appends before mid told → AreSeenApart named.leads (file_uses request.job) → IsJobAnswer named.holds given request.job (record { told = told; end = done.answer; left = left; ports = leaves.ports; ends = leaves.ends })
     → leaves.keeps request.job (record { told = told; end = done.answer; left = left; ports = leaves.ports; ends = leaves.ends }) → IfErr r (IsUnwrittenOf done mid after) → OnErr r (IsCutFor named leaves arguments given before after)
 answered_in_part (Ok status) named leaves arguments given request told left done before mid after ask first apart is keeps cut = tt
@@ -137,7 +137,7 @@ answered_in_part (Err what) named leaves arguments given request told left done 
     let response : Response = record { told = told; end = done.answer; left = left; ports = leaves.ports; ends = leaves.ends } in
     (Ok request, ask, tt, inl (response, inl (apart, is), keeps, printed_in_part before mid after told done.answer.text first (of_answer done what mid after cut)))
 
-pub refused_in_part : {E : Type 0} (r : Result ℕ E) (named : Named) (leaves : Leaving) (arguments : List (List ℕ)) (given : Given) (request : Request) (told : List ℕ) (why : Unanswered) (before mid after : Option (List ℕ))
+pub refused_in_part : {E : Type 0} (r : Result ℕ E) (named : Named) (leaves : Leaving) (arguments : List (List ℕ)) (given : Given) (request : Request) (told : List ℕ) (why : RefusalCause) (before mid after : Option (List ℕ))
     → AskFor arguments request → Appends before mid told → (told ≡ []) → leaves.keeps request.job (record { told = told; end = unanswered why; left = None; ports = given.ports; ends = [] })
     → OnErr r (IsToldInPart mid after (unanswered why).text) → OnErr r (IsCutFor named leaves arguments given before after)
 refused_in_part (Ok status) named leaves arguments given request told why before mid after ask first none keeps cut = tt

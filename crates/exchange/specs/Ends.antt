@@ -1,7 +1,7 @@
 -- How the program ends.
 use Rattle.std.specs.Prelude.{◌≡◌, ◌≢◌, ◌⊎◌, ◌++◌, ℕ, List, [], Option, None, Result, Ok, Err, IfErr, IfOk, OnErr, OnOk, ⊤}
 use Rattle.std.specs.Io.KnownBytes.{Appends}
-use Rattle.batch_book.specs.History.{Account}
+use Rattle.batch_book.specs.History.{BookView}
 use Rattle.plan_answers.specs.Refusals.{Printed}
 use Rattle.plan_answers.specs.declared.limits.TheConstants.{DONE}
 use Rattle.drive_answers.specs.Ways.{Ways}
@@ -11,22 +11,22 @@ use Rattle.command_words.specs.declared.jobs.ArgumentsFault.{ArgumentsFault}
 use Rattle.command_words.specs.declared.jobs.ArgumentsFault.TheVariants as arguments_fault
 use Rattle.command_words.specs.Jobs.{AskFor, AsksForHelp, IsFaultIn, file_uses}
 use Rattle.exchange.specs.declared.limits.TheConstants.{MISUSED}
-use Rattle.named_files.specs.declared.unanswered.Unanswered.TheVariants.{NoMemory}
+use Rattle.named_files.specs.declared.refusal_cause.RefusalCause.TheVariants.{NoMemory}
 use Rattle.session_answers.specs.HostAnswers.{SessionEnd}
 use Rattle.exchange.specs.Responses.{Given, IsJobAnswer, IsJobCut, IsResponseTo, Named, Response}
 use Rattle.named_files.specs.Notes.{unanswered, IsToldInPart}
 use Rattle.exchange.specs.Notes.{IsJobWarnedOf, IsBeside, IsNoted}
 use Rattle.exchange.specs.Outcomes.{HasNote, HasTold, IsUnanswered}
 use Rattle.named_files.specs.DistinctFiles.{AreSeenApart}
-use Rattle.named_files.specs.declared.notes.NoAnswer.{NoAnswer}
+use Rattle.named_files.specs.declared.notes.JobFailure.{JobFailure}
 use Rattle.named_files.specs.Contents.{Holding}
 use Rattle.exchange.specs.Keeping.{AreKept, AreKeptBut, AreKeptInPart}
-use Rattle.named_files.specs.Outputs.{lost_none, none_opened}
+use Rattle.named_files.specs.Outputs.{no_write_failures, none_opened}
 use Rattle.named_files.specs.Streams.{Closed}
 use Rattle.named_files.specs.declared.outputs.Receipts.{Receipts}
-use Rattle.exchange.specs.declared.answered.Answered.{Answered}
-use Rattle.named_files.specs.declared.unwritten.Unwritten.{Unwritten}
-use Rattle.named_files.specs.declared.unwritten.Unwritten.TheVariants.{Answer, Kept, Nowhere, Setting}
+use Rattle.exchange.specs.declared.answered.NotedAnswer.{NotedAnswer}
+use Rattle.named_files.specs.declared.output_failure.OutputFailure.{OutputFailure}
+use Rattle.named_files.specs.declared.output_failure.OutputFailure.TheVariants.{Answer, SessionFiles, Nowhere, Setting}
 
 -- so is what is left of what was opened for a job, where this comes of it
 abbrev pub Keeping : Type 1
@@ -51,13 +51,13 @@ pub record IsPrinted (before after : Option (List ℕ)) (printed : Printed) (cod
 -- What couldn't be written where there is an answer: that itself, of which a front was printed, and
 -- what is lost of what its sessions leave; or something that they leave, and then the answer was
 -- printed whole.
-abbrev pub IsUnwrittenOf : Answered → Option (List ℕ) → Option (List ℕ) → Unwritten → Type 0
+abbrev pub IsUnwrittenOf : NotedAnswer → Option (List ℕ) → Option (List ℕ) → OutputFailure → Type 0
 IsUnwrittenOf done before after (Answer error lost) =
     (lost ≡ done.lost) × IsToldInPart before after done.answer.text
 IsUnwrittenOf done before after Nowhere = ⊥
 IsUnwrittenOf done before after (Setting reason) = ⊥
-IsUnwrittenOf done before after (Kept lost) =
-    Appends before after done.answer.text × (lost ≡ done.lost) × (lost ≢ lost_none)
+IsUnwrittenOf done before after (SessionFiles lost) =
+    Appends before after done.answer.text × (lost ≡ done.lost) × (lost ≢ no_write_failures)
 
 -- what stood on standard output and on standard error, and stands there in the end
 pub record Streams : Type 0 where
@@ -89,10 +89,10 @@ behind receipts ports ends = record { receipts = receipts; ports = ports; ends =
 -- How a job ended: with its answer, where what it writes was seen to be apart from what it reads,
 -- and its files were kept, but for what is lost; or with none.
 pub record HasEnded {C : Type 0} (named : Named) (received : C → Closed) (given : Given)
-    (request : Request) (streams : Streams) (left : Behind C) (end : Result Answered NoAnswer)
+    (request : Request) (streams : Streams) (left : Behind C) (end : Result NotedAnswer JobFailure)
     : Type 0 where
   pub response : HasTold streams.out_before streams.out_after
-      (λ told done. (book : Option Account) × IsJobAnswer named.holds given request.job
+      (λ told done. (book : Option BookView) × IsJobAnswer named.holds given request.job
       (record {
         told = told;
         end = done.answer;

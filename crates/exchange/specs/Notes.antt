@@ -2,7 +2,7 @@
 use Rattle.std.specs.Prelude.{◌≡◌, ◌≢◌, ◌⊎◌, ◌++◌, ◌<◌, ⊤, ℕ, false, List, [], Option, None, String, codes, string_bytes}
 use Rattle.std.specs.Fmt.{decimal}
 use Rattle.std.specs.Io.KnownBytes.{Appends}
-use Rattle.client_session.specs.Listening.{Told, TellsOfRefusals}
+use Rattle.client_session.specs.Listening.{ListenerLog, TellsOfRefusals}
 use Rattle.plan_answers.specs.Refusals.{Printed}
 use Rattle.command_words.specs.declared.jobs.Job.{Job}
 use Rattle.command_words.specs.declared.jobs.Job.TheVariants.{Texts, Ports as OverPorts, Sessions}
@@ -12,7 +12,7 @@ use Rattle.command_words.specs.declared.jobs.SessionJob.TheVariants.{Host}
 use Rattle.command_words.specs.declared.jobs.Request.{Request}
 use Rattle.refusals.specs.declared.refusal.Refusal.{Refusal}
 use Rattle.refusals.specs.declared.refusal.Refusal.TheVariants.{NoMemory}
-use Rattle.batch.specs.Extent.{widest}
+use Rattle.batch.specs.ShapeView.{widest}
 use Rattle.batch.specs.Overlap.{Overlap}
 use Rattle.batch.specs.Text.{Denotes}
 use Rattle.batch.specs.declared.transfer.Transfer.{Transfer}
@@ -30,7 +30,7 @@ MayTell refusal told =
     (told ≡ []) ⊎ ((refusal ≢ NoMemory) × (rest : List ℕ) × IsWholeLine (told ++ rest))
 
 -- what stands on standard error, seen as what a listener has told
-abbrev pub told_there : Option (List ℕ) → Told
+abbrev pub told_there : Option (List ℕ) → ListenerLog
 told_there bytes = record { bytes = bytes; loan = None }
 
 -- the job is `c004`

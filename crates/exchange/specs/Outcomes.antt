@@ -1,54 +1,54 @@
 -- What is told beside an answer, or where there is none.
 use Rattle.std.specs.Prelude.{◌≡◌, ⊤, ℕ, List, [], Option, None, MatchResult, Result, Ok, Err, IfOk, IfErr, option_map, string_bytes}
 use Rattle.std.specs.Io.KnownBytes.{Appends}
-use Rattle.batch_book.specs.History.{Account}
-use Rattle.exchange.specs.declared.answered.Answered.{Answered}
-use Rattle.named_files.specs.declared.notes.NoAnswer.{NoAnswer}
-use Rattle.named_files.specs.declared.notes.NoAnswer.TheVariants.{Refused, Unwritten}
+use Rattle.batch_book.specs.History.{BookView}
+use Rattle.exchange.specs.declared.answered.NotedAnswer.{NotedAnswer}
+use Rattle.named_files.specs.declared.notes.JobFailure.{JobFailure}
+use Rattle.named_files.specs.declared.notes.JobFailure.TheVariants.{Refused, OutputFailure}
 use Rattle.named_files.specs.Notes.{IsNoteOn, IsNoAnswer}
 use Rattle.drive_answers.specs.Ways.{Ways}
 use Rattle.session_answers.specs.HostAnswers.{SessionEnd}
 use Rattle.exchange.specs.Responses.{Response}
-use Rattle.kept_sessions.specs.declared.job_result.JobResult.{JobResult}
-use Rattle.named_files.specs.declared.lost.Lost.{Lost}
-use Rattle.named_files.specs.declared.unanswered.Unanswered.TheVariants.{NoMemory as Memory}
+use Rattle.recorded_sessions.specs.declared.job_result.JobResult.{JobResult}
+use Rattle.named_files.specs.declared.write_failures.WriteFailures.{WriteFailures}
+use Rattle.named_files.specs.declared.refusal_cause.RefusalCause.TheVariants.{NoMemory as Memory}
 use Rattle.drive_answers.specs.declared.fault.DriveFault.{DriveFault}
 use Rattle.drive_answers.specs.declared.fault.DriveFault.TheVariants.{Untold, NoMemory}
 
 -- what is told beside an answer
-abbrev pub IsAnswered : Answered → Type 0
+abbrev pub IsAnswered : NotedAnswer → Type 0
 IsAnswered done = IsNoteOn done.answer (option_map (λ line. string_bytes line) done.note)
 
 -- what is so of what was told where there is no answer: this, where that is refused; and that, where
 -- something couldn't be written
-abbrev pub IsMissed : (behind cut : List ℕ → Type 0) → List ℕ → NoAnswer → Type 0
-IsMissed behind cut told (Refused why line) = behind told
-IsMissed behind cut told (Unwritten what) = cut told
+abbrev pub IsJobFailure : (behind cut : List ℕ → Type 0) → List ℕ → JobFailure → Type 0
+IsJobFailure behind cut told (Refused why line) = behind told
+IsJobFailure behind cut told (OutputFailure what) = cut told
 
 -- Something was told after what stood there. What is answered is so after it; or there is no
 -- answer.
 abbrev pub HasTold : {X : Type 0} → Option (List ℕ) → Option (List ℕ) → (List ℕ → X → Type 0)
-    → (behind cut : List ℕ → Type 0) → Result X NoAnswer → Type 0
+    → (behind cut : List ℕ → Type 0) → Result X JobFailure → Type 0
 HasTold before after is behind cut result =
     (told : List ℕ) × Appends before after told × IfOk result (is told)
-    × IfErr result (IsMissed behind cut told)
+    × IfErr result (IsJobFailure behind cut told)
 
 -- nothing was told
 abbrev pub IsNothing : List ℕ → Type 0
 IsNothing told = told ≡ []
 
 -- something couldn't be written
-abbrev pub IsUnwritten : NoAnswer → Type 0
+abbrev pub IsUnwritten : JobFailure → Type 0
 IsUnwritten (Refused why line) = ⊥
-IsUnwritten (Unwritten what) = ⊤
+IsUnwritten (OutputFailure what) = ⊤
 
 -- why there is nothing to print after settings: only want of memory is refused
-abbrev pub IsMissedFor : DriveFault → NoAnswer → Type 0
+abbrev pub IsMissedFor : DriveFault → JobFailure → Type 0
 IsMissedFor Untold missed = IsUnwritten missed
 IsMissedFor NoMemory missed = missed ≡ Refused Memory None
 
 -- what comes of a job that was told this before, left this book, and ports and clients so
-abbrev pub response_of : List ℕ → JobResult → Option Account → Ways → List SessionEnd → Response
+abbrev pub response_of : List ℕ → JobResult → Option BookView → Ways → List SessionEnd → Response
 response_of told found left ports ends =
     record { told = told; end = found.answer; left = left; ports = ports; ends = ends }
 
@@ -57,11 +57,11 @@ response_of told found left ports ends =
 abbrev pub IsUnanswered : Ways → Ways → List SessionEnd → List ℕ → Type 0
 IsUnanswered was opens ends told = (told ≡ []) × (opens ≡ was) × (ends ≡ [])
 
-abbrev pub HasNote : Result Answered NoAnswer → Type 0
+abbrev pub HasNote : Result NotedAnswer JobFailure → Type 0
 HasNote result = MatchResult result IsAnswered IsNoAnswer
 
 -- what is answered where this comes of a job, and this is lost
-abbrev pub IsFinished : Result JobResult NoAnswer → Lost → Result Answered NoAnswer → Type 0
+abbrev pub IsFinished : Result JobResult JobFailure → WriteFailures → Result NotedAnswer JobFailure → Type 0
 IsFinished (Ok found) lost (Ok done) = (done.answer ≡ found.answer) × (done.lost ≡ lost)
 IsFinished (Ok found) lost (Err missed) = ⊥
 IsFinished (Err missed) lost (Ok done) = ⊥

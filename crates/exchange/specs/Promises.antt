@@ -6,7 +6,7 @@ use Rattle.std.specs.Prelude.{false, true, ◌||◌, ◌≡◌, ◌≢◌, ◌<�
 use Rattle.std.specs.Fmt.{decimal}
 use Rattle.std.specs.List.{AllByRecursion, flat_map, list_any, range_with_len}
 use Rattle.batch.specs.declared.transfer.Transfer.{Transfer}
-use Rattle.batch.specs.Extent.{Extent, widest}
+use Rattle.batch.specs.ShapeView.{ShapeView, widest}
 use Rattle.batch.specs.Overlap.{IsApart}
 use Rattle.batch.specs.ShapeText.{DenotesShape}
 use Rattle.batch.specs.Text.{Denotes, IsWithin}
@@ -27,8 +27,8 @@ use Rattle.crossbar.specs.Switch.{Switch, after_all, answers, enquiries, idle}
 use Rattle.crossbar.specs.declared.board.BoardWiring.{BoardWiring}
 use Rattle.crossbar.specs.declared.chip.Wiring.{Wiring}
 use Rattle.crossbar.specs.declared.chip.Wiring.TheVariants.{Back, Board, Both, Forth}
-use Rattle.link_ends.specs.Answering.{HasRun}
-use Rattle.link_ends.specs.End.{EndState}
+use Rattle.link_devices.specs.Answering.{HasRun}
+use Rattle.link_devices.specs.End.{EndState}
 use Rattle.link_graph.specs.Certificates.{IsCertificate, IsCertified, IsShortest, Naming}
 use Rattle.link_graph.specs.ScheduleText.{Says, said}
 use Rattle.link_graph.specs.Schedules.{IsScheduleOf}
@@ -51,12 +51,12 @@ use Rattle.plan_answers.specs.declared.limits.TheConstants.{DONE, REFUSED}
 use Rattle.plan_answers.specs.declared.setting_range.SettingRange.{SettingRange}
 use Rattle.schedule_picture.specs.Laws.{AreFewest, CellsOverlap, IsDrawnAt}
 use Rattle.schedule_picture.specs.Picture.{changes_words, columns_text, heading_text}
-use Rattle.schedule_picture.specs.declared.shown.Shown.{Shown}
+use Rattle.schedule_picture.specs.declared.shown.ShownSettings.{ShownSettings}
 use Rattle.steady_schedule.specs.Changes.{changes, join_same}
 use Rattle.plan_answers.specs.declared.source.Planning.{Planning}
 use Rattle.plan_answers.specs.declared.source.Planning.TheVariants.{Plain, Steady}
-use Rattle.plan_answers.specs.declared.source.Source.{Source}
-use Rattle.plan_answers.specs.declared.source.Source.TheVariants as source
+use Rattle.plan_answers.specs.declared.source.ScheduleSource.{ScheduleSource}
+use Rattle.plan_answers.specs.declared.source.ScheduleSource.TheVariants as source
 use Rattle.rack_answers.specs.Reports.{report_for}
 use Rattle.rack_answers.specs.Switching.{lines_on}
 use Rattle.steady_schedule.specs.Needs.{ChangesAtNeed, setting_at}
@@ -74,7 +74,7 @@ use Rattle.plan_answers.specs.Drawings.{IsFirstUndrawn}
 use Rattle.plan_answers.specs.Texts.{AreTexts}
 use Rattle.plan_answers.specs.Validities.{IsInvalid, IsScheduleRead}
 use Rattle.board_wiring.specs.Boards.{IsBoardOf, IsFilled, IsMiswired}
-use Rattle.board_wiring.specs.Lacks.{HasWaysOn, IsLackOf, LacksNothing}
+use Rattle.board_wiring.specs.Missing.{HasWaysOn, IsMissingFor, MissesNothing}
 use Rattle.board_wiring.specs.Sources.{of_wiring}
 use Rattle.board_wiring.specs.declared.board.Board.{Board as BoardText}
 use Rattle.board_wiring.specs.declared.fault.WiringFault.{WiringFault}
@@ -94,11 +94,11 @@ use Rattle.drive_answers.specs.Answers.{is_wide_over}
 use Rattle.drive_answers.specs.Endings.{completed_line, fault_words, left_line, stopped_line}
 use Rattle.drive_answers.specs.Ways.{IsUnopened, Names, Ways, how_many, used}
 use Rattle.switch_driver.specs.Laws.{JoinsAs}
-use Rattle.switch_driver.specs.Lines.{stage_line}
+use Rattle.switch_driver.specs.Lines.{driven_line}
 use Rattle.switch_settings.specs.declared.fault.SettingFault.{SettingFault}
 use Rattle.switch_settings.specs.Answers.{AllAgree}
 use Rattle.switch_settings.specs.Pairs.{all_enquiries}
-use Rattle.batch_book.specs.History.{Account, AreUnstopped, IsReplay, Starts}
+use Rattle.batch_book.specs.History.{BookView, AreUnstopped, IsReplay, IsPrefix}
 use Rattle.batch_book.specs.Machine.{Machine, opened}
 use Rattle.batch_book.specs.Seats.{own}
 use Rattle.batch_book.specs.Values.{greatest}
@@ -112,15 +112,15 @@ use Rattle.session_answers.specs.Histories.{status_at}
 use Rattle.session_answers.specs.HostAnswers.{ending_line, has_failed}
 use Rattle.session_answers.specs.declared.ended_session.Ending.{Ending}
 use Rattle.session_answers.specs.declared.ended_session.Ending.TheVariants.{Served, Unopened}
-use Rattle.client_session.specs.declared.limits.TheConstants.{HELD_BYTES}
+use Rattle.client_session.specs.declared.limits.TheConstants.{REPLY_BUFFER_BYTES}
 use Rattle.client_session.specs.declared.fault.ServeFault.{ServeFault}
 use Rattle.client_session.specs.declared.fault.ServeFault.TheVariants.{Record, Write}
 use Rattle.command_words.specs.declared.jobs.RecordFile.{RecordFile}
 use Rattle.named_files.specs.Streams.{Closed, IsFrontOf, closed}
 use Rattle.named_files.specs.declared.outputs.Receipts.{Receipts}
-use Rattle.kept_sessions.specs.Records.{BeginsFor, IsBegun as BeginsRecord}
+use Rattle.recorded_sessions.specs.Records.{BeginsFor, IsRecordStart as BeginsRecord}
 use Rattle.book_record.specs.Heads.{BeginsWithNoHead, record_of, whole_record}
-use Rattle.kept_sessions.specs.Answers.{IsWrongStart}
+use Rattle.recorded_sessions.specs.Answers.{IsWrongStart}
 use Rattle.rack_answers.specs.Openings.{IsOfImageOrMarked, IsRackOf, IsWrongRack}
 use Rattle.record_replay.specs.ReplayAnswers.{IsNoRecordOn, IsRecordOn, IsShapeOf, of_record}
 use Rattle.record_replay.specs.Replays.{IsRecordError, IsRemade}
@@ -154,12 +154,12 @@ run_of holds input prints words status =
     }
 
 -- what is left of the files that were opened for a record, and for an image
-pub record Kept : Type 0 where
+pub record SavedFiles : Type 0 where
   pub recorded : Option Closed
   pub image : Option Closed
 
-abbrev pub kept_by : {C : Type 0} → (C → Closed) → Receipts C → Kept
-kept_by received receipts =
+abbrev pub saved_by : {C : Type 0} → (C → Closed) → Receipts C → SavedFiles
+saved_by received receipts =
     record {
       recorded = option_map received receipts.recorded;
       image = option_map received receipts.image;
@@ -184,10 +184,10 @@ pub record World : Type 1 where
   pub whole : Bool
   pub before : Ways
   pub after : Ways
-  pub kept : Kept
+  pub kept : SavedFiles
   pub clients : Clients
 
-abbrev pub world_of : Run → (before after : Ways) → Kept → Clients → World
+abbrev pub world_of : Run → (before after : Ways) → SavedFiles → Clients → World
 world_of run before after kept clients =
     record {
       run = run;
@@ -216,14 +216,14 @@ pub record IsPlanOf (planning : Planning) (batch : List Transfer) (settings : Li
   pub at_need : planning ≡ Steady → ChangesAtNeed batch settings
 
 -- the texts say this batch and a schedule of it: a plan of it, or the user's own
-abbrev pub SaySchedule : Source (List ℕ) → List ℕ → List Transfer → List (List ℕ) → Type 0
+abbrev pub SaySchedule : ScheduleSource (List ℕ) → List ℕ → List Transfer → List (List ℕ) → Type 0
 SaySchedule (source.Plan planning) text batch settings =
     Denotes widest text batch × IsPlanOf planning batch settings
 SaySchedule (source.Text schedule) text batch settings =
     IsScheduleRead widest text schedule batch settings
 
 -- the same of the texts of a job's files
-abbrev pub FilesSaySchedule : Source Text → Files (List ℕ) → List Transfer → List (List ℕ) → Type 0
+abbrev pub FilesSaySchedule : ScheduleSource Text → Files (List ℕ) → List Transfer → List (List ℕ) → Type 0
 FilesSaySchedule scheduled texts =
     SaySchedule (source_in scheduled (text_in texts.schedule)) (text_in texts.list)
 
@@ -235,7 +235,7 @@ AreAllHeld holds (name ∷ names) [] = ⊥
 AreAllHeld holds (name ∷ names) (text ∷ texts) = holds name text × AreAllHeld holds names texts
 
 -- the files that a job reads hold these texts
-pub record AreHeld (holds : Text → List ℕ → Type 0) (names : Files Text) (texts : Files (List ℕ))
+pub record HoldTexts (holds : Text → List ℕ → Type 0) (names : Files Text) (texts : Files (List ℕ))
     : Type 0 where
   pub image : AreAllHeld holds (option_to_list names.image) (option_to_list texts.image)
   pub list : AreAllHeld holds (option_to_list names.list) (option_to_list texts.list)
@@ -246,7 +246,7 @@ pub record AreHeld (holds : Text → List ℕ → Type 0) (names : Files Text) (
 -- The files of a job hold texts, and something was printed, and nothing else, of which this is so.
 abbrev pub Comes : Run → Job → (Files (List ℕ) → List ℕ → Type 0) → Type 0
 Comes run job is =
-    (texts : Files (List ℕ)) × (printed : List ℕ) × AreHeld run.holds (files_of job) texts
+    (texts : Files (List ℕ)) × (printed : List ℕ) × HoldTexts run.holds (files_of job) texts
     × run.prints printed × is texts printed
 
 -- it is the one line of such a refusal
@@ -292,7 +292,7 @@ pub record HasChecked (text schedule printed : List ℕ) : Type 0 where
 -- words that are left each destination has what its source had before, and all else is as it was.
 pub record HasMoved (shape : Text) (image : Option (List ℕ)) (batch : List Transfer)
     (left : Store) : Type 0 where
-  pub extent : Extent
+  pub extent : ShapeView
   pub opening : Store
   pub shaped : DenotesShape shape extent
   pub within : All (IsWithin extent) batch
@@ -302,7 +302,7 @@ pub record HasMoved (shape : Text) (image : Option (List ℕ)) (batch : List Tra
 
 -- The texts say a batch and its schedule, by which it was moved. Printed was the report of that, with
 -- the words that it wrote, and nothing else.
-pub record HasRunBatch (shape : Text) (scheduled : Source Text) (texts : Files (List ℕ))
+pub record HasRunBatch (shape : Text) (scheduled : ScheduleSource Text) (texts : Files (List ℕ))
     (printed : List ℕ) : Type 0 where
   pub transfers : List Transfer
   pub settings : List (List ℕ)
@@ -363,7 +363,7 @@ pub record Turn (wiring : Wiring) (batch : List Transfer) (settings : List (List
 
 -- Printed were, for each setting of a schedule and nothing else, the bytes of such commands for each
 -- switch. They are two where that was said, or where the batch names a module that one doesn't join.
-pub record HasSwitched (scheduled : Source Text) (has_two : Bool) (texts : Files (List ℕ))
+pub record HasSwitched (scheduled : ScheduleSource Text) (has_two : Bool) (texts : Files (List ℕ))
     (printed : List ℕ) : Type 0 where
   pub transfers : List Transfer
   pub settings : List (List ℕ)
@@ -388,7 +388,7 @@ MoveAll told batch settings =
 -- No two transfers of the batch write one block. Printed was the text of the orders for a schedule,
 -- and nothing else: those of all modules that have some, or of one alone. Together they move the
 -- batch.
-pub record HasOrdered (scheduled : Source Text) (only : Option ℕ) (texts : Files (List ℕ))
+pub record HasOrdered (scheduled : ScheduleSource Text) (only : Option ℕ) (texts : Files (List ℕ))
     (printed : List ℕ) : Type 0 where
   pub transfers : List Transfer
   pub settings : List (List ℕ)
@@ -440,19 +440,19 @@ StoodInTurn board wide batch settings first (suc n) passed =
 abbrev pub lines_told : List (List ℕ) → (first count : ℕ) → List ℕ
 lines_told settings first zero = []
 lines_told settings first (suc n) =
-    lines_told settings first n ++ stage_line (first + n) (numbers_in settings (first + n))
+    lines_told settings first n ++ driven_line (first + n) (numbers_in settings (first + n))
 
 -- What is first wrong with the texts: a line of the wiring, where one is given; the batch's text;
 -- what the batch needs and the board hasn't; the schedule's text, or the schedule; and last that
 -- this hasn't the setting with which to begin.
-pub data IsFirstWrongOn (from : Source (List ℕ)) (text : List ℕ) (wiring : Option (List ℕ))
+pub data IsFirstWrongOn (from : ScheduleSource (List ℕ)) (text : List ℕ) (wiring : Option (List ℕ))
     (first : ℕ) (refusal : Refusal) : Type 0 where
   wiring_wrong : (fault : WiringFault) → IsMiswired wiring fault → refusal ≡ of_wiring fault
       → IsFirstWrongOn from text wiring first refusal
-  lacking : (board : Option BoardText) → IsBoardOf wiring board → IsLackOf board text refusal
+  lacking : (board : Option BoardText) → IsBoardOf wiring board → IsMissingFor board text refusal
       → IsFirstWrongOn from text wiring first refusal
   texts_wrong : (board : Option BoardText) → IsBoardOf wiring board
-      → IsWrongFrom from widest text refusal → LacksNothing board text
+      → IsWrongFrom from widest text refusal → MissesNothing board text
       → IsFirstWrongOn from text wiring first refusal
   no_setting : (board : Option BoardText) (batch : List Transfer) (settings : List (List ℕ))
       → IsBoardOf wiring board → SaySchedule from text batch settings → HasWaysOn board batch
@@ -473,7 +473,7 @@ IsLastLine first next all more line =
 -- that stood, each with its line, and after these lines stands the last one. With status 0 all
 -- settings from the first one on stood, and nothing more passed. A rack that is wired as usual has
 -- then two switches where there are two ports, or where the batch needs two; there is a port for each.
-pub record HasDriven (w : World) (names : Names) (scheduled : Source Text) (first : ℕ)
+pub record HasDriven (w : World) (names : Names) (scheduled : ScheduleSource Text) (first : ℕ)
     (texts : Files (List ℕ)) (printed : List ℕ) : Type 0 where
   pub transfers : List Transfer
   pub settings : List (List ℕ)
@@ -496,7 +496,7 @@ pub record HasDriven (w : World) (names : Names) (scheduled : Source Text) (firs
   pub prints : printed ≡ lines_told settings first count ++ line
 
 -- Why no port was opened, or handed over: there are no ways to the switches of the batch's rack.
-abbrev pub AreNoWays : Names → Source Text → Files (List ℕ) → Refusal → Type 0
+abbrev pub AreNoWays : Names → ScheduleSource Text → Files (List ℕ) → Refusal → Type 0
 AreNoWays names scheduled texts refusal =
     (transfers : List Transfer) × (settings : List (List ℕ)) × (board : Option BoardWiring)
     × FilesSaySchedule scheduled texts transfers settings × IsWired texts.wiring transfers board
@@ -516,8 +516,8 @@ pub record HasReplied (run : Run) (printed : List ℕ) : Type 0 where
 -- ---- 7: pictures
 
 -- the part stands somewhere in the text
-abbrev pub StandsIn : (part text : List ℕ) → Type 0
-StandsIn part text = (front rest : List ℕ) × (text ≡ front ++ (part ++ rest))
+abbrev pub IsPartOf : (part text : List ℕ) → Type 0
+IsPartOf part text = (front rest : List ℕ) × (text ≡ front ++ (part ++ rest))
 
 -- The title begins with `transfers N, settings S` and `, changes C`, each with what is shown of it.
 -- Where it says `the fewest` after the settings, no schedule has fewer: they are `fewest`.
@@ -528,7 +528,7 @@ pub record IsTitled (batch : List Transfer) (settings : List (List ℕ)) (text :
   pub fewest : ℕ
   pub partners : ℕ
   pub least : ℕ
-  pub stands : StandsIn
+  pub stands : IsPartOf
       (heading_text (length batch) (length settings) fewest ++ codes ", "
       ++ changes_words (changes batch settings) partners least) text
   pub are_fewest : AreFewest batch fewest
@@ -537,7 +537,7 @@ pub record IsTitled (batch : List Transfer) (settings : List (List ℕ)) (text :
       × (length other ≡ length settings → least ≤ changes batch other)
 
 -- no two cells have a part in common: those of two transfers that are shown, or of one
-abbrev pub AreCellsApart : List Transfer → List (List ℕ) → Shown → Type 0
+abbrev pub AreCellsApart : List Transfer → List (List ℕ) → ShownSettings → Type 0
 AreCellsApart batch settings shown =
     (j i : ℕ) (x : Transfer) (e : End) (l k : ℕ) (y : Transfer) (f : End)
     → IsDrawnAt batch settings shown j i x → IsDrawnAt batch settings shown l k y
@@ -551,12 +551,12 @@ pub record HasDrawn (text schedule : List ℕ) (chosen : Option Text) (printed :
   pub transfers : List Transfer
   pub settings : List (List ℕ)
   pub range : Option SettingRange
-  pub shown : Shown
+  pub shown : ShownSettings
   pub read : IsScheduleRead widest text schedule transfers settings
   pub wanted : AreWanted chosen range
   pub are_shown : AreShown range (length settings) shown
   pub titled : IsTitled transfers settings printed
-  pub columns : StandsIn (columns_text transfers settings shown) printed
+  pub columns : IsPartOf (columns_text transfers settings shown) printed
   pub apart : AreCellsApart transfers settings shown
 
 -- The texts say a batch and a schedule of it. Printed was a table of prices, with how many changes
@@ -598,12 +598,12 @@ EndsSo recorded s untold unseen None =
     (s.held ≡ []) × (untold ≡ []) × (unseen ≡ [])
     × ((GoOn s.turns × (s.rest ≡ [])) ⊎ EndByBye s.turns)
 EndsSo recorded s untold unseen (Some Write) =
-    (s.held ≡ []) × (unseen ≡ []) × MayEnd s.turns × (length untold ≤ HELD_BYTES)
+    (s.held ≡ []) × (unseen ≡ []) × MayEnd s.turns × (length untold ≤ REPLY_BUFFER_BYTES)
     × (recorded ≡ false → IsEndOfLastLine s.turns untold)
 EndsSo recorded s untold unseen (Some Record) =
     (recorded ≡ true) × (untold ≡ []) × ((id : ℕ) × IsFetching s.number id unseen)
     × MayEnd (all_turns s)
-    × (length (lines_of s.held) ≤ HELD_BYTES)
+    × (length (lines_of s.held) ≤ REPLY_BUFFER_BYTES)
 EndsSo recorded s untold unseen (Some fault) =
     (s.held ≡ []) × (untold ≡ []) × (unseen ≡ []) × GoOn s.turns
 
@@ -631,7 +631,7 @@ pub record IsSessionOf (calls : Calls) (came : Option (List ℕ)) (s : Session) 
   pub each : AllByRecursion (IsTurn calls.opening.shape s.number) (all_turns s)
   pub lines : lines_of s.turns ≡ s.told ++ untold
   pub entries : own s.number calls.made ≡ added_entries (all_turns s) ++ unseen
-  pub stand : Starts (added_entries s.turns) (own s.number calls.standing)
+  pub stand : IsPrefix (added_entries s.turns) (own s.number calls.standing)
   pub ends : EndsSo calls.recorded s untold unseen s.fault
 
 -- Each answer follows from the calls before it, and no run was stopped. Just the calls of these
@@ -641,7 +641,7 @@ pub record IsSessionOf (calls : Calls) (came : Option (List ℕ)) (s : Session) 
 pub record HaveOneOrder (calls : Calls) (sessions : List Session) : Type 0 where
   pub right : IsReplay (opened calls.opening) (all_calls calls) calls.left
   pub no_other : length calls.made ≡ sum_by (λ s. length (own s.number calls.made)) sessions
-  pub front : Starts calls.standing calls.made
+  pub front : IsPrefix calls.standing calls.made
   pub unstopped : AreUnstopped (all_calls calls)
   pub seen : AllByRecursion
       (λ s. AreReadings (greatest calls.earlier) (greatest (all_calls calls)) (all_turns s))
@@ -654,7 +654,7 @@ IsKept whole None text file = file ≡ None
 IsKept whole (Some name) text None = ⊥
 IsKept whole (Some name) text (Some file) =
     (file.name ≡ name) × IsFrontOf text file.bytes
-    × (file.stands ≡ true → file.bytes ≡ Some text) × (whole ≡ true → file.stands ≡ true)
+    × (file.durable ≡ true → file.bytes ≡ Some text) × (whole ≡ true → file.durable ≡ true)
 
 -- So are both files: the record of all calls, and the image of the words to which they lead.
 abbrev pub AreKept : World → SharedRack → List Text → Calls → Type 0
@@ -672,7 +672,7 @@ AreToldKept w rack names calls =
     ≡ Some (record_of names calls.opening (calls.earlier ++ calls.standing) ++ rest)))
     × (IsKept true (recorded_in rack) (whole_record names calls.opening (all_calls calls))
     w.kept.recorded
-    ⊎ IfSome w.kept.image (λ image. image.stands ≡ false))
+    ⊎ IfSome w.kept.image (λ image. image.durable ≡ false))
 
 -- what a session was told, below its heading; where a fault ended it, a line says so after that
 abbrev pub told_text : Session → List ℕ
@@ -714,7 +714,7 @@ IsAsItWas run record_out names file =
 -- no call is missing in the end.
 abbrev pub GoesOnFrom : Run → Option RecordFile → List Text → Calls → Type 0
 GoesOnFrom run record_out names calls =
-    ((was : Account) × BeginsFor run.holds record_out calls.opening names was
+    ((was : BookView) × BeginsFor run.holds record_out calls.opening names was
     × (calls.earlier ≡ was.history))
     × (record_out ≡ None → (calls.recorded ≡ false) × (calls.standing ≡ calls.made))
 
@@ -823,7 +823,7 @@ pub data IsFirstWrongReplayed (shape : Option Text) (text : List ℕ) (image : O
 -- ---- 9: texts
 
 -- the first two transfers of the batch that write one block
-abbrev pub IsFirstOverlapIn : Source (List ℕ) → List ℕ → Refusal → Type 0
+abbrev pub IsFirstOverlapIn : ScheduleSource (List ℕ) → List ℕ → Refusal → Type 0
 IsFirstOverlapIn from text refusal =
     (batch : List Transfer) × AreRight from widest text batch × IsOverlapOf batch refusal
 

@@ -1,7 +1,7 @@
 -- What the program prints for a job.
 use Rattle.std.specs.Prelude.{◌≡◌, ◌⊎◌, ◌++◌, ℕ, List, [], Option, None, ⊤, unwrap_or}
 use Rattle.std.specs.Io.KnownBytes.{Consumes, IsAtEnd}
-use Rattle.batch.specs.Extent.{widest}
+use Rattle.batch.specs.ShapeView.{widest}
 use Rattle.plan_answers.specs.Answers.{IsPlanned, IsChecked}
 use Rattle.rack_answers.specs.Answers.{IsApplied, IsRunAnswer}
 use Rattle.rack_answers.specs.Orders.{IsOrdered}
@@ -10,12 +10,12 @@ use Rattle.plan_answers.specs.Drawings.{IsDrawn}
 use Rattle.plan_answers.specs.Pricing.{IsPriced}
 use Rattle.plan_answers.specs.Directing.{IsDirected}
 use Rattle.plan_answers.specs.Schedules.{source_map}
-use Rattle.plan_answers.specs.declared.source.Source.{Source}
+use Rattle.plan_answers.specs.declared.source.ScheduleSource.{ScheduleSource}
 use Rattle.crossbar.specs.Switch.{idle}
-use Rattle.batch_book.specs.History.{Account}
+use Rattle.batch_book.specs.History.{BookView}
 use Rattle.session_answers.specs.HostAnswers.{KnownClients, SessionEnd}
-use Rattle.link_ends.specs.End.{EndState}
-use Rattle.link_ends.specs.Answering.{HasRun}
+use Rattle.link_devices.specs.End.{EndState}
+use Rattle.link_devices.specs.Answering.{HasRun}
 use Rattle.plan_answers.specs.Refusals.{Printed}
 use Rattle.session_answers.specs.Serving.{IsServeAnswer}
 use Rattle.record_replay.specs.ReplayAnswers.{IsReplayPrinted}
@@ -34,9 +34,9 @@ use Rattle.named_files.specs.DistinctFiles.{AreSeenApart, Leading}
 use Rattle.named_files.specs.Contents.{AreContents, Holding}
 use Rattle.drive_answers.specs.Ways.{Ways}
 use Rattle.exchange.specs.Drives.{IsDriveBy, IsDriveCut, names_in}
-use Rattle.named_files.specs.declared.unanswered.Unanswered.{Unanswered}
+use Rattle.named_files.specs.declared.refusal_cause.RefusalCause.{RefusalCause}
 use Rattle.named_files.specs.Notes.{unanswered}
-use Rattle.kept_sessions.specs.Answers.{IsLiveAnswer, hosting, talking}
+use Rattle.recorded_sessions.specs.Answers.{IsLiveAnswer, hosting, talking}
 
 -- what is given to a job besides its files: what is left of standard input, as far as that is
 -- known, the ports, and what is known of clients by their names
@@ -53,7 +53,7 @@ given_by input ports clients = record { input = input; ports = ports; clients = 
 pub record Response : Type 0 where
   pub told : List ℕ
   pub end : Printed
-  pub left : Option Account
+  pub left : Option BookView
   pub ports : Ways
   pub ends : List SessionEnd
 
@@ -62,7 +62,7 @@ abbrev pub text_in : Option (List ℕ) → List ℕ
 text_in file = unwrap_or file []
 
 -- where a schedule comes from, with its text, where a file has one
-abbrev pub source_in : Source (List ℕ) → List ℕ → Source (List ℕ)
+abbrev pub source_in : ScheduleSource (List ℕ) → List ℕ → ScheduleSource (List ℕ)
 source_in source text = source_map (λ _. text) source
 
 -- what `c004` replied to what came of standard input, to its end, or as far as it could be read; it
@@ -189,4 +189,4 @@ IsResponseTo named given job response =
     (AreSeenApart named.leads (file_uses job) × IsJobAnswer named.holds given job response)
     ⊎ ((response.told ≡ []) × (response.ports ≡ given.ports)
     × (response.ends ≡ []) × (response.left ≡ None)
-    × ((why : Unanswered) × (response.end ≡ unanswered why)))
+    × ((why : RefusalCause) × (response.end ≡ unanswered why)))

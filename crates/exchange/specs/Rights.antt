@@ -1,7 +1,7 @@
 -- Right texts of jobs, which have nothing that is first wrong.
 use Rattle.std.specs.Prelude.{◌≡◌, ℕ, List, Option, Some, None, length}
 use Rattle.batch.specs.declared.transfer.Transfer.{Transfer}
-use Rattle.batch.specs.Extent.{Extent, widest}
+use Rattle.batch.specs.ShapeView.{ShapeView, widest}
 use Rattle.batch.specs.Overlap.{IsApart}
 use Rattle.batch.specs.ShapeText.{DenotesShape}
 use Rattle.batch.specs.Text.{Denotes}
@@ -13,10 +13,10 @@ use Rattle.move_directions.specs.declared.moves.Move.{Move}
 use Rattle.move_directions.specs.Text.{Denotes as DenotesMoves}
 use Rattle.plan_answers.specs.Drawings.{AreShown, AreWanted}
 use Rattle.plan_answers.specs.declared.setting_range.SettingRange.{SettingRange}
-use Rattle.schedule_picture.specs.declared.shown.Shown.{Shown}
+use Rattle.schedule_picture.specs.declared.shown.ShownSettings.{ShownSettings}
 use Rattle.plan_answers.specs.declared.source.Planning.TheVariants.{Plain}
-use Rattle.plan_answers.specs.declared.source.Source.{Source}
-use Rattle.plan_answers.specs.declared.source.Source.TheVariants as source
+use Rattle.plan_answers.specs.declared.source.ScheduleSource.{ScheduleSource}
+use Rattle.plan_answers.specs.declared.source.ScheduleSource.TheVariants as source
 use Rattle.exchange.specs.Responses.{source_in, text_in}
 use Rattle.plan_answers.specs.Validities.{IsScheduleRead}
 use Rattle.plan_answers.specs.Schedules.{AreRight}
@@ -25,9 +25,9 @@ use Rattle.refusals.specs.declared.refusal.Refusal.{Refusal}
 use Rattle.exchange.specs.Promises.{HasChecked, IsFirstWrongIn}
 
 -- such a batch can be run on a rack of the shape, with such an image
-pub record CanBeRun (from : Source (List ℕ)) (shape text : List ℕ)
+pub record CanBeRun (from : ScheduleSource (List ℕ)) (shape text : List ℕ)
     (image : Option (List ℕ)) : Type 0 where
-  pub extent : Extent
+  pub extent : ShapeView
   pub batch : List Transfer
   pub shaped : DenotesShape shape extent
   pub right : AreRight from extent text batch
@@ -37,7 +37,7 @@ pub record CanBeRun (from : Source (List ℕ)) (shape text : List ℕ)
 -- a picture of such a schedule can be drawn, with the settings that are wanted
 pub record CanBeDrawn (text schedule : List ℕ) (chosen : Option Text) : Type 0 where
   pub range : Option SettingRange
-  pub shown : Shown
+  pub shown : ShownSettings
   pub batch : List Transfer
   pub settings : List (List ℕ)
   pub wanted : AreWanted chosen range
@@ -45,7 +45,7 @@ pub record CanBeDrawn (text schedule : List ℕ) (chosen : Option Text) : Type 0
   pub are_shown : AreShown range (length settings) shown
 
 -- the switches of a rack that is wired as usual can be set for such a batch
-pub record CanBeSwitched (from : Source (List ℕ)) (text : List ℕ) (wiring : Option (List ℕ))
+pub record CanBeSwitched (from : ScheduleSource (List ℕ)) (text : List ℕ) (wiring : Option (List ℕ))
     : Type 0 where
   pub batch : List Transfer
   pub usual : wiring ≡ None

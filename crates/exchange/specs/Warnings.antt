@@ -1,6 +1,6 @@
 -- A line on standard error before the settings of a drive.
 use Rattle.std.specs.Prelude.{◌≡◌, ◌⊎◌, ℕ, List, Option, Some, None, Result, String, string_bytes}
-use Rattle.exchange.specs.declared.warned.Warned.{Warned}
+use Rattle.exchange.specs.declared.warned.WarningObserver.{WarningObserver}
 use Rattle.named_files.specs.Notes.{IsToldInPart}
 use Rattle.switch_driver.specs.Lines.{HasToldLine}
 use Rattle.switch_driver.specs.declared.drive_observer.Halt.{Halt}
@@ -16,7 +16,7 @@ abbrev pub MayHaveWarned : {Z : Type 0} → Option (String Z) → Option (List �
 MayHaveWarned {Z} warning before after = (after ≡ before) ⊎ IsWarned warning before after
 
 -- it was told, and isn't told again; or nothing was told
-abbrev pub IsWarnedOnce : {I O E : Type 0} → (E → Option (List ℕ)) → Warned I O E → Warned I O E
+abbrev pub IsWarnedOnce : {I O E : Type 0} → (E → Option (List ℕ)) → WarningObserver I O E → WarningObserver I O E
     → Type 0
 IsWarnedOnce {I} {O} {E} contents old new =
     (new.err.ghost_name ≡ old.err.ghost_name)
@@ -26,7 +26,7 @@ IsWarnedOnce {I} {O} {E} contents old new =
 
 -- the line of a setting was told after that
 abbrev pub HasToldWarned : {I O E : Type 0} → (I → Option (List ℕ)) → (O → Option (List ℕ))
-    → (E → Option (List ℕ)) → ℕ → List ℕ → Result (Unit {0}) Halt → Warned I O E → Warned I O E → Type 0
+    → (E → Option (List ℕ)) → ℕ → List ℕ → Result (Unit {0}) Halt → WarningObserver I O E → WarningObserver I O E → Type 0
 HasToldWarned {I} {O} {E} remaining contents beside setting numbers result old new =
     HasToldLine remaining contents setting numbers result old.lines new.lines
     × IsWarnedOnce beside old new

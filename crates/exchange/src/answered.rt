@@ -7,31 +7,31 @@ ghost use Rattle.exchange.specs.Outcomes.{HasNote, IsFinished};
 
 use crate::texts::texts_of;
 use command_words::Job;
-use kept_sessions::JobResult;
-use named_files::{Contents, IoFailure, Lost, NoAnswer, lack_line};
+use recorded_sessions::JobResult;
+use named_files::{Contents, IoFailure, WriteFailures, JobFailure, failure_line};
 use plan_answers::{Answer, REFUSED};
-use refusal_notes::{Texts, second_line};
+use refusal_notes::{RefusalContext, second_line};
 use refusals::Refusal;
 use std::alloc::Global;
 
 /// An answer, with the line that is told beside it.
 #[derive(Drop)]
-pub(crate) struct Answered {
+pub(crate) struct NotedAnswer {
     pub(crate) answer: Answer,
     pub(crate) note: Option<String>,
     /// What couldn't be written of what sessions leave.
-    pub(crate) lost: Lost,
+    pub(crate) lost: WriteFailures,
 }
 
 /// The answer to a job whose files contain this, with what is told beside it where it is a refusal,
 /// and what is lost of what its sessions leave.
 pub(crate) fn finished(
     alloc: Global,
-    end: Result<JobResult, NoAnswer>,
-    lost: Lost,
+    end: Result<JobResult, JobFailure>,
+    lost: WriteFailures,
     job: &Job,
     contents: &Contents,
-) -> Result<Answered, NoAnswer>
+) -> Result<NotedAnswer, JobFailure>
     requires { IfErr end (λ missed. IsNoAnswer missed) }
     ensures answer { IsFinished end lost result }
     ensures note { HasNote result }
@@ -39,7 +39,7 @@ pub(crate) fn finished(
     let found = end?;
     let texts = texts_of(job, contents, &found);
     let note = note_on(alloc, &found.answer, texts, &found.lack);
-    Ok(Answered {
+    Ok(NotedAnswer {
         answer: found.answer,
         note,
         lost,
@@ -51,15 +51,15 @@ pub(crate) fn finished(
 fn note_on(
     alloc: Global,
     answer: &Answer,
-    texts: Texts<'_>,
+    texts: RefusalContext<'_>,
     lack: &Option<IoFailure>,
 ) -> Option<String>
     ensures { IsNoteOn answer.now (option_map (λ line. string_bytes line) result) }
 {
     match (answer.refusal(), lack) {
-        (Some(Refusal::Port(_)), Some(lack)) => lack_line(alloc, lack),
+        (Some(Refusal::Port(_)), Some(lack)) => failure_line(alloc, lack),
         (Some(refusal), _) => second_line(alloc, refusal, texts),
-        (None, Some(lack)) if says_stop(answer) => lack_line(alloc, lack),
+        (None, Some(lack)) if says_stop(answer) => failure_line(alloc, lack),
         (None, _) => None,
     }
 }

@@ -11,22 +11,22 @@ ghost use Rattle.named_files.specs.Notes.{IsNoAnswer};
 ghost use Rattle.exchange.specs.Responses.{source_in, text_in};
 ghost use Rattle.exchange.specs.Warnings.{MayHaveWarned};
 
-use crate::warned::Warned;
+use crate::warned::WarningObserver;
 use command_words::Text;
 use crossbar::Chip;
 use drive_answers::{
     DriveEnd, DriveFault, OutputMismatch, PortFailure, PortFile, PortNames, Ports, answer_drive,
 };
 use exchange_limits::WorkerCount;
-use kept_sessions::JobResult;
-use named_files::{Contents, IoFailure, NoAnswer, Unwritten, slice_of, source_with, text_of};
-use plan_answers::Source;
+use recorded_sessions::JobResult;
+use named_files::{Contents, IoFailure, JobFailure, OutputFailure, slice_of, source_with, text_of};
+use plan_answers::ScheduleSource;
 use refusals::PortName;
 use std::alloc::{AllocError, Global};
 use std::io;
 use std::io::{ErrorKind, Read, Write};
 use std::thread::Threads;
-use switch_driver::Lines;
+use switch_driver::LineObserver;
 
 /// How a drive by lines ended, and why a setting couldn't be told, or no line be read, where that
 /// was so.
@@ -42,7 +42,7 @@ struct LinesEnd {
 fn answer_lines<R: AllocGlobal + Threads + Sync, P: Ports, I: Read, O: Write, E: Write>(
     rt: &R,
     workers: WorkerCount,
-    source: &Source<Text>,
+    source: &ScheduleSource<Text>,
     contents: &Contents,
     first: usize,
     names: PortNames<'_>,
@@ -69,7 +69,7 @@ fn answer_lines<R: AllocGlobal + Threads + Sync, P: Ports, I: Read, O: Write, E:
     let (list, wiring) = (text_of(&contents.list), slice_of(&contents.wiring));
     let source = source_with(source, text_of(&contents.schedule));
     let alloc = rt.alloc();
-    let mut stage = Warned::new(Lines::new(input, out, !goes_on), warning, err);
+    let mut stage = WarningObserver::new(LineObserver::new(input, out, !goes_on), warning, err);
     let end = answer_drive(
         rt, alloc, wiring, list, source, workers, first, names, ports, &mut stage,
     );
@@ -86,7 +86,7 @@ fn answer_lines<R: AllocGlobal + Threads + Sync, P: Ports, I: Read, O: Write, E:
 pub(crate) fn drive<R: AllocGlobal + Threads + Sync, P: Ports, I: Read, O: Write, E: Write>(
     rt: &R,
     workers: WorkerCount,
-    source: &Source<Text>,
+    source: &ScheduleSource<Text>,
     contents: &Contents,
     first: usize,
     names: PortNames<'_>,
@@ -96,7 +96,7 @@ pub(crate) fn drive<R: AllocGlobal + Threads + Sync, P: Ports, I: Read, O: Write
     out: &mut O,
     warning: Option<String>,
     err: &mut E,
-) -> Result<JobResult, NoAnswer>
+) -> Result<JobResult, JobFailure>
     ensures answer { HasTold (O.contents out.old) (O.contents out.new)
         (λ told found. let files = contents_in contents.now in
         IsDriveBy (source_in source.now (text_in files.schedule)) (text_in files.list) files.wiring
@@ -116,7 +116,7 @@ pub(crate) fn drive<R: AllocGlobal + Threads + Sync, P: Ports, I: Read, O: Write
     match end {
         Ok(end) => {
             let failure = ports.take_failure();
-            let lack = lack_of(rt.alloc(), names, failure, end.sight, reason);
+            let lack = failure_of(rt.alloc(), names, failure, end.sight, reason);
             Ok(JobResult {
                 lack,
                 ..JobResult::alone(end.answer)
@@ -127,17 +127,17 @@ pub(crate) fn drive<R: AllocGlobal + Threads + Sync, P: Ports, I: Read, O: Write
 }
 
 /// Why nothing is printed after settings. A setting couldn't be told for this reason.
-fn missed_by(fault: DriveFault, reason: Option<io::Error>) -> NoAnswer
+fn missed_by(fault: DriveFault, reason: Option<io::Error>) -> JobFailure
     ensures { IsNoAnswer result × IsMissedFor fault result }
 {
     match fault {
-        DriveFault::Untold => NoAnswer::Unwritten(Unwritten::Setting(reason)),
-        DriveFault::NoMemory => NoAnswer::from(AllocError),
+        DriveFault::Untold => JobFailure::OutputFailure(OutputFailure::Setting(reason)),
+        DriveFault::NoMemory => JobFailure::from(AllocError),
     }
 }
 
 /// What is told of a port that failed, of an output that disagrees, or of input that can't be read.
-fn lack_of(
+fn failure_of(
     alloc: Global,
     names: PortNames<'_>,
     failure: Option<PortFailure>,
@@ -145,16 +145,16 @@ fn lack_of(
     unread: Option<io::Error>,
 ) -> Option<IoFailure> {
     if let Some(failure) = failure {
-        return port_lack(alloc, names, &failure).ok();
+        return port_failure(alloc, names, &failure).ok();
     }
     if let Some(sight) = sight {
-        return sight_lack(alloc, names, &sight).ok();
+        return mismatch_failure(alloc, names, &sight).ok();
     }
-    input_lack(alloc, &unread?).ok()
+    input_failure(alloc, &unread?).ok()
 }
 
 /// What is told of a port that couldn't be opened, or that failed.
-fn port_lack(
+fn port_failure(
     alloc: Global,
     names: PortNames<'_>,
     failure: &PortFailure,
@@ -177,7 +177,7 @@ fn port_lack(
 }
 
 /// What is told of an output that disagrees.
-fn sight_lack(
+fn mismatch_failure(
     alloc: Global,
     names: PortNames<'_>,
     sight: &OutputMismatch,
@@ -192,7 +192,7 @@ fn sight_lack(
 }
 
 /// What is told of standard input that can't be read.
-fn input_lack(alloc: Global, unread: &io::Error) -> Result<IoFailure, AllocError> {
+fn input_failure(alloc: Global, unread: &io::Error) -> Result<IoFailure, AllocError> {
     let name = format!(in alloc; "-")?;
     let why = unread.to_string(alloc)?;
     Ok(IoFailure { name, why })

@@ -4,16 +4,16 @@
 ghost use Rattle.named_files.specs.Notes.{HasToldLines};
 
 use command_words::{SharedRack, Text};
-use kept_sessions::Cut;
-use named_files::{IoFailure, lack_line, tell_line};
+use recorded_sessions::CutEntry;
+use named_files::{IoFailure, failure_line, tell_line};
 use record_replay::Torn;
 use std::alloc::{AllocError, Global};
 use std::io::Write;
 use std::sync::OnceLock;
 
 /// What was cut off from the record with which sessions went on, where something was.
-pub(crate) fn cut_lack(alloc: Global, rack: &SharedRack, cut: Option<Cut>) -> Option<IoFailure> {
-    let (Cut { line, bytes }, name) = (cut?, rack.record_name()?.as_str());
+pub(crate) fn cut_note(alloc: Global, rack: &SharedRack, cut: Option<CutEntry>) -> Option<IoFailure> {
+    let (CutEntry { line, bytes }, name) = (cut?, rack.record_name()?.as_str());
     let ending = if bytes == 1 { "" } else { "s" };
     Some(IoFailure {
         name: format!(in alloc; "{name}").ok()?,
@@ -22,7 +22,7 @@ pub(crate) fn cut_lack(alloc: Global, rack: &SharedRack, cut: Option<Cut>) -> Op
 }
 
 /// How far a record goes that hasn't ended, where it hasn't.
-pub(crate) fn torn_lack(alloc: Global, recorded: &Text, torn: Option<Torn>) -> Option<IoFailure> {
+pub(crate) fn torn_note(alloc: Global, recorded: &Text, torn: Option<Torn>) -> Option<IoFailure> {
     let torn = torn?;
     let (entries, bytes, name) = (torn.entries, torn.offset, recorded.as_str());
     let ending = if entries == 1 { "y" } else { "ies" };
@@ -33,7 +33,7 @@ pub(crate) fn torn_lack(alloc: Global, recorded: &Text, torn: Option<Torn>) -> O
 }
 
 /// A place for what lacks of each of so many clients. Each is empty.
-pub(crate) fn no_lacks(
+pub(crate) fn no_failures(
     alloc: Global,
     clients: usize,
 ) -> Result<Vec<OnceLock<IoFailure>>, AllocError> {
@@ -57,7 +57,7 @@ pub(crate) fn report_failure<E: Write>(
         return;
     }
     if let Some(lack) = lack
-        && let Some(line) = lack_line(alloc, lack)
+        && let Some(line) = failure_line(alloc, lack)
     {
         tell_line(line.as_str().as_bytes(), err);
     }

@@ -2,7 +2,7 @@
 
 ghost use Rattle.std.specs.Prelude.{◌≡◌, [], List, ℕ, IfErr, IfOk, IsOk, OnErr, OnOk, Option, None, length};
 ghost use Rattle.std.specs.Io.KnownBytes.{Appends};
-ghost use Rattle.batch_book.specs.History.{Account};
+ghost use Rattle.batch_book.specs.History.{BookView};
 ghost use Rattle.plan_answers.specs.Lent.{bytes_of};
 ghost use Rattle.command_words.specs.Jobs.{IsWithinLimits, files_of};
 ghost use Rattle.command_words.specs.declared.jobs.Job.TheVariants.{Ports as OverPorts, Texts as OfTexts};
@@ -16,10 +16,10 @@ ghost use Rattle.named_files.specs.Outputs.{AreNamed, AreOpened, begins_with, is
 ghost use Rattle.exchange.specs.Outcomes.{HasTold, IsNothing, IsUnanswered, response_of};
 ghost use Rattle.named_files.specs.Notes.{IsNoAnswer, IsRefused};
 
-use crate::answered::{Answered, finished};
+use crate::answered::{NotedAnswer, finished};
 use crate::devices::Devices;
 use crate::driving::drive;
-use crate::failures::{cut_lack, no_lacks, report_failure, report_failures, torn_lack};
+use crate::failures::{cut_note, no_failures, report_failure, report_failures, torn_note};
 use crate::note_writer::NoteWriter;
 use crate::unserved::{close_outputs, without_sessions};
 use crate::warnings::{overlap_warning_of, tell_beside, warning_of};
@@ -27,10 +27,10 @@ use client_session::NoListener;
 use command_words::{Job, PortJob, Request, SessionJob, Text, TextJob};
 use drive_answers::{PortNames, Ports};
 use exchange_limits::WorkerCount;
-use kept_sessions::{JobResult, Kept, host, serve, talk};
-use link_ends::{EndFault, SwitchEnd, answer_commands};
+use recorded_sessions::{JobResult, SessionsResult, host, serve, talk};
+use link_devices::{EndFault, SwitchEnd, answer_commands};
 use named_files::{
-    Contents, DistinctFiles, NoAnswer, Outputs, Receipts, Runtime, System, Unwritten,
+    Contents, DistinctFiles, JobFailure, Outputs, Receipts, ProgramRuntime, System, OutputFailure,
     open_distinct, read_contents, reason_line, slice_of, source_with, tell_note, text_of,
 };
 use plan_answers::{Answer, answer_check, answer_direct, answer_draw, answer_plan, answer_prices};
@@ -43,7 +43,7 @@ use std::thread::Threads;
 
 /// How a job ended, and what is left of what was opened for it to be written.
 pub(crate) struct JobEnd<C> {
-    pub(crate) end: Result<Answered, NoAnswer>,
+    pub(crate) end: Result<NotedAnswer, JobFailure>,
     pub(crate) receipts: Receipts<C>,
 }
 
@@ -56,7 +56,7 @@ pub(crate) struct JobEnd<C> {
 /// ended. It is looked first where names lead. Then the files for the record of sessions and for the
 /// image that they leave are opened, before any other is read, and all that are read are read before
 /// anything is answered.
-pub(crate) fn answer_to<R: Runtime, S: System, P: Ports, I: Read, O: Write, E: Write>(
+pub(crate) fn run_job<R: ProgramRuntime, S: System, P: Ports, I: Read, O: Write, E: Write>(
     rt: &R,
     system: &S,
     peers: &mut Devices<P>,
@@ -86,12 +86,12 @@ pub(crate) fn answer_to<R: Runtime, S: System, P: Ports, I: Read, O: Write, E: W
             };
         }
     };
-    let Kept {
+    let SessionsResult {
         end,
         receipts,
         lost,
         cut: _,
-    } = answer_read(
+    } = run_job_on(
         rt, system, peers, request, &apart, &contents, outputs, input, out, err,
     );
     JobEnd {
@@ -105,9 +105,9 @@ fn read_opened<S: System, I: Read>(
     system: &S,
     alloc: Global,
     job: &Job,
-    opened: Result<DistinctFiles, NoAnswer>,
+    opened: Result<DistinctFiles, JobFailure>,
     input: &mut I,
-) -> Result<(DistinctFiles, Contents), NoAnswer>
+) -> Result<(DistinctFiles, Contents), JobFailure>
     requires apart { IfOk opened (λ apart. apart ≡ job.now) }
     requires note { IfErr opened (λ missed. IsRefused missed) }
     ensures apart { IfOk result (λ read. read.0 ≡ job.now) }
@@ -125,9 +125,9 @@ fn read_opened<S: System, I: Read>(
 }
 
 /// What comes of a job whose files contain this, and of the files that are open for it. Only
-/// sessions wait, for a lock or for a client: `answer_alone` and `answer_ports` aren't handed what
+/// sessions wait, for a lock or for a client: `run_text_job` and `run_port_job` aren't handed what
 /// that takes, and so return, but that a read may block.
-fn answer_read<R: Runtime, S: System, P: Ports, I: Read, O: Write, E: Write>(
+fn run_job_on<R: ProgramRuntime, S: System, P: Ports, I: Read, O: Write, E: Write>(
     rt: &R,
     system: &S,
     peers: &mut Devices<P>,
@@ -138,7 +138,7 @@ fn answer_read<R: Runtime, S: System, P: Ports, I: Read, O: Write, E: Write>(
     input: &mut I,
     out: &mut O,
     err: &mut E,
-) -> Kept<S::Receipt>
+) -> SessionsResult<S::Receipt>
     requires limits { IsWithinLimits request.now.job }
     requires apart { apart.now ≡ request.now.job }
     requires unserved { peers.old.endings.items ≡ [] }
@@ -149,7 +149,7 @@ fn answer_read<R: Runtime, S: System, P: Ports, I: Read, O: Write, E: Write>(
         (output_of request.now.job) outputs }
     requires named { AreNamed (record_of request.now.job) (output_of request.now.job) outputs }
     ensures response { HasTold (O.contents out.old) (O.contents out.new)
-        (λ told found. (left : Option Account) × IsAnswerTo (S.holds system.now) request.now.job
+        (λ told found. (left : Option BookView) × IsAnswerTo (S.holds system.now) request.now.job
         (contents_in contents.now)
         (given_by (I.remaining input.old) (P.ways peers.old.ports)
         (clients_by (S.says system.now) (S.had system.now)))
@@ -171,11 +171,11 @@ fn answer_read<R: Runtime, S: System, P: Ports, I: Read, O: Write, E: Write>(
     let (alloc, is_quiet) = (rt.alloc(), request.is_quiet);
     match &request.job {
         Job::Texts(job) => {
-            let end = answer_alone(rt, request, job, contents, err);
+            let end = run_text_job(rt, request, job, contents, err);
             without_sessions(system, &request.job, end, outputs)
         }
         Job::Ports(job) => {
-            let end = answer_ports(
+            let end = run_port_job(
                 rt,
                 &mut peers.ports,
                 request,
@@ -193,12 +193,12 @@ fn answer_read<R: Runtime, S: System, P: Ports, I: Read, O: Write, E: Write>(
             }
             SessionJob::Host { clients, workers } => {
                 let clients = clients.as_slice();
-                let lacks = match no_lacks(alloc, clients.len()) {
+                let lacks = match no_failures(alloc, clients.len()) {
                     Ok(lacks) => lacks,
                     Err(error) => return without_sessions(
                         system,
                         &request.job,
-                        Err(NoAnswer::from(error)),
+                        Err(JobFailure::from(error)),
                         outputs,
                     ),
                 };
@@ -218,7 +218,7 @@ fn answer_read<R: Runtime, S: System, P: Ports, I: Read, O: Write, E: Write>(
                 report_failures(alloc, lacks, is_quiet, err);
                 report_failure(
                     alloc,
-                    cut_lack(alloc, rack, kept.cut).as_ref(),
+                    cut_note(alloc, rack, kept.cut).as_ref(),
                     is_quiet,
                     err,
                 );
@@ -241,7 +241,7 @@ fn answer_read<R: Runtime, S: System, P: Ports, I: Read, O: Write, E: Write>(
                 beside.into_stream();
                 report_failure(
                     alloc,
-                    cut_lack(alloc, rack, kept.cut).as_ref(),
+                    cut_note(alloc, rack, kept.cut).as_ref(),
                     is_quiet,
                     err,
                 );
@@ -253,7 +253,7 @@ fn answer_read<R: Runtime, S: System, P: Ports, I: Read, O: Write, E: Write>(
 
 /// The answer to a job of a switch, whose files contain this. It waits for nobody but for a line of
 /// `input`.
-fn answer_ports<R: AllocGlobal + Threads + Sync, P: Ports, I: Read, O: Write, E: Write>(
+fn run_port_job<R: AllocGlobal + Threads + Sync, P: Ports, I: Read, O: Write, E: Write>(
     rt: &R,
     ports: &mut P,
     request: &Request,
@@ -262,7 +262,7 @@ fn answer_ports<R: AllocGlobal + Threads + Sync, P: Ports, I: Read, O: Write, E:
     input: &mut I,
     out: &mut O,
     err: &mut E,
-) -> Result<JobResult, NoAnswer>
+) -> Result<JobResult, JobFailure>
     requires { request.now.job ≡ OverPorts job.now }
     ensures response { HasTold (O.contents out.old) (O.contents out.new)
         (λ told found. IsPortAnswer job.now (contents_in contents.now) (I.remaining input.old)
@@ -302,13 +302,13 @@ fn answer_ports<R: AllocGlobal + Threads + Sync, P: Ports, I: Read, O: Write, E:
 
 /// The answer to a job whose files are all that it asks for, with what is told beside it. It waits
 /// for nobody.
-fn answer_alone<R: AllocGlobal + Threads + Sync, E: Write>(
+fn run_text_job<R: AllocGlobal + Threads + Sync, E: Write>(
     rt: &R,
     request: &Request,
     job: &TextJob,
     contents: &Contents,
     err: &mut E,
-) -> Result<JobResult, NoAnswer>
+) -> Result<JobResult, JobFailure>
     requires { request.now.job ≡ OfTexts job.now }
     ensures text { IfOk result (λ found.
         IsTextAnswer job.now (contents_in contents.now) found.answer) }
@@ -320,7 +320,7 @@ fn answer_alone<R: AllocGlobal + Threads + Sync, E: Write>(
     let found = answer_texts(rt, job, contents)?;
     match job {
         TextJob::Replay { recorded, .. } => {
-            let lack = torn_lack(alloc, recorded, found.torn);
+            let lack = torn_note(alloc, recorded, found.torn);
             report_failure(alloc, lack.as_ref(), request.is_quiet, err);
             Ok(found)
         }
@@ -430,7 +430,7 @@ fn c004<I: Read, O: Write, E: Write>(
     input: &mut I,
     out: &mut O,
     err: &mut E,
-) -> Result<JobResult, NoAnswer>
+) -> Result<JobResult, JobFailure>
     ensures answer { HasTold (O.contents out.old) (O.contents out.new)
         (λ told found. IsC004By (I.remaining input.old) told found.answer)
         IsNothing (IsC004Cut (I.remaining input.old)) result }
@@ -444,6 +444,6 @@ fn c004<I: Read, O: Write, E: Write>(
             tell_note(&reason_line(alloc, "-", &error), false, err);
             Ok(JobResult::alone(Answer::failed(Vec::new(alloc))))
         }
-        Err(EndFault::Write(error)) => Err(NoAnswer::Unwritten(Unwritten::from(error))),
+        Err(EndFault::Write(error)) => Err(JobFailure::OutputFailure(OutputFailure::from(error))),
     }
 }

@@ -11,7 +11,7 @@
 //! is told before it, and fronts of what sessions leave went to the files for that (`IsCutFor`).
 //! Else what sessions leave went to the files that `--record` and `--image-out` name, and nothing
 //! else did (`AreKept` of `specs/Keeping.antt`). The record of live sessions goes on from what its
-//! file held (`BeginsAs` of `kept_sessions`), and in the end has each entry of which somebody was
+//! file held (`BeginsAs` of `recorded_sessions`), and in the end has each entry of which somebody was
 //! told. What a live client was told went to the file of its name (`clients_by` of `named_files`).
 //! No port was opened but by `drive`, once, by the names of its words (`Ways` of `drive_answers`).
 //! Which bytes a file holds, and where names lead, the [`System`](named_files::System) tells: of
@@ -40,7 +40,7 @@ use crate::devices::Devices;
 use crate::limits::UNWRITTEN;
 use crate::promises::answer;
 use crate::responding::ProgramExit;
-use named_files::{HostPorts, Unwritten};
+use named_files::{HostPorts, OutputFailure};
 use std::fs::{File, OpenOptions};
 use std::os::fd::{AsRawFd, IntoRawFd};
 use std::process::ExitCode;
@@ -49,7 +49,7 @@ use std::{env, io, mem};
 
 fn main(rt: HostRuntime) -> ExitCode {
     if let Err(error) = take_standard(&rt) {
-        Unwritten::from(error).tell(&mut rt.stderr());
+        OutputFailure::from(error).tell(&mut rt.stderr());
         return ExitCode::from(UNWRITTEN);
     }
     let arguments = command_line(&rt);

@@ -50,11 +50,11 @@ impl<'a, E: Write> Listener for NoteWriter<'a, E> {
 
     ghost may_tell = { MayTell };
 
-    fn heard(&mut self, text: &[u8]) {
+    fn on_lines(&mut self, text: &[u8]) {
         self.heard = Vec::from_slice(self.alloc, text).ok();
     }
 
-    fn refused(&mut self, refusal: Refusal) {
+    fn on_refusal(&mut self, refusal: Refusal) {
         let Some(heard) = &self.heard else {
             return;
         };

@@ -4,21 +4,21 @@
 //! status it ends. The clause of that is what the program promises, over the definitions of
 //! `specs/Promises.antt`: who reads these has read what it is proved to do.
 //!
-//! By its bounds `answer` may wait, and so may `respond`, `print_response`, `answer_to` and
-//! `answer_read` below it. These have no loop, and hand on jobs without sessions to `answer_alone`
-//! and `answer_ports`, which by their bounds can't wait.
+//! By its bounds `answer` may wait, and so may `respond`, `print_response`, `run_job` and
+//! `run_job_on` below it. These have no loop, and hand on jobs without sessions to `run_text_job`
+//! and `run_port_job`, which by their bounds can't wait.
 
 ghost use Rattle.std.specs.Prelude.{◌≡◌, [], IfOk, OnErr};
 ghost use Rattle.std.specs.Io.KnownBytes.{Appends};
 ghost use Rattle.std.specs.Process.{exit_status};
 ghost use Rattle.command_words.specs.Jobs.{texts_of};
-ghost use Rattle.exchange.specs.Promises.{KeepsPromises, KeepsUnread, clients_of, kept_by, run_of, world_of};
+ghost use Rattle.exchange.specs.Promises.{KeepsPromises, KeepsUnread, clients_of, saved_by, run_of, world_of};
 ghost use Rattle.named_files.specs.Notes.{IsToldInPart};
 
 use crate::devices::Devices;
 use crate::responding::{ProgramExit, respond};
 use drive_answers::Ports;
-use named_files::{Runtime, System};
+use named_files::{ProgramRuntime, System};
 use std::io;
 use std::io::{Read, Write};
 
@@ -27,7 +27,7 @@ use std::io::{Read, Write};
 ///
 /// A file that is `-` is read from `input`. What is printed goes to `out`, and what is told beside
 /// it to `err`.
-pub fn answer<R: Runtime, S: System, P: Ports, I: Read, O: Write, E: Write>(
+pub fn answer<R: ProgramRuntime, S: System, P: Ports, I: Read, O: Write, E: Write>(
     rt: &R,
     system: &S,
     peers: &mut Devices<P>,
@@ -42,7 +42,7 @@ pub fn answer<R: Runtime, S: System, P: Ports, I: Read, O: Write, E: Write>(
         (Appends (O.contents out.old) (O.contents out.new)) (texts_of w.items)
         (exit_status result.code))
         (P.ways peers.old.ports) (P.ways peers.new.ports)
-        (kept_by S.received result.receipts)
+        (saved_by S.received result.receipts)
         (clients_of (S.says system.now) (S.had system.now) peers.new.endings.items))
         (IsToldInPart (O.contents out.old) (O.contents out.new))) }
     // Where the arguments can't be read as texts.
@@ -50,7 +50,7 @@ pub fn answer<R: Runtime, S: System, P: Ports, I: Read, O: Write, E: Write>(
         (world_of (run_of (S.holds system.now) (I.remaining input.old)
         (Appends (O.contents out.old) (O.contents out.new)) [] (exit_status result.code))
         (P.ways peers.old.ports) (P.ways peers.new.ports)
-        (kept_by S.received result.receipts)
+        (saved_by S.received result.receipts)
         (clients_of (S.says system.now) (S.had system.now) peers.new.endings.items))) }
 {
     respond(rt, system, peers, arguments, input, out, err)

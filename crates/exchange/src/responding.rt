@@ -7,17 +7,17 @@ ghost use Rattle.command_words.specs.Jobs.{texts_of};
 ghost use Rattle.exchange.specs.Responses.{given_by, named_by};
 ghost use Rattle.named_files.specs.Notes.{unanswered, IsToldInPart, IsToldUnless};
 ghost use Rattle.named_files.specs.Clients.{clients_by, ends_of};
-ghost use Rattle.named_files.specs.Outputs.{lost_none, IsUnwrittenTold};
+ghost use Rattle.named_files.specs.Outputs.{no_write_failures, IsUnwrittenTold};
 ghost use Rattle.exchange.specs.Ends.{IsLeft, IsNoneLeft, IsPrinted, leaving, streams_of, IsCutFor, IsEndForArguments, IsEndWithoutArguments, IsFaultCut, IsFaultEnd, IsUnwrittenOf};
 
-use crate::answered::Answered;
+use crate::answered::NotedAnswer;
 use crate::devices::Devices;
-use crate::jobs::{JobEnd, answer_to};
+use crate::jobs::{JobEnd, run_job};
 use crate::limits::{MISUSED, UNWRITTEN};
 use byte_streams::write_bytes;
 use command_words::{ArgumentsFault, read_arguments};
 use drive_answers::Ports;
-use named_files::{NoAnswer, Receipts, Runtime, System, Unanswered, Unwritten, tell_note};
+use named_files::{JobFailure, Receipts, ProgramRuntime, System, RefusalCause, OutputFailure, tell_note};
 use plan_answers::{Answer, DONE, REFUSED};
 use refusals::Refusal;
 use std::alloc::{AllocError, Global};
@@ -38,7 +38,7 @@ pub struct ProgramExit<C> {
 ///
 /// A file that is `-` is read from `input`. Answers, refusals and the texts of help go to `out`;
 /// arguments that fit no command are answered on `err`.
-pub fn respond<R: Runtime, S: System, P: Ports, I: Read, O: Write, E: Write>(
+pub fn respond<R: ProgramRuntime, S: System, P: Ports, I: Read, O: Write, E: Write>(
     rt: &R,
     system: &S,
     peers: &mut Devices<P>,
@@ -94,7 +94,7 @@ pub fn respond<R: Runtime, S: System, P: Ports, I: Read, O: Write, E: Write>(
 }
 
 /// The status that the program ends with. What couldn't be written is told on `err`.
-fn status_of<E: Write>(end: Result<u8, Unwritten>, err: &mut E) -> ExitCode
+fn status_of<E: Write>(end: Result<u8, OutputFailure>, err: &mut E) -> ExitCode
     ensures done { IfOk end (λ status.
         (exit_status result ≡ status) × (E.contents err.new ≡ E.contents err.old)) }
     ensures unwritten { OnErr end (exit_status result ≡ UNWRITTEN) }
@@ -115,11 +115,11 @@ fn print_without_arguments<O: Write, E: Write>(
     error: &io::Error,
     out: &mut O,
     err: &mut E,
-) -> Result<u8, Unwritten>
+) -> Result<u8, OutputFailure>
     ensures { IfOk result (IsEndWithoutArguments (O.contents out.old) (O.contents out.new)) }
 {
     if error.kind() == ErrorKind::OutOfMemory {
-        return refuse(Unanswered::NoMemory, out);
+        return refuse(RefusalCause::NoMemory, out);
     }
     err.write_all(b"error: a word isn't UTF-8 text\n")?;
     Ok(MISUSED)
@@ -127,7 +127,7 @@ fn print_without_arguments<O: Write, E: Write>(
 
 /// Does what the arguments ask for, prints its answer, or why it has none, and tells a line beside
 /// a refusal. The error is that of writing the answer.
-fn print_response<R: Runtime, S: System, P: Ports, I: Read, O: Write, E: Write>(
+fn print_response<R: ProgramRuntime, S: System, P: Ports, I: Read, O: Write, E: Write>(
     rt: &R,
     system: &S,
     peers: &mut Devices<P>,
@@ -135,7 +135,7 @@ fn print_response<R: Runtime, S: System, P: Ports, I: Read, O: Write, E: Write>(
     input: &mut I,
     out: &mut O,
     err: &mut E,
-) -> (Result<u8, Unwritten>, Receipts<S::Receipt>)
+) -> (Result<u8, OutputFailure>, Receipts<S::Receipt>)
     requires { peers.old.endings.items ≡ [] }
     ensures done { IfOk result.0 (IsEndForArguments
         (named_by (S.holds system.now) (S.leads system.now))
@@ -157,14 +157,14 @@ fn print_response<R: Runtime, S: System, P: Ports, I: Read, O: Write, E: Write>(
 {
     match read_arguments(rt.alloc(), arguments) {
         Ok(request) => {
-            let JobEnd { end, receipts } = answer_to(rt, system, peers, &request, input, out, err);
+            let JobEnd { end, receipts } = run_job(rt, system, peers, &request, input, out, err);
             let is_quiet = request.is_quiet;
             match end {
                 Ok(done) => (print_noted(done, is_quiet, out, err), receipts),
-                Err(NoAnswer::Refused { why, note }) => {
+                Err(JobFailure::Refused { why, note }) => {
                     (refuse_noted(why, &note, is_quiet, out, err), receipts)
                 }
-                Err(NoAnswer::Unwritten(unwritten)) => (Err(unwritten), receipts),
+                Err(JobFailure::OutputFailure(unwritten)) => (Err(unwritten), receipts),
             }
         }
         Err(fault) => (
@@ -181,13 +181,13 @@ fn print_fault<O: Write, E: Write>(
     fault: ArgumentsFault,
     out: &mut O,
     err: &mut E,
-) -> Result<u8, Unwritten>
+) -> Result<u8, OutputFailure>
     ensures done { IfOk result (IsFaultEnd fault (streams_of (O.contents out.old)
         (O.contents out.new) (E.contents err.old) (E.contents err.new))) }
     ensures cut { OnErr result (IsFaultCut fault (O.contents out.old) (O.contents out.new)) }
 {
     match fault {
-        ArgumentsFault::NoMemory => refuse(Unanswered::NoMemory, out),
+        ArgumentsFault::NoMemory => refuse(RefusalCause::NoMemory, out),
         ArgumentsFault::Clap(error) if error.use_stderr() => {
             write!(err, "{error}")?;
             Ok(MISUSED)
@@ -227,39 +227,39 @@ fn installed_help(alloc: Global, help: &clap::Error) -> Result<String, AllocErro
 /// error is what couldn't be written: what sessions leave, which is written before, the answer, or
 /// both.
 fn print_noted<O: Write, E: Write>(
-    done: Answered,
+    done: NotedAnswer,
     is_quiet: bool,
     out: &mut O,
     err: &mut E,
-) -> Result<u8, Unwritten>
+) -> Result<u8, OutputFailure>
     ensures printed { IfOk result (λ status. IsPrinted (O.contents out.old) (O.contents out.new)
-        done.answer status × (done.lost ≡ lost_none)) }
+        done.answer status × (done.lost ≡ no_write_failures)) }
     ensures unwritten { IfErr result
         (IsUnwrittenOf done (O.contents out.old) (O.contents out.new)) }
     ensures told { IsToldUnless is_quiet (option_map (λ line. string_bytes line) done.note)
         (E.contents err.old) (E.contents err.new) }
 {
-    let Answered { answer, note, lost } = done;
+    let NotedAnswer { answer, note, lost } = done;
     let status = match print(&answer, out) {
         Ok(status) => status,
-        Err(error) => return Err(Unwritten::Answer { error, lost }),
+        Err(error) => return Err(OutputFailure::Answer { error, lost }),
     };
     tell_note(&note, is_quiet, err);
     if lost.is_none() {
         return Ok(status);
     }
-    Err(Unwritten::Kept(lost))
+    Err(OutputFailure::SessionFiles(lost))
 }
 
 /// Prints why there is no answer, then tells what there is to tell beside it, and gives the status
 /// of a refusal. Where standard output is a file of the job, nothing is printed there.
 fn refuse_noted<O: Write, E: Write>(
-    why: Unanswered,
+    why: RefusalCause,
     note: &Option<String>,
     is_quiet: bool,
     out: &mut O,
     err: &mut E,
-) -> Result<u8, Unwritten>
+) -> Result<u8, OutputFailure>
     ensures printed { IfOk result
         (IsPrinted (O.contents out.old) (O.contents out.new) (unanswered why)) }
     ensures cut { OnErr result
@@ -267,9 +267,9 @@ fn refuse_noted<O: Write, E: Write>(
     ensures told { IsToldUnless is_quiet (option_map (λ line. string_bytes line) note.now)
         (E.contents err.old) (E.contents err.new) }
 {
-    if let Unanswered::Output = why {
+    if let RefusalCause::Output = why {
         tell_note(note, is_quiet, err);
-        return Err(Unwritten::Nowhere);
+        return Err(OutputFailure::Nowhere);
     }
     let status = refuse(why, out)?;
     tell_note(note, is_quiet, err);
@@ -288,7 +288,7 @@ fn print<O: Write>(answer: &Answer, out: &mut O) -> io::Result<u8>
 }
 
 /// Prints why there is no answer, and gives the status of a refusal.
-fn refuse<O: Write>(why: Unanswered, out: &mut O) -> Result<u8, Unwritten>
+fn refuse<O: Write>(why: RefusalCause, out: &mut O) -> Result<u8, OutputFailure>
     ensures printed { IfOk result
         (IsPrinted (O.contents out.old) (O.contents out.new) (unanswered why)) }
     ensures cut { OnErr result

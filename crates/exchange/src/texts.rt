@@ -2,20 +2,20 @@
 
 use batch::position_of;
 use command_words::{Job, Text, TextJob};
-use kept_sessions::JobResult;
+use recorded_sessions::JobResult;
 use named_files::{Contents, slice_of};
 use record_replay::RecordError;
-use refusal_notes::{Listing, Named, Opening, Texts};
+use refusal_notes::{Listing, NamedText, OpeningRack, RefusalContext};
 use refusals::Refusal;
 
 /// A file's name, and what it contains, where one was read.
-fn named<'a>(name: Option<&'a Text>, file: &'a Option<Vec<u8>>) -> Named<'a> {
+fn named<'a>(name: Option<&'a Text>, file: &'a Option<Vec<u8>>) -> NamedText<'a> {
     match (name, file) {
-        (Some(name), Some(file)) => Named {
+        (Some(name), Some(file)) => NamedText {
             name: name.as_str(),
             text: file.as_slice(),
         },
-        _ => Named::NONE,
+        _ => NamedText::NONE,
     }
 }
 
@@ -46,13 +46,13 @@ fn shape_of(recorded: &[u8]) -> &str {
 
 /// These texts with a record, and with what is wrong with that, where something is.
 fn of_record<'a>(
-    texts: Texts<'a>,
-    recorded: Named<'a>,
+    texts: RefusalContext<'a>,
+    recorded: NamedText<'a>,
     error: &'a Option<RecordError>,
-) -> Texts<'a> {
-    let texts = Texts { recorded, ..texts };
+) -> RefusalContext<'a> {
+    let texts = RefusalContext { recorded, ..texts };
     match error {
-        Some(error) => Texts {
+        Some(error) => RefusalContext {
             offset: error.offset,
             due: slice_of(&error.due).unwrap_or(&[]),
             ..texts
@@ -67,32 +67,32 @@ pub(crate) fn texts_of<'a>(
     job: &'a Job,
     contents: &'a Contents,
     found: &'a JobResult,
-) -> Texts<'a> {
+) -> RefusalContext<'a> {
     let (files, error) = (job.files(), &found.error);
     let schedule = named(files.schedule, &contents.schedule);
-    let texts = Texts {
+    let texts = RefusalContext {
         list: named(files.list, &contents.list),
         other: named(files.image, &contents.image),
         wiring: named(files.wiring, &contents.wiring),
         validity: found.answer.validity(),
-        ..Texts::NONE
+        ..RefusalContext::NONE
     };
     match job {
-        Job::Texts(TextJob::Direct { .. }) => Texts {
+        Job::Texts(TextJob::Direct { .. }) => RefusalContext {
             listing: Listing::Moves,
             ..texts
         },
-        Job::Texts(TextJob::Draw { settings, .. }) => Texts {
+        Job::Texts(TextJob::Draw { settings, .. }) => RefusalContext {
             other: schedule,
             range: word_in(settings),
             ..texts
         },
-        Job::Texts(TextJob::Apply { shape, .. }) => Texts {
+        Job::Texts(TextJob::Apply { shape, .. }) => RefusalContext {
             shape: shape.as_str(),
             other: schedule,
             ..texts
         },
-        Job::Texts(TextJob::Run { shape, .. }) => Texts {
+        Job::Texts(TextJob::Run { shape, .. }) => RefusalContext {
             shape: shape.as_str(),
             other: match found.answer.refusal() {
                 Some(Refusal::Image { .. }) => texts.other,
@@ -102,26 +102,26 @@ pub(crate) fn texts_of<'a>(
         },
         Job::Texts(TextJob::Replay { shape, .. }) => {
             let recorded = texts.list;
-            let texts = Texts {
-                list: Named::NONE,
+            let texts = RefusalContext {
+                list: NamedText::NONE,
                 shape: match shape {
                     Some(shape) => shape.as_str(),
                     None => shape_of(recorded.text),
                 },
                 opening: match contents.image {
-                    Some(_) => Opening::Image,
-                    None => Opening::Zeros,
+                    Some(_) => OpeningRack::Image,
+                    None => OpeningRack::Zeros,
                 },
                 ..texts
             };
             of_record(texts, recorded, error)
         }
-        Job::Texts(_) | Job::Ports(_) => Texts {
+        Job::Texts(_) | Job::Ports(_) => RefusalContext {
             other: schedule,
             ..texts
         },
         Job::Sessions { rack, .. } => {
-            let texts = Texts {
+            let texts = RefusalContext {
                 shape: rack.shape.as_str(),
                 ..texts
             };

@@ -1,12 +1,12 @@
 //! What comes of a job by whose sessions nothing is written.
 
 ghost use Rattle.std.specs.Prelude.{◌≡◌, None};
-ghost use Rattle.named_files.specs.Outputs.{AreOpened, begins_with, is_live, lost_none, output_of, record_of};
+ghost use Rattle.named_files.specs.Outputs.{AreOpened, begins_with, is_live, no_write_failures, output_of, record_of};
 ghost use Rattle.exchange.specs.Keeping.{AreKept};
 
 use command_words::Job;
-use kept_sessions::{JobResult, Kept};
-use named_files::{Lost, NoAnswer, Outputs, Receipts, System, close_file};
+use recorded_sessions::{JobResult, SessionsResult};
+use named_files::{WriteFailures, JobFailure, Outputs, Receipts, System, close_file};
 
 /// Closes the files that are open, where nothing went to them.
 pub(crate) fn close_outputs<S: System>(
@@ -29,19 +29,19 @@ pub(crate) fn close_outputs<S: System>(
 pub(crate) fn without_sessions<S: System>(
     system: &S,
     job: &Job,
-    end: Result<JobResult, NoAnswer>,
+    end: Result<JobResult, JobFailure>,
     outputs: Outputs<'_, S::Stream>,
-) -> Kept<S::Receipt>
+) -> SessionsResult<S::Receipt>
     requires { AreOpened S.Stream.contents (begins_with (S.holds system.now) (is_live job.now))
         (record_of job.now) (output_of job.now) outputs }
     ensures end { result.end ≡ end }
-    ensures lost { result.lost ≡ lost_none }
+    ensures lost { result.lost ≡ no_write_failures }
     ensures unkept { AreKept (S.holds system.now) S.received job.now None result.receipts }
 {
-    Kept {
+    SessionsResult {
         end,
         receipts: close_outputs(system, job, outputs),
-        lost: Lost::none(),
+        lost: WriteFailures::none(),
         cut: None,
     }
 }

@@ -5,29 +5,29 @@ ghost use Rattle.exchange.specs.Warnings.{IsWarnedOnce};
 
 use named_files::tell_line;
 use std::io::{Read, Write};
-use switch_driver::{DriveObserver, Halt, Lines};
+use switch_driver::{DriveObserver, Halt, LineObserver};
 
 /// A stage that tells lines of settings, and before the first of them another line on standard
 /// error, where there is one. So that is told once, and nowhere where no setting stands.
 #[derive(Drop)]
-pub(crate) struct Warned<'a, 'e, I, O, E> {
-    lines: Lines<'a, I, O>,
+pub(crate) struct WarningObserver<'a, 'e, I, O, E> {
+    lines: LineObserver<'a, I, O>,
     warning: Option<String>,
     err: &'e mut E,
 }
 
-impl<'a, 'e, I, O, E> Warned<'a, 'e, I, O, E> {
+impl<'a, 'e, I, O, E> WarningObserver<'a, 'e, I, O, E> {
     /// Tells these lines, and this one on standard error.
     pub(crate) fn new(
-        lines: Lines<'a, I, O>,
+        lines: LineObserver<'a, I, O>,
         warning: Option<String>,
         err: &'e mut E,
-    ) -> Warned<'a, 'e, I, O, E>
+    ) -> WarningObserver<'a, 'e, I, O, E>
         ensures lines { result.lines ≡ lines.entry }
         ensures warning { result.warning ≡ warning }
         ensures err { (result.err.ghost_name ≡ err.entry.ghost_name) × (result.err.now ≡ err.old) }
     {
-        Warned {
+        WarningObserver {
             lines,
             warning,
             err,
@@ -35,7 +35,7 @@ impl<'a, 'e, I, O, E> Warned<'a, 'e, I, O, E> {
     }
 
     /// Gives the lines and standard error back.
-    pub(crate) fn into_parts(self) -> (Lines<'a, I, O>, &'e mut E)
+    pub(crate) fn into_parts(self) -> (LineObserver<'a, I, O>, &'e mut E)
         ensures lines { result.0 ≡ self.entry.lines }
         ensures err { (result.1.ghost_name ≡ self.entry.err.ghost_name)
             × (result.1.now ≡ self.entry.err.now) }
@@ -44,7 +44,7 @@ impl<'a, 'e, I, O, E> Warned<'a, 'e, I, O, E> {
     }
 }
 
-impl<I, O, E: Write> Warned<'_, '_, I, O, E> {
+impl<I, O, E: Write> WarningObserver<'_, '_, I, O, E> {
     /// Tells the warning, where it wasn't told before.
     fn warn(&mut self)
         ensures lines { self.new.lines ≡ self.old.lines }
@@ -56,14 +56,14 @@ impl<I, O, E: Write> Warned<'_, '_, I, O, E> {
     }
 }
 
-impl<I: Read, O: Write, E: Write> DriveObserver for Warned<'_, '_, I, O, E> {
+impl<I: Read, O: Write, E: Write> DriveObserver for WarningObserver<'_, '_, I, O, E> {
     ghost use Rattle.exchange.specs.Warnings.{HasToldWarned};
 
     ghost hears = { λ old setting numbers result new.
         HasToldWarned I.remaining O.contents E.contents setting numbers result old new };
 
-    fn stands(&mut self, setting: usize, numbers: &[usize]) -> Result<(), Halt> {
+    fn on_setting(&mut self, setting: usize, numbers: &[usize]) -> Result<(), Halt> {
         self.warn();
-        self.lines.stands(setting, numbers)
+        self.lines.on_setting(setting, numbers)
     }
 }

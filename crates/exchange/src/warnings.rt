@@ -14,7 +14,7 @@ use batch::{Batch, Shape, number_before};
 use command_words::{Job, Request, TextJob};
 use named_files::{Contents, tell_line, text_of};
 use plan_answers::Answer;
-use refusal_notes::{Named, Texts, file_line, second_line};
+use refusal_notes::{NamedText, RefusalContext, file_line, second_line};
 use refusals::Refusal;
 use std::alloc::Global;
 use std::io::Write;
@@ -24,15 +24,15 @@ pub const MAX_DRAWN: usize = 32_767;
 
 /// The line that tells of the first two transfers of a batch that write one block, where two do and
 /// there is memory for it.
-fn overlap_line(alloc: Global, list: Named<'_>) -> Option<String>
+fn overlap_line(alloc: Global, list: NamedText<'_>) -> Option<String>
     ensures whole { IfSome result (λ line. IsWholeLine (string_bytes line)) }
     ensures overlap { IfSome result (λ _. HasOverlap list.entry.text.now) }
 {
     let batch = Batch::read(alloc, list.text, Shape::WIDEST).ok()?;
     let (i, j) = batch.first_overlap()?;
-    let texts = Texts {
+    let texts = RefusalContext {
         list,
-        ..Texts::NONE
+        ..RefusalContext::NONE
     };
     second_line(alloc, Refusal::Overlap(i, j), texts)
 }
@@ -65,14 +65,14 @@ fn wide_line(alloc: Global, schedule: &str, picture: &[u8]) -> Option<String>
 }
 
 /// The batch of a job, and the name of its file.
-fn batch_of<'a>(job: &'a Job, contents: &'a Contents) -> Named<'a>
+fn batch_of<'a>(job: &'a Job, contents: &'a Contents) -> NamedText<'a>
     ensures { result.text.now ≡ text_in (contents_in contents.entry.now).list }
 {
     let name = match job.files().list {
         Some(name) => name.as_str(),
         None => "",
     };
-    Named {
+    NamedText {
         name,
         text: text_of(&contents.list),
     }

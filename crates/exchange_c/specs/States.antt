@@ -1,19 +1,19 @@
 -- What calls over a state of the caller's tell, and leave.
 use Rattle.std.specs.Prelude.{◌≡◌, ℕ, List, Bool, true, false, Option, Some, None, Result, Ok, Err}
-use Rattle.link_ends.specs.BootTaking.{EndTakesByte}
-use Rattle.link_ends.specs.declared.boot_fault.BootFault.{BootFault}
-use Rattle.link_ends.specs.declared.boot_fault.BootFault.TheVariants.{NoEnd, Refused}
-use Rattle.link_ends.specs.declared.boot_state.BootState.{BootState}
+use Rattle.link_devices.specs.BootTaking.{EndTakesByte}
+use Rattle.link_devices.specs.declared.boot_fault.BootFault.{BootFault}
+use Rattle.link_devices.specs.declared.boot_fault.BootFault.TheVariants.{NoEnd, Refused}
+use Rattle.link_devices.specs.declared.boot_state.BootState.{BootState}
 use Rattle.exchange_c.specs.declared.status.TheConstants.{REPLY, BOOTSTRAP, MISALIGNED, OUTSIDE, FAILED, LOOSE, NO_PORT, NO_STATE}
 use Rattle.peek_poke.specs.declared.fault.AnswerFault.TheVariants.{Boot, Misaligned, Outside, Failed}
 use Rattle.plan_answers.specs.declared.limits.TheConstants.{DONE, REFUSED}
-use Rattle.link_ends.specs.Asking.{AnswersSource, AnswersJoined}
-use Rattle.link_ends.specs.SwitchTaking.{SwitchTakesByte}
-use Rattle.link_ends.specs.declared.switch_fault.AskFault.{AskFault}
-use Rattle.link_ends.specs.declared.switch_fault.AskFault.TheVariants.{NoPort, NoSwitch as NoSwitchAsked}
-use Rattle.link_ends.specs.declared.switch_fault.TakeFault.{TakeFault}
-use Rattle.link_ends.specs.declared.switch_fault.TakeFault.TheVariants.{NoSwitch, Byte}
-use Rattle.link_ends.specs.declared.switch_state.SwitchState.{SwitchState}
+use Rattle.link_devices.specs.Asking.{AnswersSource, AnswersJoined}
+use Rattle.link_devices.specs.SwitchTaking.{SwitchTakesByte}
+use Rattle.link_devices.specs.declared.switch_fault.AskFault.{AskFault}
+use Rattle.link_devices.specs.declared.switch_fault.AskFault.TheVariants.{NoPort, NoSwitch as NoSwitchAsked}
+use Rattle.link_devices.specs.declared.switch_fault.TakeFault.{TakeFault}
+use Rattle.link_devices.specs.declared.switch_fault.TakeFault.TheVariants.{NoSwitch, Byte}
+use Rattle.link_devices.specs.declared.switch_state.SwitchState.{SwitchState}
 
 -- what a reply is left as: what is due, or as it was
 abbrev pub reply_left : {T E : Type 0} → Result (Option T) E → T → T

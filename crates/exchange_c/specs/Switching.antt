@@ -2,13 +2,13 @@
 use Rattle.std.specs.Prelude.{ℕ, List, [], ◌∷◌, Some, None, false}
 use Rattle.plan_answers.specs.Refusals.{Printed}
 use Rattle.plan_answers.specs.declared.source.Planning.TheVariants.{Plain}
-use Rattle.plan_answers.specs.declared.source.Source.{Source}
-use Rattle.plan_answers.specs.declared.source.Source.TheVariants.{Plan, Text}
+use Rattle.plan_answers.specs.declared.source.ScheduleSource.{ScheduleSource}
+use Rattle.plan_answers.specs.declared.source.ScheduleSource.TheVariants.{Plan, Text}
 use Rattle.rack_answers.specs.Orders.{IsOrdered}
 use Rattle.rack_answers.specs.Switching.{IsOn, IsSwitched}
 
 -- where the schedule comes from: a plan where its text is empty, and else that text
-abbrev pub source_for : List ℕ → Source (List ℕ)
+abbrev pub source_for : List ℕ → ScheduleSource (List ℕ)
 source_for [] = Plan Plain
 source_for (byte ∷ bytes) = Text (byte ∷ bytes)
 

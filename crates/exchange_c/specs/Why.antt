@@ -1,9 +1,9 @@
 -- What a call tells of the refusal that another call gives.
 use Rattle.std.specs.Prelude.{◌≡◌, ◌⊎◌, ◌==◌, ℕ, List, [], Option, Some, None, if◌then◌else◌}
-use Rattle.batch.specs.Extent.{widest}
+use Rattle.batch.specs.ShapeView.{widest}
 use Rattle.exchange_c.specs.Switching.{IsOrderedBy, IsSwitchedBy, IsSwitchedOn}
-use Rattle.exchange_c.specs.declared.why.Asked.{Asked}
-use Rattle.exchange_c.specs.declared.why.Asked.TheVariants.{Plan, Check, Switch, Apply, Draw, Changes, Direct, SwitchWired, Orders}
+use Rattle.exchange_c.specs.declared.why.LibraryCall.{LibraryCall}
+use Rattle.exchange_c.specs.declared.why.LibraryCall.TheVariants.{Plan, Check, Switch, Apply, Draw, Changes, Direct, SwitchWired, Orders}
 use Rattle.plan_answers.specs.Answers.{IsPlanned, IsChecked}
 use Rattle.plan_answers.specs.Counting.{IsCounted}
 use Rattle.plan_answers.specs.Directing.{IsDirected}
@@ -16,7 +16,7 @@ use Rattle.refusal_notes.specs.Told.{line_told}
 use Rattle.refusals.specs.declared.refusal.Refusal.{Refusal}
 
 -- the call of a number
-abbrev pub asked_by : ℕ → Option Asked
+abbrev pub asked_by : ℕ → Option LibraryCall
 asked_by number =
     if number == 0 then Some Plan else
     (if number == 1 then Some Check else
@@ -29,7 +29,7 @@ asked_by number =
     (if number == 8 then Some Orders else None))))))))
 
 -- what a call answers to its texts, in the order of its arguments
-abbrev pub IsAnswerOf : Asked → List ℕ → List ℕ → List ℕ → Printed → Type 0
+abbrev pub IsAnswerOf : LibraryCall → List ℕ → List ℕ → List ℕ → Printed → Type 0
 IsAnswerOf Plan batch second third = IsPlanned Plain widest batch
 IsAnswerOf Check batch schedule third = IsChecked widest batch schedule
 IsAnswerOf Switch batch schedule third = IsSwitchedBy batch schedule
@@ -41,7 +41,7 @@ IsAnswerOf SwitchWired batch schedule wiring = IsSwitchedOn wiring batch schedul
 IsAnswerOf Orders batch schedule third = IsOrderedBy batch schedule
 
 -- a line beside the refusal that the call gives of these texts, or nothing
-pub record IsWhy (asked : Asked) (first second third : List ℕ) (told : Printed) : Type 0 where
+pub record IsWhy (asked : LibraryCall) (first second third : List ℕ) (told : Printed) : Type 0 where
   pub answer : Printed
   pub its_answer : IsAnswerOf asked first second third answer
   pub its_status : told.status ≡ DONE

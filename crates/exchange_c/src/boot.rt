@@ -1,11 +1,11 @@
 //! The calls of a link's end that waits to boot, over a state and memory of their caller.
 
 ghost use Rattle.std.specs.Prelude.{◌≡◌};
-ghost use Rattle.link_ends.specs.BootStates.{IsBootState, new_boot_end, pending_of};
+ghost use Rattle.link_devices.specs.BootStates.{IsBootState, new_boot_end, pending_of};
 ghost use Rattle.exchange_c.specs.States.{FeedsByte, fault_status};
 
 use crate::status::{BOOTSTRAP, FAILED, MISALIGNED, NO_STATE, OUTSIDE, REPLY};
-use link_ends::{BootFault, BootState};
+use link_devices::{BootFault, BootState};
 use peek_poke::{AnswerFault, REPLY_BYTES};
 use plan_answers::DONE;
 

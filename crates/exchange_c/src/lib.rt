@@ -14,7 +14,7 @@
 #![tactic(auto)]
 
 ghost use Rattle.std.specs.Prelude.{◌≡◌, IfOk, OnErr, None};
-ghost use Rattle.batch.specs.Extent.{widest};
+ghost use Rattle.batch.specs.ShapeView.{widest};
 ghost use Rattle.plan_answers.specs.Answers.{IsPlanned, IsChecked};
 ghost use Rattle.plan_answers.specs.Counting.{IsCounted};
 ghost use Rattle.plan_answers.specs.Directing.{IsDirected};
@@ -33,7 +33,7 @@ mod why;
 pub use boot::{exchange_boot_reset, exchange_boot_take};
 use exchange_limits::WorkerCount;
 use plan_answers::{
-    Answer, Planning, Source, answer_changes, answer_check, answer_direct, answer_draw, answer_plan,
+    Answer, Planning, ScheduleSource, answer_changes, answer_check, answer_direct, answer_draw, answer_plan,
 };
 use rack_answers::{answer_apply, answer_orders, answer_switch};
 use schedule_certificate::NoThreads;
@@ -119,13 +119,13 @@ pub extern "C" fn exchange_check(
 }
 
 /// Where the schedule comes from: its text, or a plan where that is empty.
-fn source_of(schedule: &[u8]) -> Source<&[u8]>
+fn source_of(schedule: &[u8]) -> ScheduleSource<&[u8]>
     ensures { said_by result ≡ source_for schedule.now }
 {
     if schedule.is_empty() {
-        Source::Plan(Planning::Plain)
+        ScheduleSource::Plan(Planning::Plain)
     } else {
-        Source::Text(schedule)
+        ScheduleSource::Text(schedule)
     }
 }
 

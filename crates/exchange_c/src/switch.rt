@@ -1,11 +1,11 @@
 //! The calls of a switch, over a state of their caller.
 
 ghost use Rattle.std.specs.Prelude.{◌≡◌};
-ghost use Rattle.link_ends.specs.SwitchStates.{IsSwitchState, kept_end, new_switch_end};
+ghost use Rattle.link_devices.specs.SwitchStates.{IsSwitchState, kept_end, new_switch_end};
 ghost use Rattle.exchange_c.specs.States.{TakesByte, TellsSource, TellsJoined, fault_code};
 
 use crate::status::{LOOSE, NO_PORT, NO_STATE, REPLY};
-use link_ends::{AskFault, SwitchState, TakeFault};
+use link_devices::{AskFault, SwitchState, TakeFault};
 use plan_answers::{DONE, REFUSED};
 
 /// Makes the state that of a switch as after a reset, to which nothing has come.

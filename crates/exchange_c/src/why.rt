@@ -12,14 +12,14 @@ use plan_answers::{
     Answer, Planning, answer_changes, answer_check, answer_direct, answer_draw, answer_plan,
 };
 use rack_answers::{answer_apply, answer_orders, answer_switch};
-use refusal_notes::{Listing, Named, Texts, second_line};
+use refusal_notes::{Listing, NamedText, RefusalContext, second_line};
 use refusals::{Refusal, Validity};
 use schedule_certificate::NoThreads;
 use std::alloc::{AllocError, Global};
 
 /// A call that answers to texts.
 #[derive(Clone, Copy)]
-enum Asked {
+enum LibraryCall {
     Plan,
     Check,
     Switch,
@@ -33,7 +33,7 @@ enum Asked {
 
 /// The texts of a call, in the order of its arguments. Those that it hasn't have no effect.
 #[derive(Clone, Copy)]
-struct Given<'a> {
+struct CallTexts<'a> {
     first: &'a [u8],
     second: &'a [u8],
     third: &'a [u8],
@@ -41,11 +41,11 @@ struct Given<'a> {
 
 /// What the second line calls the texts, one name a line.
 #[derive(Clone, Copy)]
-struct Names<'a> {
+struct TextNames<'a> {
     lines: &'a str,
 }
 
-impl<'a> Names<'a> {
+impl<'a> TextNames<'a> {
     /// The name on the line of this number, counted from 0; the other where there is none.
     fn at(self, number: usize, other: &'static str) -> &'a str {
         match self.lines.split('\n').nth(number) {
@@ -55,36 +55,36 @@ impl<'a> Names<'a> {
     }
 }
 
-impl Asked {
+impl LibraryCall {
     /// The call of a number.
-    fn of(number: u8) -> Option<Asked>
+    fn of(number: u8) -> Option<LibraryCall>
         ensures { result ≡ asked_by number }
     {
         match number {
-            0 => Some(Asked::Plan),
-            1 => Some(Asked::Check),
-            2 => Some(Asked::Switch),
-            3 => Some(Asked::Apply),
-            4 => Some(Asked::Draw),
-            5 => Some(Asked::Changes),
-            6 => Some(Asked::Direct),
-            7 => Some(Asked::SwitchWired),
-            8 => Some(Asked::Orders),
+            0 => Some(LibraryCall::Plan),
+            1 => Some(LibraryCall::Check),
+            2 => Some(LibraryCall::Switch),
+            3 => Some(LibraryCall::Apply),
+            4 => Some(LibraryCall::Draw),
+            5 => Some(LibraryCall::Changes),
+            6 => Some(LibraryCall::Direct),
+            7 => Some(LibraryCall::SwitchWired),
+            8 => Some(LibraryCall::Orders),
             _ => None,
         }
     }
 
     /// What the call answers.
-    fn answer(self, alloc: Global, given: Given<'_>) -> Result<Answer, AllocError>
+    fn answer(self, alloc: Global, given: CallTexts<'_>) -> Result<Answer, AllocError>
         ensures { IfOk result (IsAnswerOf self
             given.entry.first.now given.entry.second.now given.entry.third.now) }
     {
         let (first, second, third) = (given.first, given.second, given.third);
         let (rt, workers) = (&NoThreads, WorkerCount::ONE);
         match self {
-            Asked::Plan => answer_plan(rt, alloc, first, Planning::Plain, workers),
-            Asked::Check => answer_check(alloc, first, second),
-            Asked::Switch => answer_switch(
+            LibraryCall::Plan => answer_plan(rt, alloc, first, Planning::Plain, workers),
+            LibraryCall::Check => answer_check(alloc, first, second),
+            LibraryCall::Switch => answer_switch(
                 rt,
                 alloc,
                 false,
@@ -93,11 +93,11 @@ impl Asked {
                 source_of(second),
                 workers,
             ),
-            Asked::Apply => answer_apply(alloc, first, second, third),
-            Asked::Draw => answer_draw(alloc, first, second, None),
-            Asked::Changes => answer_changes(alloc, first, second),
-            Asked::Direct => answer_direct(alloc, first),
-            Asked::SwitchWired => {
+            LibraryCall::Apply => answer_apply(alloc, first, second, third),
+            LibraryCall::Draw => answer_draw(alloc, first, second, None),
+            LibraryCall::Changes => answer_changes(alloc, first, second),
+            LibraryCall::Direct => answer_direct(alloc, first),
+            LibraryCall::SwitchWired => {
                 answer_switch(
                     rt,
                     alloc,
@@ -108,54 +108,54 @@ impl Asked {
                     workers,
                 )
             }
-            Asked::Orders => answer_orders(rt, alloc, first, source_of(second), None, workers),
+            LibraryCall::Orders => answer_orders(rt, alloc, first, source_of(second), None, workers),
         }
     }
 
     /// What its refusals are told of. The shape is that of a call that has one.
-    fn texts<'a>(self, given: Given<'a>, names: Names<'a>, shape: &'a str) -> Texts<'a> {
-        let list = Named {
+    fn texts<'a>(self, given: CallTexts<'a>, names: TextNames<'a>, shape: &'a str) -> RefusalContext<'a> {
+        let list = NamedText {
             name: names.at(0, "batch"),
             text: given.first,
         };
-        let other = Named {
+        let other = NamedText {
             name: names.at(1, "schedule"),
             text: given.second,
         };
         match self {
-            Asked::Apply => Texts {
-                list: Named {
+            LibraryCall::Apply => RefusalContext {
+                list: NamedText {
                     name: names.at(1, "batch"),
                     text: given.second,
                 },
-                other: Named {
+                other: NamedText {
                     name: names.at(2, "image"),
                     text: given.third,
                 },
                 shape,
-                ..Texts::NONE
+                ..RefusalContext::NONE
             },
-            Asked::Direct => Texts {
-                list: Named {
+            LibraryCall::Direct => RefusalContext {
+                list: NamedText {
                     name: names.at(0, "moves"),
                     text: given.first,
                 },
                 listing: Listing::Moves,
-                ..Texts::NONE
+                ..RefusalContext::NONE
             },
-            Asked::SwitchWired => Texts {
+            LibraryCall::SwitchWired => RefusalContext {
                 list,
                 other,
-                wiring: Named {
+                wiring: NamedText {
                     name: names.at(2, "wiring"),
                     text: given.third,
                 },
-                ..Texts::NONE
+                ..RefusalContext::NONE
             },
-            _ => Texts {
+            _ => RefusalContext {
                 list,
                 other,
-                ..Texts::NONE
+                ..RefusalContext::NONE
             },
         }
     }
@@ -175,7 +175,7 @@ fn is_cut(refusal: Refusal, validity: Validity) -> bool {
 
 /// The second line of the refusal that a call gives of its texts, or nothing where it refuses none.
 /// Want of memory for all of it is the error.
-fn why(alloc: Global, asked: Asked, given: Given<'_>, names: &[u8]) -> Result<Answer, AllocError>
+fn why(alloc: Global, asked: LibraryCall, given: CallTexts<'_>, names: &[u8]) -> Result<Answer, AllocError>
     ensures { IfOk result (IsWhy asked
         given.entry.first.now given.entry.second.now given.entry.third.now) }
 {
@@ -188,11 +188,11 @@ fn why(alloc: Global, asked: Asked, given: Given<'_>, names: &[u8]) -> Result<An
     }
     let names = String::from_utf8_lossy(alloc, names)?;
     let shape = String::from_utf8_lossy(alloc, given.first)?;
-    let texts = Texts {
+    let texts = RefusalContext {
         validity: answer.validity(),
         ..asked.texts(
             given,
-            Names {
+            TextNames {
                 lines: names.as_str(),
             },
             shape.as_str(),
@@ -224,11 +224,11 @@ pub extern "C" fn exchange_why(
         (λ asked. Leaves (IsWhy asked first.now second.now third.now)
         out.old out.new count.new result) }
 {
-    let Some(asked) = Asked::of(call) else {
+    let Some(asked) = LibraryCall::of(call) else {
         *count = 0;
         return NO_CALL;
     };
-    let given = Given {
+    let given = CallTexts {
         first,
         second,
         third,

@@ -4,7 +4,7 @@
 //! marks.
 
 ghost use Rattle.std.specs.Prelude.{◌≡◌, All, Some};
-ghost use Rattle.batch_book.specs.History.{new_account};
+ghost use Rattle.batch_book.specs.History.{new_book_view};
 ghost use Rattle.batch_book.specs.Naming.{IsNamed};
 ghost use Rattle.client_session.specs.Sessions.{seat_back};
 ghost use Rattle.progress_word.specs.declared.limits.TheConstants.{ALL_PARTS};
@@ -172,7 +172,7 @@ fn serve_all<
     L: ExchangeName + Send + Sync,
     R: AllocGlobal + Clock + Eprint + Threads + Wait + Sync,
 >(rt: &R, blank: ExchangeBlank, rack: Rack, scripts: &[Vec<u8>]) -> Option<Vec<u8>>
-    requires { IsNamed L.name L.parts L.table L.opening L.earlier blank (new_account rack) }
+    requires { IsNamed L.name L.parts L.table L.opening L.earlier blank (new_book_view rack) }
 {
     let made = Exchange::<L>::new(rt.alloc(), blank, rack, plant_of(workers()), scripts.len());
     let Ok((exchange, seats)) = made else {

@@ -1,6 +1,6 @@
 //! The calls that are handed a rack, and hand it back where there is no memory.
 
-ghost use Rattle.batch_book.specs.History.{new_account};
+ghost use Rattle.batch_book.specs.History.{new_book_view};
 ghost use Rattle.batch_book.specs.Naming.{IsNamed};
 
 use crate::marks::{begin, end};
@@ -125,7 +125,7 @@ fn open_exchange<L: ExchangeName, R: AllocGlobal + Eprint>(
     blank: ExchangeBlank,
     rack: Rack,
 ) -> Met
-    requires { IsNamed L.name L.parts L.table L.opening L.earlier blank (new_account rack) }
+    requires { IsNamed L.name L.parts L.table L.opening L.earlier blank (new_book_view rack) }
 {
     let plant = plant_of(WorkerCount::new(2).unwrap());
     begin(rt);

@@ -9,8 +9,8 @@ use Rattle.link_bytes.specs.declared.packet.Packet.{Packet}
 use Rattle.link_bytes.specs.declared.packet.Packet.TheVariants.{Byte, Ack}
 use Rattle.link_bytes.specs.declared.fault.LinkFault.{LinkFault}
 use Rattle.link_bytes.specs.declared.fault.LinkFault.TheVariants.{Framing}
-use Rattle.link_bytes.specs.declared.reader.Stage.{Stage}
-use Rattle.link_bytes.specs.declared.reader.Stage.TheVariants.{Idle, Started, Data, Failed}
+use Rattle.link_bytes.specs.declared.reader.PacketState.{PacketState}
+use Rattle.link_bytes.specs.declared.reader.PacketState.TheVariants.{Idle, Started, Data, Failed}
 use Rattle.link_bytes.specs.Line.{low_bits, data_bits, idle, sent, IsPacketFront}
 use Rattle.link_bytes.specs.Reading.{Reading, HasRead, IsPartial, IsFramingFault}
 use Rattle.link_bytes.specs.Stages.{IsStage, Reads, reading_of}
@@ -31,7 +31,7 @@ rest_data b count h l =
     }
 
 -- what has come at a stage is less than a packet
-pub IsPartial-reading_of : (stage : Stage) → IsStage stage → IsPartial (reading_of stage)
+pub IsPartial-reading_of : (stage : PacketState) → IsStage stage → IsPartial (reading_of stage)
 IsPartial-reading_of Idle h = record { packet = Ack; is_packet = tt; count = 0; less = omega arith; first = refl }
 IsPartial-reading_of Started h = record { packet = Ack; is_packet = tt; count = 1; less = omega arith; first = refl }
 IsPartial-reading_of (Data count value) h = rest_data value count h.0 h.1
@@ -74,13 +74,13 @@ module _ (count value : ℕ) (all : DATA_BITS ≤ count) (is : IsStage (Data cou
   data_breaks = (value, whole_byte, whole_bits true)
 
 -- each bit has an answer
-some_answer : (stage : Stage) (bit : Bool) → IsStage stage → (result : Result (Option Packet) LinkFault) × (next : Stage) × IsStage next × Answers (reading_of stage) bit result (reading_of next)
+some_answer : (stage : PacketState) (bit : Bool) → IsStage stage → (result : Result (Option Packet) LinkFault) × (next : PacketState) × IsStage next × Answers (reading_of stage) bit result (reading_of next)
 some_answer Idle false h = (Ok None, Idle, tt, idle_bit)
 some_answer Idle true h = (Ok None, Started, tt, start_bit)
 some_answer Started false h = (Ok (Some Ack), Idle, tt, acknowledge)
 some_answer Started true h = (Ok None, Data 0 0, (omega arith, omega arith), one_bit)
 some_answer (Data count value) bit h = data_answer bit (cases_lt count DATA_BITS) where
-  data_answer : (bit : Bool) → (count < DATA_BITS) ⊎ (DATA_BITS ≤ count) → (result : Result (Option Packet) LinkFault) × (next : Stage) × IsStage next × Answers (reading_of (Data count value)) bit result (reading_of next)
+  data_answer : (bit : Bool) → (count < DATA_BITS) ⊎ (DATA_BITS ≤ count) → (result : Result (Option Packet) LinkFault) × (next : PacketState) × IsStage next × Answers (reading_of (Data count value)) bit result (reading_of next)
   data_answer true (inl l) = let r = bit_or_range value count l h.1 in (Ok None, Data (count + 1) _, (omega arith, r), data_goes_on count value _ true l r (low_bits_set value count l))
   data_answer false (inl l) = let wider : 2 ^ count < 2 ^ (count + 1) = pow_below count (count + 1) (omega arith) in
       let r : value < 2 ^ (count + 1) = omega (arith, h.1) in (Ok None, Data (count + 1) value, (omega arith, r), data_goes_on count value value false l r (low_bits_clear value count h.1))
@@ -89,7 +89,7 @@ some_answer (Data count value) bit h = data_answer bit (cases_lt count DATA_BITS
 some_answer Failed bit h = (Err Framing, Failed, tt, (refl, tt, refl))
 
 -- bits that come after others have a reading
-some_more : (bits more : List Bool) (packets : List Packet) (stage : Stage) → IsStage stage → HasRead bits packets (reading_of stage) → (all : List Packet) × (reading : Reading) × HasRead (bits ++ more) all reading
+some_more : (bits more : List Bool) (packets : List Packet) (stage : PacketState) → IsStage stage → HasRead bits packets (reading_of stage) → (all : List Packet) × (reading : Reading) × HasRead (bits ++ more) all reading
 some_more bits [] packets stage h r = (packets, reading_of stage, subst (λ (xs : List Bool). HasRead xs packets (reading_of stage)) (sym (append-nil bits)) r)
 some_more bits (bit ∷ more) packets stage h r =
     let (result, next, is, answers) = some_answer stage bit h in

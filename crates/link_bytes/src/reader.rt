@@ -13,7 +13,7 @@ use std::marker::Model;
 
 // How far a packet has come.
 #[derive(Clone, Copy)]
-enum Stage {
+enum PacketState {
     // No bit of one.
     Idle,
     // The start bit.
@@ -29,7 +29,7 @@ enum Stage {
 /// reader has failed.
 #[derive(Drop)]
 pub struct BitReader {
-    stage: Stage,
+    stage: PacketState,
 }
 
 impl Model for BitReader {
@@ -49,7 +49,7 @@ impl BitReader {
     pub fn new() -> BitReader
         ensures { result ≡ begun [] }
     {
-        BitReader { stage: Stage::Idle }
+        BitReader { stage: PacketState::Idle }
     }
 
     /// Takes the next bit and answers the packet that ends with it, if one does.
@@ -82,7 +82,7 @@ impl BitReader {
 }
 
 // What one more bit makes of a packet that is begun, and the answer to it.
-fn next_stage(stage: Stage, bit: bool) -> (Stage, Result<Option<Packet>, LinkFault>)
+fn next_stage(stage: PacketState, bit: bool) -> (PacketState, Result<Option<Packet>, LinkFault>)
     requires { IsStage stage }
     ensures stage { IsStage result.0 }
     ensures taken { IfOk result.1 (λ given. Becomes stage bit given result.0) }
@@ -90,17 +90,17 @@ fn next_stage(stage: Stage, bit: bool) -> (Stage, Result<Option<Packet>, LinkFau
     ensures framing { IfErr result.1 (λ fault. EndsReading fault (reading_of result.0)) }
 {
     match (stage, bit) {
-        (Stage::Idle, false) => (Stage::Idle, Ok(None)),
-        (Stage::Idle, true) => (Stage::Started, Ok(None)),
-        (Stage::Started, false) => (Stage::Idle, Ok(Some(Packet::Ack))),
-        (Stage::Started, true) => (Stage::Data { count: 0, value: 0 }, Ok(None)),
-        (Stage::Data { count, value }, bit) if count < DATA_BITS => {
+        (PacketState::Idle, false) => (PacketState::Idle, Ok(None)),
+        (PacketState::Idle, true) => (PacketState::Started, Ok(None)),
+        (PacketState::Started, false) => (PacketState::Idle, Ok(Some(Packet::Ack))),
+        (PacketState::Started, true) => (PacketState::Data { count: 0, value: 0 }, Ok(None)),
+        (PacketState::Data { count, value }, bit) if count < DATA_BITS => {
             let value = with_bit(value, count, bit);
             let count = count + 1;
-            (Stage::Data { count, value }, Ok(None))
+            (PacketState::Data { count, value }, Ok(None))
         }
-        (Stage::Data { value, .. }, false) => (Stage::Idle, Ok(Some(Packet::Byte(value)))),
-        (Stage::Data { .. }, true) | (Stage::Failed, _) => (Stage::Failed, Err(LinkFault::Framing)),
+        (PacketState::Data { value, .. }, false) => (PacketState::Idle, Ok(Some(Packet::Byte(value)))),
+        (PacketState::Data { .. }, true) | (PacketState::Failed, _) => (PacketState::Failed, Err(LinkFault::Framing)),
     }
 }
 

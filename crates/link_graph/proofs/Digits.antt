@@ -3,7 +3,7 @@ use Rattle.std.proofs.Common.{◌≡◌, ℕ, zero, suc, ◌+◌, ◌-◌, ◌*�
 use Rattle.std.specs.Fmt.{decimal}
 use Rattle.std.proofs.lemmas.Fmt.{decimal_digit, decimal_step}
 use lib.Ieee.Fits.{and_l, and_r}
-use Rattle.link_graph.specs.declared.numbers.TheConstants.{PAIRS}
+use Rattle.link_graph.specs.declared.numbers.TheConstants.{DIGIT_PAIRS}
 use Rattle.link_graph.specs.ScheduleText.{spaced}
 
 -- ---- the table of pairs
@@ -11,9 +11,9 @@ use Rattle.link_graph.specs.ScheduleText.{spaced}
 -- whether the table has the digits of all numbers below this one
 abbrev are_pairs : ℕ → Bool
 are_pairs zero = true
-are_pairs (suc n) = (eqb (get_or PAIRS (n * 2) 0) (48 + n / 10) && eqb (get_or PAIRS (n * 2 + 1) 0) (48 + n % 10)) && are_pairs n
+are_pairs (suc n) = (eqb (get_or DIGIT_PAIRS (n * 2) 0) (48 + n / 10) && eqb (get_or DIGIT_PAIRS (n * 2 + 1) 0) (48 + n % 10)) && are_pairs n
 
-below : (count n : ℕ) → T (are_pairs count) → n < count → (get_or PAIRS (n * 2) 0 ≡ 48 + n / 10) × (get_or PAIRS (n * 2 + 1) 0 ≡ 48 + n % 10)
+below : (count n : ℕ) → T (are_pairs count) → n < count → (get_or DIGIT_PAIRS (n * 2) 0 ≡ 48 + n / 10) × (get_or DIGIT_PAIRS (n * 2 + 1) 0 ≡ 48 + n % 10)
 below zero n t h = absurd (omega arith)
 below (suc count) n t h =
     elim (eq-zero-or-pos (count - n)) [
@@ -21,7 +21,7 @@ below (suc count) n t h =
       | inr g ↦ below count n (and_r _ (are_pairs count) t) (omega arith)
     ]
 
-pub pair_of : (n : ℕ) → n < 100 → (get_or PAIRS (n * 2) 0 ≡ 48 + n / 10) × (get_or PAIRS (n * 2 + 1) 0 ≡ 48 + n % 10)
+pub pair_of : (n : ℕ) → n < 100 → (get_or DIGIT_PAIRS (n * 2) 0 ≡ 48 + n / 10) × (get_or DIGIT_PAIRS (n * 2 + 1) 0 ≡ 48 + n % 10)
 pair_of n h = below 100 n tt h
 
 -- ---- numbers in digits

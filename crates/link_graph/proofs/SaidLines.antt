@@ -13,7 +13,7 @@ use Rattle.link_graph.specs.declared.link.End.{End}
 use Rattle.link_graph.specs.declared.link.Link.{Link}
 use Rattle.batch.specs.declared.limits.TheConstants.{MAX_MODULES}
 use Rattle.link_graph.specs.Certificates.{Naming, naming, IsNaming}
-use Rattle.link_graph.specs.ScheduleText.{Said, said, CanName, CanSay, Says, settings_line, setting_line, busiest_line, named_line, naming_lines, certificate_lines, said_lines, text_of}
+use Rattle.link_graph.specs.ScheduleText.{CertifiedSettings, said, CanName, CanSay, Says, settings_line, setting_line, busiest_line, named_line, naming_lines, certificate_lines, said_lines, text_of}
 use Rattle.link_graph.specs.ScheduleFaults.{HasFirstLine, IsLine, Begins, AreSaid, AreCounted, AreCertified, IsFirstBadLine, IsFaultOf, IsFaultBelow}
 use Rattle.link_graph.proofs.LineBreaks.{first_of, goes_on, one_list}
 use Rattle.link_graph.proofs.LinkLines.{All-behind, word_lacks, numbers_injective, link_parts, one_end, one_module}
@@ -84,7 +84,7 @@ certificate_lines_within (Some named) fits = by_link named.link fits.in_rack
     by_link None low = All-cons IsLine none_line [] (word_lacks line_feed none_line refl) (All-nil IsLine)
     by_link (Some link) low = All-cons IsLine (busiest_line link) (named_line named.transfers ∷ []) (busiest_line_within link low) (All-cons IsLine (named_line named.transfers) [] (named_line_within named.transfers fits.transfers) (All-nil IsLine))
 
-said_lines_within : (s : Said) → CanSay s → All IsLine (said_lines s)
+said_lines_within : (s : CertifiedSettings) → CanSay s → All IsLine (said_lines s)
 said_lines_within s can = All-cons IsLine (settings_line (length s.settings)) (map setting_line s.settings ++ certificate_lines s.certificate) (settings_line_within (length s.settings) can.settings_fit.count) (All-append IsLine (map setting_line s.settings) (certificate_lines s.certificate) (setting_lines_within s.settings can.settings_fit.transfers) (certificate_lines_within s.certificate can.names_fit))
 
 one_settings : (a b : List (List ℕ)) (x y : List (List ℕ)) → All (All IsNumber) a → All (All IsNumber) b → length a ≡ length b → map setting_line a ++ x ≡ map setting_line b ++ y → a ≡ b
@@ -135,7 +135,7 @@ one_certificate (Some a) None fa fb ia ib same = absurd (some_lines a same)
 one_certificate (Some a) (Some b) fa fb ia ib same = ap Some (one_naming a.link b.link a.transfers b.transfers fa.in_rack fb.in_rack fa.transfers fb.transfers ia.both.1 ib.both.1 same)
 
 -- a text says one thing
-pub one_said : (text : List ℕ) (a b : Said) → Says text a → Says text b → a ≡ b
+pub one_said : (text : List ℕ) (a b : CertifiedSettings) → Says text a → Says text b → a ≡ b
 one_said text a b sa sb =
     let lines : said_lines a ≡ said_lines b = one_list (said_lines a) (said_lines b) (said_lines_within a sa.can_say) (said_lines_within b sb.can_say) (sym sa.spelled ∙ sb.spelled) in
     let count = one_count (length a.settings) (length b.settings) sa.can_say.settings_fit.count sb.can_say.settings_fit.count (first_same _ _ lines) in
@@ -162,7 +162,7 @@ no_fault_before text n lines other bad within begins parts less =
         bad.next_unwanted line (text_of more ++ other) (All-head IsLine line more (All-behind IsLine bad.before (line ∷ more) all_within)) (rest ∙ first_of line more other)
         (record { more = more ++ begins.more; wanted = subst AreSaid (ap (λ (ls : List (List ℕ)). ls ++ begins.more) list ∙ shift bad.before line more begins.more) begins.wanted })
 
-pub says_or_faults : (text : List ℕ) (s : Said) (n : ℕ) → Says text s → IsFirstBadLine text n → ⊥
+pub says_or_faults : (text : List ℕ) (s : CertifiedSettings) (n : ℕ) → Says text s → IsFirstBadLine text n → ⊥
 says_or_faults text s n says bad =
     let lines : List (List ℕ) = said_lines s in
     let within = said_lines_within s says.can_say in

@@ -9,7 +9,7 @@ use Rattle.std.proofs.lemmas.List.Elements.{All-from_get_or, All-weaker, recursi
 use Rattle.std.proofs.lemmas.List.Sums.{sum_by-cons}
 use Rattle.batch.specs.declared.limits.TheConstants.{MAX_MODULES}
 use Rattle.batch.specs.declared.transfer.Transfer.{Transfer}
-use Rattle.batch.specs.Extent.{widest}
+use Rattle.batch.specs.ShapeView.{widest}
 use Rattle.batch.specs.Text.{HasModules, IsWithin}
 use Rattle.batch.specs.Batches.{IsBatch}
 use Rattle.link_graph.specs.declared.limits.TheConstants.{LINKS}

@@ -6,7 +6,7 @@ use Rattle.link_graph.specs.declared.check_fault.CheckFault.{CheckFault}
 use Rattle.link_graph.specs.Schedules.{IsScheduleOf}
 use Rattle.link_graph.specs.Certificates.{Naming, IsShortest, IsCertificate}
 use Rattle.link_graph.specs.Checks.{IsFirstCheckFault}
-use Rattle.link_graph.specs.ScheduleText.{Said, Says}
+use Rattle.link_graph.specs.ScheduleText.{CertifiedSettings, Says}
 use Rattle.link_graph.specs.ScheduleFaults.{IsFirstBadLine}
 
 -- a schedule with a certificate is shortest
@@ -31,11 +31,11 @@ OneFault =
 
 -- a text says at most one schedule with what is named
 abbrev pub OneSaid : Type 0
-OneSaid = (text : List ℕ) (one other : Said) → Says text one → Says text other → one ≡ other
+OneSaid = (text : List ℕ) (one other : CertifiedSettings) → Says text one → Says text other → one ≡ other
 
 -- a text that says something has no first line at fault
 abbrev pub NeverBoth : Type 0
-NeverBoth = (text : List ℕ) (s : Said) (n : ℕ) → Says text s → IsFirstBadLine text n → ⊥
+NeverBoth = (text : List ℕ) (s : CertifiedSettings) (n : ℕ) → Says text s → IsFirstBadLine text n → ⊥
 
 -- a text has at most one first line at fault
 abbrev pub OneBadLine : Type 0

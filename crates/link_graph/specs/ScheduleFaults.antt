@@ -9,7 +9,7 @@ use Rattle.link_graph.specs.declared.schedule_fault.ScheduleFault.{ScheduleFault
 use Rattle.link_graph.specs.declared.schedule_fault.ScheduleFault.TheVariants.{Line, NoMemory}
 use Rattle.link_graph.specs.Links.{IsInRack}
 use Rattle.link_graph.specs.Certificates.{Naming, IsNaming}
-use Rattle.link_graph.specs.ScheduleText.{Said, CanSay, CanName, said_lines, text_of, numbers, settings_line, setting_line, end_number, busiest_line, named_line, certificate_lines}
+use Rattle.link_graph.specs.ScheduleText.{CertifiedSettings, CanSay, CanName, said_lines, text_of, numbers, settings_line, setting_line, end_number, busiest_line, named_line, certificate_lines}
 
 -- bytes within one line
 abbrev pub IsLine : List ℕ → Type 0
@@ -37,7 +37,7 @@ pub record IsFirstBad (Wanted : List (List ℕ) → Type 0) (text : List ℕ) (n
 
 -- the lines of a text that says something
 pub record AreSaid (lines : List (List ℕ)) : Type 0 where
-  pub says : Said
+  pub says : CertifiedSettings
   pub can_say : CanSay says
   pub spelled : lines ≡ said_lines says
 
@@ -49,7 +49,7 @@ IsFirstBadLine text n = IsFirstBad AreSaid text n
 
 -- lines that may stand after the line that counts the settings
 pub record AreCounted (count : ℕ) (lines : List (List ℕ)) : Type 0 where
-  pub says : Said
+  pub says : CertifiedSettings
   pub can_say : CanSay says
   pub counted : length says.settings ≡ count
   pub spelled : lines ≡ map setting_line says.settings ++ certificate_lines says.certificate

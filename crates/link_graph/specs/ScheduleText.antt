@@ -52,12 +52,12 @@ named_line transfers = codes "named" ++ numbers transfers
 -- ---- what a text says
 
 -- settings, and what the certificate part names, where there is that part
-pub record Said : Type 0 where
+pub record CertifiedSettings : Type 0 where
   pub settings : List (List ℕ)
   pub certificate : Option Naming
 
 -- what these say
-abbrev pub said : List (List ℕ) → Option Naming → Said
+abbrev pub said : List (List ℕ) → Option Naming → CertifiedSettings
 said settings certificate = record { settings = settings; certificate = certificate }
 
 -- the line that counts the settings, and a line for each of them
@@ -75,7 +75,7 @@ certificate_lines None = []
 certificate_lines (Some named) = naming_lines named.link named.transfers
 
 -- all lines
-abbrev pub said_lines : Said → List (List ℕ)
+abbrev pub said_lines : CertifiedSettings → List (List ℕ)
 said_lines s = schedule_lines s.settings ++ certificate_lines s.certificate
 
 -- lines, each with its line feed
@@ -91,7 +91,7 @@ abbrev pub schedule_text : List (List ℕ) → List ℕ
 schedule_text settings = text_of (schedule_lines settings)
 
 -- the one text of what is said
-abbrev pub said_text : Said → List ℕ
+abbrev pub said_text : CertifiedSettings → List ℕ
 said_text s = text_of (said_lines s)
 
 -- the one text of the settings, with what the certificate part names where there is that part
@@ -123,12 +123,12 @@ abbrev pub CanName : Option Naming → Type 0
 CanName certificate = IfSome certificate CanSpellNaming
 
 -- it has a text
-pub record CanSay (s : Said) : Type 0 where
+pub record CanSay (s : CertifiedSettings) : Type 0 where
   pub settings_fit : CanSpell s.settings
   pub names_fit : CanName s.certificate
   pub link_named : IfSome s.certificate IsNaming
 
 -- the text says this
-pub record Says (text : List ℕ) (s : Said) : Type 0 where
+pub record Says (text : List ℕ) (s : CertifiedSettings) : Type 0 where
   pub spelled : text ≡ said_text s
   pub can_say : CanSay s

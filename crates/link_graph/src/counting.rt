@@ -2,7 +2,7 @@
 
 ghost use Rattle.std.specs.Prelude.{◌≡◌, ◌+◌, ◌<◌, ◌≤◌, ◌↔◌, [], length, All, IsTrue, IfOk};
 ghost use Rattle.batch.specs.declared.transfer.Transfer.{Transfer};
-ghost use Rattle.batch.specs.Extent.{widest};
+ghost use Rattle.batch.specs.ShapeView.{widest};
 ghost use Rattle.batch.specs.Text.{HasModules};
 ghost use Rattle.link_graph.specs.Uses.{Uses, start_link, answer_link};
 ghost use Rattle.link_graph.specs.Counts.{module_at, uses, AreUsers};

@@ -38,4 +38,4 @@ pub use limits::LINKS;
 pub use link::{End, Link};
 pub use schedule::Schedule;
 pub use schedule_fault::ScheduleFault;
-pub use settings::Settings;
+pub use settings::SettingsIter;

@@ -6,7 +6,7 @@ ghost use Rattle.link_graph.specs.ScheduleText.{spaced};
 use std::alloc::AllocError;
 
 /// The two digits of each number below 100, in order.
-static PAIRS: [u8; 200] = *b"\
+static DIGIT_PAIRS: [u8; 200] = *b"\
     00010203040506070809\
     10111213141516171819\
     20212223242526272829\
@@ -24,7 +24,7 @@ fn pair(n: usize) -> (u8, u8)
     ensures tens { result.0 ≡ 48 + n / 10 }
     ensures ones { result.1 ≡ 48 + n % 10 }
 {
-    (PAIRS[n * 2], PAIRS[n * 2 + 1])
+    (DIGIT_PAIRS[n * 2], DIGIT_PAIRS[n * 2 + 1])
 }
 
 /// The digit of a number below 10.

@@ -6,7 +6,7 @@ ghost use Rattle.link_graph.specs.ScheduleFaults.{IsFaultOf};
 
 use crate::certificate::Certificate;
 use crate::schedule_fault::ScheduleFault;
-use crate::settings::Settings;
+use crate::settings::SettingsIter;
 use crate::{reading, writing};
 use std::alloc::{AllocError, Global};
 use std::marker::Model;
@@ -57,10 +57,10 @@ impl Schedule {
     }
 
     /// The settings, in order.
-    pub fn iter(&self) -> Settings<'_>
+    pub fn iter(&self) -> SettingsIter<'_>
         ensures { result ≡ self.now }
     {
-        Settings::of(self.lists.as_slice())
+        SettingsIter::of(self.lists.as_slice())
     }
 
     /// The transfer numbers of setting `k`, where there is one.

@@ -9,11 +9,11 @@ use std::marker::Model;
 /// The settings of a schedule that are still to come, in order: an iterator over slices of transfer
 /// numbers. Contracts see the list of them.
 #[derive(Drop)]
-pub struct Settings<'a> {
+pub struct SettingsIter<'a> {
     lists: &'a [Vec<usize>],
 }
 
-impl<'a> Model for Settings<'a> {
+impl<'a> Model for SettingsIter<'a> {
     ghost use Rattle.std.specs.Prelude.{List, ℕ};
     ghost use Rattle.link_graph.specs.Schedules.{lists_of};
 
@@ -22,16 +22,16 @@ impl<'a> Model for Settings<'a> {
     ghost view = { λ s. lists_of s.lists.now };
 }
 
-impl<'a> Settings<'a> {
+impl<'a> SettingsIter<'a> {
     /// All of these lists.
-    pub(crate) fn of(lists: &'a [Vec<usize>]) -> Settings<'a>
+    pub(crate) fn of(lists: &'a [Vec<usize>]) -> SettingsIter<'a>
         ensures { result ≡ lists_of lists.now }
     {
-        Settings { lists }
+        SettingsIter { lists }
     }
 }
 
-impl<'a> Iterator for Settings<'a> {
+impl<'a> Iterator for SettingsIter<'a> {
     type Item = &'a [usize];
 
     ghost next_gives = { YieldsFirstRef (λ s. s) };

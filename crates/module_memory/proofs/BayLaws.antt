@@ -2,7 +2,7 @@
 use Rattle.std.proofs.Common.{ℕ, zero, suc, ◌≡◌, ◌≢◌, ◌≤◌, ◌<◌, ◌+◌, ◌-◌, ◌*◌, List, [], ◌∷◌, ◌++◌, length, take, drop, get_or, refl, sym, ap, ap₂, ◌∙◌, subst, arith, length-set, ◌⊎◌, inl, inr}
 use Rattle.std.proofs.lemmas.List.{same_lists, get_or-map, length-map, get_or_default}
 use Rattle.std.proofs.lemmas.Bool.{cases_eq, cases_lt}
-use Rattle.batch.specs.Extent.{Extent}
+use Rattle.batch.specs.ShapeView.{ShapeView}
 use Rattle.batch.specs.declared.transfer.Place.{Place}
 use Rattle.batch.specs.declared.transfer.Transfer.{Transfer}
 use Rattle.batch.specs.Places.{HasPlace, place_index}
@@ -12,7 +12,7 @@ use Rattle.module_memory.specs.Core.{IsMovedFrom}
 use Rattle.module_memory.specs.Lending.{BlockAt, place_in, bay_in, places_of, AreLendable, store_rejoined}
 use Rattle.module_memory.specs.Bays.{AreLent, AreFound, AreSamePlaces}
 use Rattle.module_memory.specs.Laws.{BaysHoldTheCounts, BaysStayLent, BaysStayWhole, BaysAreWide, LentBlockIsGone, LentBlockIsItsBay, OtherBlockIsTheRest, SetIsOneWord}
-use Rattle.batch.specs.Extent.{IsShape}
+use Rattle.batch.specs.ShapeView.{IsShape}
 use Rattle.batch.proofs.Places.{place_at, place_index-place_at, HasPlace-place_at}
 use Rattle.module_memory.proofs.Blocks.{block_at, block_length}
 use Rattle.batch.proofs.Places.{place_index_below, same_place_from_index}
@@ -26,12 +26,12 @@ pub length-joined : (s : Store) (bays : List BlockAt) → length (store_rejoined
 length-joined s [] = refl
 length-joined s (b ∷ bays) = length-joined (set_block s b.place b.words) bays ∙ length-set s.blocks _ _
 
-off_more : (s : Extent) (b : BlockAt) (bays : List BlockAt) (p : Place) → (place_index s b.place ≡ place_index s p → ⊥) → IsOff s (places_of bays) p → (k : ℕ) → k < length (b.place ∷ places_of bays) → place_index s (get_or (b.place ∷ places_of bays) k (record { «module» = 0; block = 0 })) ≢ place_index s p
+off_more : (s : ShapeView) (b : BlockAt) (bays : List BlockAt) (p : Place) → (place_index s b.place ≡ place_index s p → ⊥) → IsOff s (places_of bays) p → (k : ℕ) → k < length (b.place ∷ places_of bays) → place_index s (get_or (b.place ∷ places_of bays) k (record { «module» = 0; block = 0 })) ≢ place_index s p
 off_more s b bays p n o zero l = n
 off_more s b bays p n o (suc k) l = o k (omega arith)
 
 -- a bay at this index, or none
-find_bay : (s : Extent) (bays : List BlockAt) (p : Place) → ((k : ℕ) × (k < length bays) × (place_index s (bay_in bays k).place ≡ place_index s p)) ⊎ IsOff s (places_of bays) p
+find_bay : (s : ShapeView) (bays : List BlockAt) (p : Place) → ((k : ℕ) × (k < length bays) × (place_index s (bay_in bays k).place ≡ place_index s p)) ⊎ IsOff s (places_of bays) p
 find_bay s [] p = inr (λ k l. absurd (omega arith))
 find_bay s (b ∷ bays) p =
     elim (cases_eq (place_index s b.place) (place_index s p)) [
@@ -78,7 +78,7 @@ other_block find opening rest bays new first ts moved h p hp none (inr off) old_
     block_of-joined_off rest new p (subst (λ (ps : List Place). IsOff rest.shape ps p) (sym places) off) ∙ sym (block_of-joined_off rest bays p off)
 other_block find opening rest bays new first ts moved h p hp none (inl f) old_bay new_bay places =
     let k = f.0 in
-    let at : (bay_in bays k).place ≡ p = same_place_from_index rest.shape (bay_in bays k).place p (h.exist k f.1) (subst (λ (x : Extent). HasPlace x p) (shape-joined rest bays) hp) f.2 in
+    let at : (bay_in bays k).place ≡ p = same_place_from_index rest.shape (bay_in bays k).place p (h.exist k f.1) (subst (λ (x : ShapeView). HasPlace x p) (shape-joined rest bays) hp) f.2 in
     let out : (k < first) ⊎ (first + length ts ≤ k) = elim (cases_lt k first) [
       | inl l ↦ inl l
       | inr l ↦ elim (cases_lt k (first + length ts)) [
@@ -193,7 +193,7 @@ stay_whole rest old new h s w r = record {
       subst (λ (b : BlockAt). HasPlace rest.shape b.place) (sym found) (subst (HasPlace rest.shape) (sym (s.same_places k below)) (exist_of rest old h k below));
   whole = record {
     within = subst IsShape (shape-joined rest old ∙ sym (shape-joined rest new)) r.whole.within;
-    all_blocks = length-joined rest new ∙ (h.all_blocks ∙ ap (λ (x : Extent). x.modules * x.blocks) (sym (shape-joined rest new)));
+    all_blocks = length-joined rest new ∙ (h.all_blocks ∙ ap (λ (x : ShapeView). x.modules * x.blocks) (sym (shape-joined rest new)));
     all_words = λ k l.
         let below : k < rest.shape.modules * rest.shape.blocks = omega (arith, length-joined rest new, h.all_blocks) in
         let p = place_at rest.shape k in
@@ -203,7 +203,7 @@ stay_whole rest old new h s w r = record {
         ∙ same_width rest old new h s w p hp
         ∙ ap (λ (x : List ℕ). length x) (block_at (store_rejoined rest old) rest.shape p k (shape-joined rest old) at)
         ∙ r.whole.all_words k (omega (arith, length-joined rest old, length-joined rest new))
-        ∙ ap (λ (x : Extent). x.words) (shape-joined rest old ∙ sym (shape-joined rest new));
+        ∙ ap (λ (x : ShapeView). x.words) (shape-joined rest old ∙ sym (shape-joined rest new));
   };
 }
 
@@ -214,5 +214,5 @@ bays_are_wide rest bays first ts i h r l =
     let q = (bay_in bays k).place in
     let whole = store_rejoined rest bays in
     let wide = λ (x : Place) (hp : HasPlace rest.shape x).
-    block_length whole x r.whole (subst (λ (e : Extent). HasPlace e x) (sym (shape-joined rest bays)) hp) ∙ ap (λ (e : Extent). e.words) (shape-joined rest bays) in
+    block_length whole x r.whole (subst (λ (e : ShapeView). HasPlace e x) (sym (shape-joined rest bays)) hp) ∙ ap (λ (e : ShapeView). e.words) (shape-joined rest bays) in
     ap (λ (x : List ℕ). length x) (sym (lent_block rest bays k h.lent below)) ∙ wide q (exist_of rest bays h.lent k below)

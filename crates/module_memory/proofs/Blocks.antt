@@ -1,6 +1,6 @@
 -- The blocks of a store, one by one.
 use Rattle.std.proofs.Common.{set, length-set, arith, inl, inr, ◌⊎◌, ℕ, ◌≡◌, ◌≢◌, ◌<◌, List, [], length, get_or, sym, ap, ap₂, ◌∙◌, subst, get_or-set_same, get_or-set_other}
-use Rattle.batch.specs.Extent.{Extent}
+use Rattle.batch.specs.ShapeView.{ShapeView}
 use Rattle.batch.specs.declared.transfer.Place.{Place}
 use Rattle.batch.specs.Places.{HasPlace, place_index}
 use Rattle.std.proofs.lemmas.Bool.{cases_eq}
@@ -17,14 +17,14 @@ block_of-set_other s p q ws hp hq n =
     get_or-set_other s.blocks (place_index s.shape p) (place_index s.shape q) ws [] (λ e. n (same_place_from_index s.shape q p hq hp e))
 
 -- the block of a place, by its index
-pub block_at : (s : Store) (x : Extent) (p : Place) (k : ℕ) → s.shape ≡ x → place_index x p ≡ k → block_of s p ≡ get_or s.blocks k []
+pub block_at : (s : Store) (x : ShapeView) (p : Place) (k : ℕ) → s.shape ≡ x → place_index x p ≡ k → block_of s p ≡ get_or s.blocks k []
 block_at s x p k e f =
     let at : ℕ → List ℕ = λ n. get_or s.blocks n [] in
-    ap at (ap (λ (y : Extent). place_index y p) e ∙ f)
+    ap at (ap (λ (y : ShapeView). place_index y p) e ∙ f)
 
 pub store_from_parts : (a b : Store) → a.shape ≡ b.shape → a.blocks ≡ b.blocks → a ≡ b
 store_from_parts a b e f =
-    let make : Extent → List (List ℕ) → Store = λ x y. record { shape = x; blocks = y } in ap₂ make e f
+    let make : ShapeView → List (List ℕ) → Store = λ x y. record { shape = x; blocks = y } in ap₂ make e f
 
 -- two stores of one shape are one where all their blocks are
 -- a whole store has all its blocks

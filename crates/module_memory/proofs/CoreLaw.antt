@@ -2,7 +2,7 @@ use Rattle.std.proofs.Common.{zero, suc, Bool, eq-eqb, ne_eqb, ℕ, ◌≡◌, �
 use Rattle.std.proofs.lemmas.List.{drop_more, take_more, set_at, get_or-map, length-map, drop_all, append-nil}
 use Rattle.std.proofs.lemmas.List.Sums.{sum_by-cons}
 use Rattle.std.proofs.lemmas.Bool.{cases_eq, cases_lt}
-use Rattle.batch.specs.Extent.{Extent}
+use Rattle.batch.specs.ShapeView.{ShapeView}
 use Rattle.batch.specs.declared.transfer.Place.{Place}
 use Rattle.batch.specs.declared.transfer.Transfer.{Transfer}
 use Rattle.batch.specs.Places.{HasPlace, place_index, source_of, destination_of}
@@ -106,7 +106,7 @@ Premises-from_ready opening s batch numbers r =
       whole = r.whole;
       places = fits;
       distinct = setting_distinct opening s batch numbers r;
-      wide = λ i h. block_length opening (source_at ts i) r.opening_whole (subst (λ (x : Extent). HasPlace x (source_at ts i)) r.same_shape (fits i h).0) ∙ ap (λ (x : Extent). x.words) (sym r.same_shape);
+      wide = λ i h. block_length opening (source_at ts i) r.opening_whole (subst (λ (x : ShapeView). HasPlace x (source_at ts i)) r.same_shape (fits i h).0) ∙ ap (λ (x : ShapeView). x.words) (sym r.same_shape);
       finds = λ now same i h.
           let hi : i < length numbers = omega (arith, length-map numbers (transfer_at batch)) in
           subst (λ (t : Transfer). found batch opening now (source_of t) ≡ block_of opening (source_of t)) (sym (transfer_at-setting_of batch numbers i hi))
@@ -132,10 +132,10 @@ step_keeps find opening old ts pr c i h len hi room =
     let a = block_of opening (source_of t) in
     let b = block_of old (destination_of t) in
     let dst : HasPlace old.shape (destination_of t) = (pr.places i hi).1 in
-    let fits = λ (p : Place) (hp : HasPlace old.shape p). subst (λ (x : Extent). HasPlace x p) (sym h.same_shape) hp in
+    let fits = λ (p : Place) (hp : HasPlace old.shape p). subst (λ (x : ShapeView). HasPlace x p) (sym h.same_shape) hp in
     let read : now ≡ a = pr.finds c.store h.others i hi in
     let long : place_index c.store.shape (destination_of t) < length c.store.blocks =
-    subst (λ (x : Extent). place_index x (destination_of t) < length c.store.blocks) (sym h.same_shape)
+    subst (λ (x : ShapeView). place_index x (destination_of t) < length c.store.blocks) (sym h.same_shape)
     (omega (arith, place_index_below old.shape (destination_of t) dst, pr.whole.all_blocks, h.same_length)) in
     record {
       same_shape = h.same_shape;

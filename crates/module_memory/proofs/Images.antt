@@ -5,7 +5,7 @@ use Rattle.std.specs.Simd.{first_chunks}
 use Rattle.std.proofs.lemmas.Nat.{le_bytes_4, from_le_bytes-to_le_bytes_4}
 use Rattle.std.proofs.Math.Nat.{mul-le-mul_left}
 use Rattle.std.proofs.lemmas.List.{nil_from_length, take-append-drop, take-append-le, drop-append-le, drop_at, drop-drop, get_or-drop, ext_get_or, flat_map_more}
-use Rattle.batch.specs.Extent.{Extent}
+use Rattle.batch.specs.ShapeView.{ShapeView}
 use Rattle.batch.specs.Places.{HasPlace, place_index}
 use Rattle.batch.specs.declared.transfer.Place.{Place}
 use Rattle.batch.proofs.Places.{place_index_below}
@@ -137,26 +137,26 @@ words_are_in_images s p j whole small hp l =
     sym (ap word_of_bytes (bytes_there s p j whole hp l) ∙ from_le_bytes-to_le_bytes_4 (word s p j) (small p j))
 
 -- a word of a store that has an image
-word_of_image : (shape : Extent) (image : List ℕ) (s : Store) → HasImage shape image s → (p : Place) (j : ℕ) → HasPlace shape p → j < shape.words → word s p j ≡ word_of_bytes (word_in_image shape image p j)
+word_of_image : (shape : ShapeView) (image : List ℕ) (s : Store) → HasImage shape image s → (p : Place) (j : ℕ) → HasPlace shape p → j < shape.words → word s p j ≡ word_of_bytes (word_in_image shape image p j)
 word_of_image shape image s h p j hp l =
-    let hp' : HasPlace s.shape p = subst (λ (x : Extent). HasPlace x p) (sym h.same_shape) hp in
-    let l' : j < s.shape.words = subst (λ (x : Extent). j < x.words) (sym h.same_shape) l in
+    let hp' : HasPlace s.shape p = subst (λ (x : ShapeView). HasPlace x p) (sym h.same_shape) hp in
+    let l' : j < s.shape.words = subst (λ (x : ShapeView). j < x.words) (sym h.same_shape) l in
     words_are_in_images s p j h.whole h.words hp' l'
-    ∙ ap₂ (λ (x : Extent) (bytes : List ℕ). word_of_bytes (word_in_image x bytes p j)) h.same_shape h.image_is
+    ∙ ap₂ (λ (x : ShapeView) (bytes : List ℕ). word_of_bytes (word_in_image x bytes p j)) h.same_shape h.image_is
 
 -- how many words its blocks have
-long_block : (shape : Extent) (image : List ℕ) (s : Store) → HasImage shape image s → (p : Place) → HasPlace shape p → length (block_of s p) ≡ shape.words
+long_block : (shape : ShapeView) (image : List ℕ) (s : Store) → HasImage shape image s → (p : Place) → HasPlace shape p → length (block_of s p) ≡ shape.words
 long_block shape image s h p hp =
-    block_length s p h.whole (subst (λ (x : Extent). HasPlace x p) (sym h.same_shape) hp) ∙ ap (λ (x : Extent). x.words) h.same_shape
+    block_length s p h.whole (subst (λ (x : ShapeView). HasPlace x p) (sym h.same_shape) hp) ∙ ap (λ (x : ShapeView). x.words) h.same_shape
 
 pub one_imaged : OneImaged
 one_imaged shape image a b ha hb =
     let same : (p : Place) → HasPlace a.shape p → block_of a p ≡ block_of b p = λ p hp'.
-    let hp : HasPlace shape p = subst (λ (x : Extent). HasPlace x p) ha.same_shape hp' in
+    let hp : HasPlace shape p = subst (λ (x : ShapeView). HasPlace x p) ha.same_shape hp' in
     let la : length (block_of a p) ≡ shape.words = long_block shape image a ha p hp in
     let lb : length (block_of b p) ≡ shape.words = long_block shape image b hb p hp in
     ext_get_or 0 (block_of a p) (block_of b p) (la ∙ sym lb)
     (λ j l. let below : j < shape.words = omega arith in word_of_image shape image a ha p j hp below ∙ sym (word_of_image shape image b hb p j hp below)) in
     let shapes : b.shape ≡ a.shape = hb.same_shape ∙ sym ha.same_shape in
-    let counts : length b.blocks ≡ length a.blocks = hb.whole.all_blocks ∙ ap (λ (x : Extent). x.modules * x.blocks) shapes ∙ sym ha.whole.all_blocks in
+    let counts : length b.blocks ≡ length a.blocks = hb.whole.all_blocks ∙ ap (λ (x : ShapeView). x.modules * x.blocks) shapes ∙ sym ha.whole.all_blocks in
     same_store a a b (all_blocks a ha.whole) refl shapes refl counts same

@@ -2,7 +2,7 @@ use Rattle.std.proofs.Common.{ℕ, ◌≡◌, ◌<◌, ◌^◌, ◌+◌, ◌*◌
 use Rattle.std.proofs.lemmas.Bool.{cases_eq}
 use Rattle.std.specs.List.{range_with_len}
 use Rattle.std.proofs.lemmas.Nat.{div-mul-add, mod-mul-add, div_below, mod_below}
-use Rattle.batch.specs.Extent.{Extent, IsShape}
+use Rattle.batch.specs.ShapeView.{ShapeView, IsShape}
 use Rattle.batch.specs.Places.{place_index}
 use Rattle.module_memory.specs.Store.{Store}
 use Rattle.batch.specs.declared.limits.TheConstants.{MAX_WORDS}
@@ -16,7 +16,7 @@ use Rattle.module_memory.proofs.Blocks.{block_at, same_store}
 abbrev pub mark_at : ℕ → ℕ → ℕ
 mark_at blocks k = MODULE_MARK * (k / blocks) + BLOCK_MARK * (k % blocks)
 
-pub mark_at_small : (s : Extent) (k : ℕ) → IsShape s → k < s.modules * s.blocks → mark_at s.blocks k + MAX_WORDS < 2 ^ 32
+pub mark_at_small : (s : ShapeView) (k : ℕ) → IsShape s → k < s.modules * s.blocks → mark_at s.blocks k + MAX_WORDS < 2 ^ 32
 mark_at_small s k h l =
     omega (arith, div_below k s.blocks s.modules (omega arith) l, mod_below k s.blocks (omega arith))
 

@@ -1,7 +1,7 @@
 -- A rack that is parted, and rejoined.
 use Rattle.std.proofs.Common.{ℕ, ◌*◌, zero, suc, ◌≡◌, ◌≢◌, ◌<◌, List, [], ◌∷◌, ◌++◌, length, take, get_or, set, refl, sym, ap, ◌∙◌, subst, subst₂, arith, length-set, get_or-set_same, get_or-set_other, set-set}
 use Rattle.std.proofs.lemmas.List.{set_comm, set-get_or, get_or-take, length-take-le, length-map, get_or-map}
-use Rattle.batch.specs.Extent.{Extent}
+use Rattle.batch.specs.ShapeView.{ShapeView}
 use Rattle.batch.specs.declared.transfer.Place.{Place}
 use Rattle.batch.specs.Places.{HasPlace, place_index}
 use Rattle.module_memory.specs.Store.{Store, IsWhole, block_of, set_block, set_word}
@@ -11,24 +11,24 @@ use Rattle.module_memory.specs.Bays.{AreLent}
 use Rattle.module_memory.proofs.Blocks.{store_from_parts}
 
 -- a place that is none of these, by the index
-abbrev pub IsOff : Extent → List Place → Place → Type 0
+abbrev pub IsOff : ShapeView → List Place → Place → Type 0
 IsOff s ps p = (k : ℕ) → k < length ps → place_index s (place_in ps k) ≢ place_index s p
 
 -- places of which none comes again
-abbrev pub IsOnce : Extent → List Place → Type 0
+abbrev pub IsOnce : ShapeView → List Place → Type 0
 IsOnce s [] = Unit {0}
 IsOnce s (p ∷ ps) = IsOff s ps p × IsOnce s ps
 
-IsOff-tail : (s : Extent) (q : Place) (ps : List Place) (p : Place) → IsOff s (q ∷ ps) p → IsOff s ps p
+IsOff-tail : (s : ShapeView) (q : Place) (ps : List Place) (p : Place) → IsOff s (q ∷ ps) p → IsOff s ps p
 IsOff-tail s q ps p h = λ k l. h (suc k) (omega arith)
 
-AreLendable-tail : (s : Extent) (p : Place) (ps : List Place) → AreLendable s (p ∷ ps) → AreLendable s ps
+AreLendable-tail : (s : ShapeView) (p : Place) (ps : List Place) → AreLendable s (p ∷ ps) → AreLendable s ps
 AreLendable-tail s p ps h = record {
   exist = λ i l. h.exist (suc i) (omega arith);
   distinct = λ i j l m. h.distinct (suc i) (suc j) (omega arith) (omega arith);
 }
 
-pub IsOnce-from_lendable : (s : Extent) (ps : List Place) → AreLendable s ps → IsOnce s ps
+pub IsOnce-from_lendable : (s : ShapeView) (ps : List Place) → AreLendable s ps → IsOnce s ps
 IsOnce-from_lendable s [] h = tt
 IsOnce-from_lendable s (p ∷ ps) h = (
   (λ k l e. h.distinct 0 (suc k) (omega arith) (omega arith) (same_place_from_index s p (place_in ps k) (h.exist 0 (omega arith)) (h.exist (suc k) (omega arith)) (sym e))),
@@ -84,7 +84,7 @@ pub joined-without : (s : Store) (ps : List Place) → AreLendable s.shape ps �
 joined-without s ps h = joined_back s s ps (IsOnce-from_lendable s.shape ps h) (λ k l. refl)
 
 -- one more place is lent
-pub off_earlier : (s : Extent) (ps : List Place) (i : ℕ) → AreLendable s ps → i < length ps → IsOff s (take i ps) (place_in ps i)
+pub off_earlier : (s : ShapeView) (ps : List Place) (i : ℕ) → AreLendable s ps → i < length ps → IsOff s (take i ps) (place_in ps i)
 off_earlier s ps i h l = λ k m e.
     let below : k < i = omega (arith, m, length-take-le i ps (omega arith)) in
     let at : place_in (take i ps) k ≡ place_in ps k = get_or-take i ps k _ below in
@@ -99,7 +99,7 @@ Rejoins-parted s ps w h = record {
   exist = λ k d l.
       let below : k < length ps = omega (arith, length-map ps (λ (p : Place). bay_at s p)) in
       let at : get_or (bays_of s ps) k d ≡ bay_at s (place_in ps k) = get_or-map (λ (p : Place). bay_at s p) ps k _ d below in
-      subst₂ (λ (x : Extent) (b : BlockAt). HasPlace x b.place) (sym (shape-without s ps)) (sym at) (h.exist k below);
+      subst₂ (λ (x : ShapeView) (b : BlockAt). HasPlace x b.place) (sym (shape-without s ps)) (sym at) (h.exist k below);
   whole = subst IsWhole (sym (joined-without s ps h)) w;
 }
 
@@ -153,5 +153,5 @@ length-without s (p ∷ ps) = length-without (set_block s p []) ps ∙ length-se
 pub AreLent-parted : (s : Store) (ps : List Place) → IsWhole s → AreLendable s.shape ps → AreLent (without s ps) (bays_of s ps)
 AreLent-parted s ps w h = record {
   lendable = subst₂ AreLendable (sym (shape-without s ps)) (sym (places_of-bays_of s ps)) h;
-  all_blocks = length-without s ps ∙ w.all_blocks ∙ ap (λ (x : Extent). x.modules * x.blocks) (sym (shape-without s ps));
+  all_blocks = length-without s ps ∙ w.all_blocks ∙ ap (λ (x : ShapeView). x.modules * x.blocks) (sym (shape-without s ps));
 }

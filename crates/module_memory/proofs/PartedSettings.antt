@@ -1,7 +1,7 @@
 -- A rack that is parted at the destinations of settings.
 use Rattle.std.proofs.Common.{[], ◌∷◌, ℕ, ◌≡◌, ◌≢◌, ◌<◌, ◌+◌, List, ◌++◌, length, get_or, refl, sym, ap, ◌∙◌, subst, arith, length-append, inl, inr}
 use Rattle.std.proofs.lemmas.List.{get_or_default, get_or-map, length-map, get_or_append_left, get_or-append_right}
-use Rattle.batch.specs.Extent.{Extent}
+use Rattle.batch.specs.ShapeView.{ShapeView}
 use Rattle.batch.specs.declared.transfer.Place.{Place}
 use Rattle.batch.specs.declared.transfer.Transfer.{Transfer}
 use Rattle.batch.specs.Places.{HasPlace, place_index, destination_of}
@@ -98,7 +98,7 @@ sources_are_found s batch numbers held rest r store copies has t l =
     let p = source_at batch t in
     let hp : HasPlace s.shape p = (r.places t l).0 in
     let wide : length (block_of s p) ≡ s.shape.words = block_length s p r.whole hp in
-    let here : copy_of rest p ≡ copy_in s.shape rest.held p = ap (λ (x : Extent). copy_in x rest.held p) (ap (λ (x : Store). x.shape) store ∙ shape-without s (destinations_of batch numbers)) in
+    let here : copy_of rest p ≡ copy_in s.shape rest.held p = ap (λ (x : ShapeView). copy_in x rest.held p) (ap (λ (x : Store). x.shape) store ∙ shape-without s (destinations_of batch numbers)) in
     elim (stands_or_not held p) [
       | inl f ↦ copy_first (copy_of rest p) (block_of rest.store p) (block_of s p) (here ∙ subst (λ (q : Place). copy_in s.shape rest.held q ≡ block_of s q) f.2 (copies.copied f.0 f.1)) (omega (arith, wide, r.whole.within.some_word))
       | inr none ↦ else_block (copy_of rest p) (block_of rest.store p) (here ∙ copies.others p hp none)

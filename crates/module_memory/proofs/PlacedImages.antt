@@ -8,7 +8,7 @@ use Rattle.std.proofs.lemmas.Bool.{cases_eq}
 use Rattle.std.proofs.lemmas.List.{flat_map_more, map-append, take_more, length-map, get_or-map, take_all, take-append-drop, get_or-drop, nil_from_length}
 use Rattle.std.proofs.lemmas.List.FromFn.{length-range_with_len, get_or-range_with_len}
 use Rattle.std.proofs.lemmas.List.Elements.{All-cons, All-set}
-use Rattle.batch.specs.Extent.{Extent, IsShape}
+use Rattle.batch.specs.ShapeView.{ShapeView, IsShape}
 use Rattle.batch.specs.Overlap.{IsApart, source_at, destination_at}
 use Rattle.batch.specs.Places.{HasPlace, place_index}
 use Rattle.batch.specs.declared.transfer.Place.{Place}
@@ -23,13 +23,13 @@ use Rattle.module_memory.proofs.Images.{AreSmall, block_bytes, bytes_again, part
 -- ---- the numbers of the sources
 
 -- the same of the first so many transfers
-pub record AreSourcesUpTo (shape : Extent) (ts : List Transfer) (n : ℕ) (sources : List ℕ) : Type 0 where
+pub record AreSourcesUpTo (shape : ShapeView) (ts : List Transfer) (n : ℕ) (sources : List ℕ) : Type 0 where
   pub each : length sources ≡ shape.modules * shape.blocks
   pub known : All (λ k. k < shape.modules * shape.blocks) sources
   pub written : (i : ℕ) → i < n → get_or sources (place_index shape (destination_at ts i)) 0 ≡ place_index shape (source_at ts i)
   pub others : (p : Place) → HasPlace shape p → ((i : ℕ) → i < n → destination_at ts i ≢ p) → get_or sources (place_index shape p) 0 ≡ place_index shape p
 
-pub sources_more : (shape : Extent) (ts : List Transfer) (n to from : ℕ) (sources : List ℕ) → n < length ts → FitsIn shape ts → IsApart ts → to ≡ place_index shape (destination_at ts n) → from ≡ place_index shape (source_at ts n)
+pub sources_more : (shape : ShapeView) (ts : List Transfer) (n to from : ℕ) (sources : List ℕ) → n < length ts → FitsIn shape ts → IsApart ts → to ≡ place_index shape (destination_at ts n) → from ≡ place_index shape (source_at ts n)
     → AreSourcesUpTo shape ts n sources → AreSourcesUpTo shape ts (n + 1) (set sources to from)
 sources_more shape ts n to from sources below fits apart et ef h =
     let dest = destination_at ts n in
@@ -49,7 +49,7 @@ sources_more shape ts n to from sources below fits apart et ef h =
       others = λ p hp none. other p hp (none n (omega arith)) ∙ h.others p hp (λ i l. none i (omega arith));
     }
 
-pub sources_all : (shape : Extent) (ts : List Transfer) (n : ℕ) (sources : List ℕ) → n ≡ length ts → AreSourcesUpTo shape ts n sources → AreSources shape ts sources
+pub sources_all : (shape : ShapeView) (ts : List Transfer) (n : ℕ) (sources : List ℕ) → n ≡ length ts → AreSourcesUpTo shape ts n sources → AreSources shape ts sources
 sources_all shape ts n sources e h = record {
   each = h.each;
   known = h.known;
@@ -72,7 +72,7 @@ all_below : (a n m : ℕ) → a + n ≤ m → All (λ k. k < m) (range_with_len 
 all_below a zero m le = λ k d l. absurd (omega arith)
 all_below a (suc n) m le = All-cons (λ k. k < m) a (range_with_len (a + 1) n) (omega arith) (all_below (a + 1) n m (omega arith))
 
-pub own_sources : (shape : Extent) (ts : List Transfer) → AreSourcesUpTo shape ts 0 (range_with_len 0 (shape.modules * shape.blocks))
+pub own_sources : (shape : ShapeView) (ts : List Transfer) → AreSourcesUpTo shape ts 0 (range_with_len 0 (shape.modules * shape.blocks))
 own_sources shape ts =
     let n = shape.modules * shape.blocks in
     record {
@@ -123,13 +123,13 @@ small_read words (suc n) bytes small zero j = small_chunks words (take (4 * word
 small_read words (suc n) bytes small (suc k) j = small_read words n (drop (4 * words) bytes) (λ i. rw get_or-drop (small (4 * words + i))) k j
 
 -- the store of an image
-abbrev pub read_store : Extent → List ℕ → Store
+abbrev pub read_store : ShapeView → List ℕ → Store
 read_store shape image = record { shape = shape; blocks = blocks_of shape.words (shape.modules * shape.blocks) image }
 
-whole_length : (shape : Extent) (image : List ℕ) → length image ≡ image_length shape → length image ≡ 4 * shape.words * (shape.modules * shape.blocks)
+whole_length : (shape : ShapeView) (image : List ℕ) → length image ≡ image_length shape → length image ≡ 4 * shape.words * (shape.modules * shape.blocks)
 whole_length shape image whole = whole ∙ omega arith
 
-pub is_read : (shape : Extent) (image : List ℕ) → IsShape shape → length image ≡ image_length shape → ((i : ℕ) → get_or image i 0 < 2 ^ 8) → HasImage shape image (read_store shape image)
+pub is_read : (shape : ShapeView) (image : List ℕ) → IsShape shape → length image ≡ image_length shape → ((i : ℕ) → get_or image i 0 < 2 ^ 8) → HasImage shape image (read_store shape image)
 is_read shape image valid whole small =
     let n = shape.modules * shape.blocks in
     let long = whole_length shape image whole in
@@ -146,14 +146,14 @@ is_read shape image valid whole small =
 
 -- ---- the store in which the blocks are placed
 
-abbrev pub block_number : Extent → List ℕ → ℕ → List ℕ
+abbrev pub block_number : ShapeView → List ℕ → ℕ → List ℕ
 block_number shape image k = get_or (read_store shape image).blocks k []
 
-abbrev pub placed_blocks : Extent → List ℕ → List ℕ → List (List ℕ)
+abbrev pub placed_blocks : ShapeView → List ℕ → List ℕ → List (List ℕ)
 placed_blocks shape image sources = map (block_number shape image) sources
 
 -- the bytes of a block stand where its number says
-pub bytes_at : (shape : Extent) (image : List ℕ) (k from : ℕ) → length image ≡ image_length shape → ((i : ℕ) → get_or image i 0 < 2 ^ 8) → k < shape.modules * shape.blocks → from ≡ 4 * shape.words * k → take (4 * shape.words) (drop from image) ≡ bytes_of_block (block_number shape image k)
+pub bytes_at : (shape : ShapeView) (image : List ℕ) (k from : ℕ) → length image ≡ image_length shape → ((i : ℕ) → get_or image i 0 < 2 ^ 8) → k < shape.modules * shape.blocks → from ≡ 4 * shape.words * k → take (4 * shape.words) (drop from image) ≡ bytes_of_block (block_number shape image k)
 bytes_at shape image k from whole small below at =
     let w = shape.words in
     let n = shape.modules * shape.blocks in
@@ -166,7 +166,7 @@ bytes_at shape image k from whole small below at =
     ∙ part_at bytes_of_block (4 * w) (4 * w) 0 (blocks_of w n image) [] k even (omega arith) (omega arith)
     ∙ take_all (4 * w) (bytes_of_block (block_number shape image k)) (let long_block = even k (omega arith) in omega (arith, long_block))
 
-pub is_placed_image : (shape : Extent) (image : List ℕ) (ts : List Transfer) (sources placed : List ℕ) → IsShape shape → length image ≡ image_length shape → ((i : ℕ) → get_or image i 0 < 2 ^ 8) → FitsIn shape ts → AreSources shape ts sources
+pub is_placed_image : (shape : ShapeView) (image : List ℕ) (ts : List Transfer) (sources placed : List ℕ) → IsShape shape → length image ≡ image_length shape → ((i : ℕ) → get_or image i 0 < 2 ^ 8) → FitsIn shape ts → AreSources shape ts sources
     → placed ≡ flat_map bytes_of_block (placed_blocks shape image sources) → IsPlacedImage shape image ts placed
 is_placed_image shape image ts sources placed valid whole small fits are is =
     let n = shape.modules * shape.blocks in
@@ -186,7 +186,7 @@ is_placed_image shape image ts sources placed valid whole small fits are is =
     }
 
 -- one block more
-pub more_placed : (shape : Extent) (image : List ℕ) (sources : List ℕ) (i from : ℕ) (placed : List ℕ) → length image ≡ image_length shape → ((j : ℕ) → get_or image j 0 < 2 ^ 8) → All (λ k. k < shape.modules * shape.blocks) sources → i < length sources → from ≡ 4 * shape.words * get_or sources i 0
+pub more_placed : (shape : ShapeView) (image : List ℕ) (sources : List ℕ) (i from : ℕ) (placed : List ℕ) → length image ≡ image_length shape → ((j : ℕ) → get_or image j 0 < 2 ^ 8) → All (λ k. k < shape.modules * shape.blocks) sources → i < length sources → from ≡ 4 * shape.words * get_or sources i 0
     → placed ≡ flat_map bytes_of_block (placed_blocks shape image (take i sources)) → placed ++ take (4 * shape.words) (drop from image) ≡ flat_map bytes_of_block (placed_blocks shape image (take (i + 1) sources))
 more_placed shape image sources i from placed whole small known l at is =
     let k = get_or sources i 0 in
@@ -197,7 +197,7 @@ more_placed shape image sources i from placed whole small known l at is =
     ∙ ap (flat_map bytes_of_block) (sym (ap (map (block_number shape image)) (take_more sources i 0 l) ∙ map-append (block_number shape image) (take i sources) (k ∷ [])))
 
 -- its bytes end within the image
-pub block_ends : (shape : Extent) (image sources : List ℕ) (i : ℕ) → length image ≡ image_length shape → All (λ k. k < shape.modules * shape.blocks) sources → i < length sources → 4 * shape.words * get_or sources i 0 + 4 * shape.words ≤ length image
+pub block_ends : (shape : ShapeView) (image sources : List ℕ) (i : ℕ) → length image ≡ image_length shape → All (λ k. k < shape.modules * shape.blocks) sources → i < length sources → 4 * shape.words * get_or sources i 0 + 4 * shape.words ≤ length image
 block_ends shape image sources i whole known l =
     let less : get_or sources i 0 < shape.modules * shape.blocks = known i 0 l in
     let below : get_or sources i 0 + 1 ≤ shape.modules * shape.blocks = omega arith in

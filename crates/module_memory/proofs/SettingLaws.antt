@@ -7,7 +7,7 @@ use Rattle.batch.specs.declared.transfer.Transfer.{Transfer}
 use Rattle.batch.specs.Places.{HasPlace, source_of, destination_of}
 use Rattle.batch.specs.Overlap.{transfer_at, source_at, destination_at}
 use Rattle.module_memory.specs.Store.{Store, block_of}
-use Rattle.batch.specs.Extent.{Extent, IsShape}
+use Rattle.batch.specs.ShapeView.{ShapeView, IsShape}
 use Rattle.std.specs.List.{concat}
 use Rattle.std.proofs.lemmas.List.{get_or_default, map-append, replicate-append-replicate, length-replicate, get_or-replicate, length-map}
 use Rattle.batch.proofs.Places.{place_at, place_index-place_at, HasPlace-place_at}
@@ -174,12 +174,12 @@ whole_words find opening old new ts pr m h p hp =
 whole_after : (find : Store → Place → List ℕ) (opening old new : Store) (ts : List Transfer) → Premises find opening old ts → (m : ℕ → ℕ) → IsMovedFrom opening old ts m new → IsWhole new
 whole_after find opening old new ts pr m h = record {
   within = subst IsShape (sym h.same_shape) pr.whole.within;
-  all_blocks = h.same_length ∙ pr.whole.all_blocks ∙ ap (λ (x : Extent). x.modules * x.blocks) (sym h.same_shape);
+  all_blocks = h.same_length ∙ pr.whole.all_blocks ∙ ap (λ (x : ShapeView). x.modules * x.blocks) (sym h.same_shape);
   all_words = λ k l.
       let p = place_at old.shape k in
       let hp : HasPlace old.shape p = HasPlace-place_at old.shape k pr.whole.within (omega (arith, h.same_length, pr.whole.all_blocks)) in
       ap (λ (x : List ℕ). length x) (sym (block_at new old.shape p k h.same_shape (place_index-place_at old.shape k)))
-      ∙ whole_words find opening old new ts pr m h p hp ∙ ap (λ (x : Extent). x.words) (sym h.same_shape);
+      ∙ whole_words find opening old new ts pr m h p hp ∙ ap (λ (x : ShapeView). x.words) (sym h.same_shape);
 }
 
 -- what is ready stays so
@@ -192,7 +192,7 @@ ready_after opening old new batch numbers more m r h =
       whole = whole_after (found batch opening) opening old new (setting_of batch numbers) (Premises-from_ready opening old batch numbers first) m h;
       same_shape = h.same_shape ∙ r.same_shape;
       agrees = λ i l none. h.others (source_at batch i) (r.places i l).0 (unwritten_by_setting batch numbers (source_at batch i) first.setting none) ∙ r.agrees i l none;
-      places = subst (λ (x : Extent). FitsIn x batch) (sym h.same_shape) r.places;
+      places = subst (λ (x : ShapeView). FitsIn x batch) (sym h.same_shape) r.places;
       apart = r.apart;
       setting = rest.setting;
     }
@@ -218,7 +218,7 @@ run_is_moved opening s t batch (numbers ∷ settings) r h =
     (complete_moves (found batch opening) opening s ts (Premises-from_ready opening s batch numbers first) h.0 h.1) in
     let more : IsMovedFrom opening mid (setting_of batch (concat settings)) (slice_index (all_words mid settings)) t =
     run_is_moved opening mid t batch settings (ready_after opening s mid batch numbers (concat settings) _ r moved) h.2 in
-    let words : all_words mid settings ≡ replicate (length (concat settings)) w = ap (λ (x : Extent). replicate (length (concat settings)) x.words) moved.same_shape in
+    let words : all_words mid settings ≡ replicate (length (concat settings)) w = ap (λ (x : ShapeView). replicate (length (concat settings)) x.words) moved.same_shape in
     subst (λ (c : List ℕ). IsMovedFrom opening s (setting_of batch (numbers ++ concat settings)) (slice_index c) t) (counts_first w numbers settings)
     (one_after_another opening s mid t batch numbers (concat settings) (replicate (length numbers) w) (replicate (length (concat settings)) w) r (length-replicate (length numbers) w) moved
     (subst (λ (c : List ℕ). IsMovedFrom opening mid (setting_of batch (concat settings)) (slice_index c) t) words more))
@@ -234,7 +234,7 @@ stop_is_moved opening s t batch settings numbers steps counts r h e same =
     let before = run_is_moved opening s mid batch settings first h.whole_settings in
     let ready = ready_after opening s mid batch (concat settings) numbers _ r before in
     let ts = setting_of batch numbers in
-    let list : IsStepList ts mid.shape.words steps = subst (λ (x : Extent). IsStepList ts x.words steps) (sym before.same_shape) h.step_list in
+    let list : IsStepList ts mid.shape.words steps = subst (λ (x : ShapeView). IsStepList ts x.words steps) (sym before.same_shape) h.step_list in
     let moved : IsMovedFrom opening mid ts (λ i. times i steps) t = subst (λ (x : Store). IsMovedFrom opening mid ts (λ i. times i steps) x) (sym h.stopped) (each_prefix opening mid batch numbers ready steps list) in
     one_after_another opening s mid t batch (concat settings) numbers (all_words s settings) counts r (length-replicate (length (concat settings)) s.shape.words) before
     (IsMoved-same opening mid ts _ _ t (λ i l. sym (same i (omega (arith, length-map numbers (transfer_at batch))))) moved)

@@ -2,7 +2,7 @@
 -- `WINDOW_START` on, four bytes each).
 -- That a module has one window of blocks is this project's choice.
 use Rattle.std.specs.Prelude.{Bool, ℕ, ◌≡◌, ◌<◌, ◌+◌, ◌-◌, ◌*◌, ◌/◌, ◌%◌, ◌&&◌, ◌==◌, nat_lt, nat_le, Option, Some, None, if◌then◌else◌}
-use Rattle.batch.specs.Extent.{Extent}
+use Rattle.batch.specs.ShapeView.{ShapeView}
 use Rattle.batch.specs.declared.transfer.Place.{Place}
 use Rattle.batch.specs.Places.{HasPlace}
 use Rattle.module_memory.specs.declared.address.TheConstants.{WINDOW_START, WORD_BYTES}
@@ -11,7 +11,7 @@ use Rattle.module_memory.specs.declared.fault.MemoryFault.TheVariants.{NoModule,
 use Rattle.module_memory.specs.Store.{Store, word, set_word}
 
 -- the address of word j of block b, in a window that begins at an address
-abbrev pub address_from : ℕ → Extent → ℕ → ℕ → ℕ
+abbrev pub address_from : ℕ → ShapeView → ℕ → ℕ → ℕ
 address_from start shape b j = start + WORD_BYTES * (b * shape.words + j)
 
 -- which word of such a window an address is, counted over all blocks
@@ -19,7 +19,7 @@ abbrev pub number_from : ℕ → ℕ → ℕ
 number_from start a = (a - start) / WORD_BYTES
 
 -- the address of word j of block b
-abbrev pub address_of : Extent → ℕ → ℕ → ℕ
+abbrev pub address_of : ShapeView → ℕ → ℕ → ℕ
 address_of shape b j = address_from WINDOW_START shape b j
 
 -- which word of its module an address is
@@ -27,19 +27,19 @@ abbrev pub word_number : ℕ → ℕ
 word_number a = number_from WINDOW_START a
 
 -- the block of a module's address, if it has that address
-abbrev pub place_of : Extent → ℕ → ℕ → Place
+abbrev pub place_of : ShapeView → ℕ → ℕ → Place
 place_of shape m a = record { «module» = m; block = word_number a / shape.words }
 
 -- which word of its block an address is
-abbrev pub word_index : Extent → ℕ → ℕ
+abbrev pub word_index : ShapeView → ℕ → ℕ
 word_index shape a = word_number a % shape.words
 
 -- the address is in the window of a module
-abbrev pub is_inside : Extent → ℕ → Bool
+abbrev pub is_inside : ShapeView → ℕ → Bool
 is_inside shape a = nat_le WINDOW_START a && nat_lt (word_number a) (shape.blocks * shape.words)
 
 -- why a module has no such address, if it hasn't: the first of three causes
-abbrev pub fault_of : Extent → ℕ → ℕ → Option MemoryFault
+abbrev pub fault_of : ShapeView → ℕ → ℕ → Option MemoryFault
 fault_of shape m a =
     if nat_lt m shape.modules
     then
@@ -69,7 +69,7 @@ abbrev pub IsWrittenAt : Store → ℕ → ℕ → ℕ → Store → Type 0
 IsWrittenAt old m a w new = (fault_of old.shape m a ≡ None) × (new ≡ write_at old m a w)
 
 -- the place of a block and the position in it are those of an address of a module
-pub record IsSiteOf (shape : Extent) (m a : ℕ) (place : Place) (position : ℕ) : Type 0 where
+pub record IsSiteOf (shape : ShapeView) (m a : ℕ) (place : Place) (position : ℕ) : Type 0 where
   pub no_fault : fault_of shape m a ≡ None
   pub place_is : place ≡ place_of shape m a
   pub position_is : position ≡ word_index shape a

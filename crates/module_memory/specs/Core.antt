@@ -6,7 +6,7 @@ use Rattle.batch.specs.declared.transfer.Transfer.{Transfer}
 use Rattle.batch.specs.Places.{HasPlace, source_of, destination_of}
 use Rattle.batch.specs.Overlap.{transfer_at, source_at, destination_at, IsApart}
 use Rattle.batch.specs.Held.{is_written}
-use Rattle.batch.specs.Extent.{Extent}
+use Rattle.batch.specs.ShapeView.{ShapeView}
 use Rattle.module_memory.specs.Store.{Store, IsWhole, block_of, set_word}
 
 -- a store, and how many words each transfer of a setting has moved
@@ -50,7 +50,7 @@ pub record IsComplete (ts : List Transfer) (words : ℕ) (steps : List ℕ) : Ty
   pub complete : (i : ℕ) → i < length ts → times i steps ≡ words
 
 -- the blocks of the transfers exist
-abbrev pub FitsIn : Extent → List Transfer → Type 0
+abbrev pub FitsIn : ShapeView → List Transfer → Type 0
 FitsIn shape ts =
     (i : ℕ) → i < length ts → HasPlace shape (source_at ts i) × HasPlace shape (destination_at ts i)
 

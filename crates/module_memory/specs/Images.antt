@@ -4,7 +4,7 @@
 use Rattle.std.specs.Prelude.{ℕ, ◌≡◌, ◌≢◌, ◌<◌, ◌+◌, ◌*◌, ◌^◌, List, length, take, drop}
 use Rattle.std.specs.Int.{w32, to_le_bytes, from_le_bytes}
 use Rattle.std.specs.List.{flat_map}
-use Rattle.batch.specs.Extent.{Extent}
+use Rattle.batch.specs.ShapeView.{ShapeView}
 use Rattle.batch.specs.declared.transfer.Place.{Place}
 use Rattle.batch.specs.Places.{place_index}
 use Rattle.module_memory.specs.declared.address.TheConstants.{WORD_BYTES}
@@ -28,11 +28,11 @@ abbrev pub image_of : Store → List ℕ
 image_of s = flat_map bytes_of_block s.blocks
 
 -- how many bytes the images of a shape have
-abbrev pub image_length : Extent → ℕ
+abbrev pub image_length : ShapeView → ℕ
 image_length shape = WORD_BYTES * (shape.modules * shape.blocks * shape.words)
 
 -- the four bytes of word j of a block, in an image
-abbrev pub word_in_image : Extent → List ℕ → Place → ℕ → List ℕ
+abbrev pub word_in_image : ShapeView → List ℕ → Place → ℕ → List ℕ
 word_in_image shape image p j =
     take WORD_BYTES (drop (WORD_BYTES * (shape.words * place_index shape p + j)) image)
 
@@ -41,14 +41,14 @@ abbrev pub AreWords : Store → Type 0
 AreWords s = (p : Place) (j : ℕ) → word s p j < 2 ^ 32
 
 -- the store of a shape that has this image
-pub record HasImage (shape : Extent) (image : List ℕ) (s : Store) : Type 0 where
+pub record HasImage (shape : ShapeView) (image : List ℕ) (s : Store) : Type 0 where
   pub same_shape : s.shape ≡ shape
   pub whole : IsWhole s
   pub words : AreWords s
   pub image_is : image_of s ≡ image
 
 -- Why there is no rack of these bytes. Their number is looked at before memory is asked for.
-abbrev pub IsImageFault : Extent → List ℕ → ImageFault → Type 0
+abbrev pub IsImageFault : ShapeView → List ℕ → ImageFault → Type 0
 IsImageFault shape bytes (Length is wanted) =
     (is ≡ length bytes) × (wanted ≡ image_length shape) × (is ≢ wanted)
 IsImageFault shape bytes NoMemory = length bytes ≡ image_length shape

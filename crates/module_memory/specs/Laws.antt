@@ -1,6 +1,6 @@
 -- What the laws state. Proofs use them; no contract of a call cites them.
 use Rattle.std.specs.Prelude.{ℕ, ◌≡◌, ◌≢◌, ◌<◌, ◌+◌, ◌≤◌, List, [], ◌++◌, length, slice_set, slice_index, Contains}
-use Rattle.batch.specs.Extent.{Extent}
+use Rattle.batch.specs.ShapeView.{ShapeView}
 use Rattle.batch.specs.declared.transfer.Place.{Place}
 use Rattle.batch.specs.Places.{HasPlace}
 use Rattle.module_memory.specs.Store.{Store, set_word, IsWhole, block_of, HasAllBlocks, word}
@@ -27,7 +27,7 @@ WordsAreInImages =
 -- two stores of a shape that have one image are one
 abbrev pub OneImaged : Type 0
 OneImaged =
-    (shape : Extent) (image : List ℕ) (a b : Store) → HasImage shape image a
+    (shape : ShapeView) (image : List ℕ) (a b : Store) → HasImage shape image a
     → HasImage shape image b → a ≡ b
 
 -- the destinations of settings one after another can be lent, and the bays from a setting's first

@@ -1,7 +1,7 @@
 -- A rack of which some blocks are lent: bays that own the words of their blocks, and the rest. This
 -- project's choice.
 use Rattle.std.specs.Prelude.{ℕ, ◌≡◌, ◌≢◌, ◌<◌, ◌⊎◌, List, [], ◌∷◌, length, map, slice_index_or, slice_set, All}
-use Rattle.batch.specs.Extent.{Extent}
+use Rattle.batch.specs.ShapeView.{ShapeView}
 use Rattle.batch.specs.declared.transfer.Place.{Place}
 use Rattle.batch.specs.Places.{HasPlace, place_index}
 use Rattle.module_memory.specs.declared.fault.LendFault.{LendFault}
@@ -31,7 +31,7 @@ abbrev pub places_of : List BlockAt → List Place
 places_of bays = map (λ (b : BlockAt). b.place) bays
 
 -- the places before the one at a position exist
-abbrev pub ExistBefore : Extent → List Place → ℕ → Type 0
+abbrev pub ExistBefore : ShapeView → List Place → ℕ → Type 0
 ExistBefore shape places i = (k : ℕ) → k < i → HasPlace shape (place_in places k)
 
 -- the places before the one at a position are different
@@ -43,7 +43,7 @@ abbrev pub OccursBefore : List Place → ℕ → Type 0
 OccursBefore places i = (k : ℕ) × (k < i) × (place_in places k ≡ place_in places i)
 
 -- the first of the places that doesn't exist
-pub record IsFirstMissing (shape : Extent) (places : List Place) (i : ℕ) : Type 0 where
+pub record IsFirstMissing (shape : ShapeView) (places : List Place) (i : ℕ) : Type 0 where
   pub within : i < length places
   pub missing : HasPlace shape (place_in places i) → ⊥
   pub before : ExistBefore shape places i
@@ -55,13 +55,13 @@ pub record IsFirstRepeated (places : List Place) (i : ℕ) : Type 0 where
   pub before : DifferBefore places i
 
 -- the places exist, and no two are one
-pub record AreLendable (shape : Extent) (places : List Place) : Type 0 where
+pub record AreLendable (shape : ShapeView) (places : List Place) : Type 0 where
   pub exist : ExistBefore shape places (length places)
   pub distinct : DifferBefore places (length places)
 
 -- The first place at fault. That a place doesn't exist is looked at first, over all places and then
 -- over all held places, and memory is asked for last, where there is something to lend or to copy.
-abbrev pub IsLendFault : Extent → List Place → List Place → LendFault → Type 0
+abbrev pub IsLendFault : ShapeView → List Place → List Place → LendFault → Type 0
 IsLendFault shape places held (NoPlace i) = IsFirstMissing shape places i
 IsLendFault shape places held (NoHeld i) =
     ExistBefore shape places (length places) × IsFirstMissing shape held i
@@ -96,7 +96,7 @@ pub record RestView : Type 0 where
 
 -- the copy of a block among copies by where the blocks stand: it is empty where the block isn't
 -- held
-abbrev pub copy_in : Extent → List (List ℕ) → Place → List ℕ
+abbrev pub copy_in : ShapeView → List (List ℕ) → Place → List ℕ
 copy_in shape copies p = slice_index_or copies (place_index shape p) []
 
 -- the copy of a block
@@ -127,7 +127,7 @@ pub record HasCopy (rest : RestView) (p : Place) (words : List ℕ) : Type 0 whe
   pub some : 0 < length words
 
 -- each copy has all words of a block, or none
-abbrev pub AreWholeCopies : Extent → List (List ℕ) → Type 0
+abbrev pub AreWholeCopies : ShapeView → List (List ℕ) → Type 0
 AreWholeCopies shape copies =
     (p : Place) → HasPlace shape p
     → (copy_in shape copies p ≡ []) ⊎ (length (copy_in shape copies p) ≡ shape.words)

@@ -1,16 +1,16 @@
 -- The words of a rack's modules. The blocks and their order are this project's choice.
 use Rattle.std.specs.Prelude.{ℕ, ◌≡◌, ◌<◌, ◌*◌, List, [], length, slice_index, slice_index_or, slice_get, slice_set, replicate, Option}
-use Rattle.batch.specs.Extent.{Extent, IsShape}
+use Rattle.batch.specs.ShapeView.{ShapeView, IsShape}
 use Rattle.batch.specs.declared.transfer.Place.{Place}
 use Rattle.batch.specs.Places.{HasPlace, place_index}
 
 -- the words of each block of a rack, the blocks by module and then by block
 pub record Store : Type 0 where
-  pub shape : Extent
+  pub shape : ShapeView
   pub blocks : List (List ℕ)
 
 -- the block is one of the shape, and stands here among all its blocks
-pub record IsIndexOf (shape : Extent) (p : Place) (k : ℕ) : Type 0 where
+pub record IsIndexOf (shape : ShapeView) (p : Place) (k : ℕ) : Type 0 where
   pub exists : HasPlace shape p
   pub index : k ≡ place_index shape p
   pub below : k < shape.modules * shape.blocks
@@ -48,7 +48,7 @@ pub record IsWhole (s : Store) : Type 0 where
       → length (slice_index_or s.blocks k []) ≡ s.shape.words
 
 -- the store of a shape in which each word is 0
-abbrev pub zeros_of : Extent → Store
+abbrev pub zeros_of : ShapeView → Store
 zeros_of shape =
     record {
       shape = shape;

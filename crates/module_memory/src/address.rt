@@ -1,7 +1,7 @@
 //! Where the words of a module stand.
 
 ghost use Rattle.std.specs.Prelude.{◌≡◌, ◌<◌, ◌*◌, Some, None, MatchOption, MatchResult};
-ghost use Rattle.batch.specs.Extent.{IsShape};
+ghost use Rattle.batch.specs.ShapeView.{IsShape};
 ghost use Rattle.batch.specs.Places.{HasPlace, place_index};
 ghost use Rattle.module_memory.specs.Store.{IsIndexOf};
 ghost use Rattle.module_memory.specs.Address.{IsSiteOf, fault_of};

@@ -1,7 +1,7 @@
 //! Whether blocks can be lent.
 
 ghost use Rattle.std.specs.Prelude.{◌≡◌, ◌<◌, length, MatchOption};
-ghost use Rattle.batch.specs.Extent.{widest};
+ghost use Rattle.batch.specs.ShapeView.{widest};
 ghost use Rattle.batch.specs.Places.{HasPlace, place_index};
 ghost use Rattle.module_memory.specs.Lending.{AreLendable, DifferBefore, ExistBefore, IsFirstMissing, IsFirstRepeated, IsLendFault};
 
@@ -10,7 +10,7 @@ use crate::fault::LendFault;
 use batch::{MAX_BLOCKS, MAX_MODULES, Place, Shape};
 
 /// How many blocks the widest shape has.
-const ALL_PLACES: usize = MAX_MODULES * MAX_BLOCKS;
+const MAX_RACK_BLOCKS: usize = MAX_MODULES * MAX_BLOCKS;
 
 /// The first place that the shape hasn't.
 fn first_missing(shape: Shape, places: &[Place]) -> Option<usize>
@@ -30,7 +30,7 @@ fn first_missing(shape: Shape, places: &[Place]) -> Option<usize>
 fn widest_index(shape: Shape, place: Place) -> usize
     requires { HasPlace shape place }
     ensures value { result ≡ place_index widest place }
-    ensures below { result < ALL_PLACES }
+    ensures below { result < MAX_RACK_BLOCKS }
 {
     place.module * MAX_BLOCKS + place.block
 }
@@ -42,7 +42,7 @@ fn first_repeated(shape: Shape, places: &[Place]) -> Option<usize>
         (DifferBefore places.now (length places.now))
         (IsFirstRepeated places.now) }
 {
-    let mut taken = [false; ALL_PLACES];
+    let mut taken = [false; MAX_RACK_BLOCKS];
     for i in 0..places.len() {
         let index = widest_index(shape, places[i]);
         if taken[index] {

@@ -1,7 +1,7 @@
 //! A rack of which some blocks are lent.
 
 ghost use Rattle.std.specs.Prelude.{◌≡◌, ◌<◌, ◌*◌, [], length, slice_get, None, MatchOption};
-ghost use Rattle.batch.specs.Extent.{IsShape};
+ghost use Rattle.batch.specs.ShapeView.{IsShape};
 ghost use Rattle.batch.specs.Places.{HasPlace};
 ghost use Rattle.module_memory.specs.Store.{block_of, find_word, set_block};
 ghost use Rattle.module_memory.specs.Lending.{AreWholeCopies, HasCopy, Rejoins, copy_of, store_rejoined, with_word};
@@ -39,7 +39,7 @@ pub struct Rest {
 
 impl Model for Rest {
     ghost use Rattle.std.specs.Prelude.{◌≡◌, ◌*◌, length};
-    ghost use Rattle.batch.specs.Extent.{IsShape};
+    ghost use Rattle.batch.specs.ShapeView.{IsShape};
     ghost use Rattle.module_memory.specs.Lending.{RestView, AreWholeCopies};
 
     ghost Value = { RestView };

@@ -8,7 +8,7 @@ use Rattle.std.proofs.lemmas.List.Elements.{All-contains, All-head, Contains-get
 use Rattle.std.proofs.lemmas.List.Sums.{sum_by-append}
 use Rattle.std.proofs.lemmas.List.Folds.{list_any-append}
 use Rattle.batch.proofs.Lists.{concat_more}
-use Rattle.batch.specs.Extent.{Extent}
+use Rattle.batch.specs.ShapeView.{ShapeView}
 use Rattle.batch.specs.Overlap.{no_transfer, transfer_at}
 use Rattle.batch.specs.Places.{HasPlace, destination_of, source_of}
 use Rattle.batch.specs.declared.limits.TheConstants.{MAX_BLOCKS, MAX_MODULES}
@@ -68,7 +68,7 @@ across aside late k j old new Three Pull i o r f some e = e
 -- ---- the transfers of a setting
 
 -- the modules and blocks of transfers are those that a rack may have
-module_of_place : (kind : Kind) (i o r f : ℕ) (shape : Extent) (end : End) → let x : Transfer = record { kind = kind; initiator = i; own_block = o; responder = r; far_block = f } in HasPlace shape (source_of x) × HasPlace shape (destination_of x) → module_at end x < shape.modules
+module_of_place : (kind : Kind) (i o r f : ℕ) (shape : ShapeView) (end : End) → let x : Transfer = record { kind = kind; initiator = i; own_block = o; responder = r; far_block = f } in HasPlace shape (source_of x) × HasPlace shape (destination_of x) → module_at end x < shape.modules
 module_of_place Push i o r f shape Zero h = h.0.in_modules
 module_of_place Push i o r f shape Three h = h.1.in_modules
 module_of_place Pull i o r f shape Zero h = h.1.in_modules
@@ -342,7 +342,7 @@ ahead_next batch settings opening k s numbers more steps a whole =
       rest = is.1 ∙ ap (λ (n : ℕ). drop n settings) (add-one k);
       ready = ready_after opening s now batch numbers (concat more) (λ _. s.shape.words) a.ready moved;
       agrees = λ p hp none.
-          let here : HasPlace s.shape p = subst (λ (x : Extent). HasPlace x p) moved.same_shape hp in
+          let here : HasPlace s.shape p = subst (λ (x : ShapeView). HasPlace x p) moved.same_shape hp in
           let both = ap (λ (n : ℕ). changed_by (before batch settings n) p) (add-one k) ∙ none in
           let parts = or_parts (changed_by (before batch settings k) p) (changed_by (setting_of batch (numbers_in settings k)) p) (sym (changed_up batch settings k p b.within) ∙ both) in
           unchanged_now opening s now ts (λ _. s.shape.words) p moved here (a.agrees p here parts.0) (none_changes ts p (ap (λ (ns : List ℕ). changed_by (setting_of batch ns) p) is.0 ∙ parts.1));

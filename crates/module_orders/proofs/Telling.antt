@@ -9,7 +9,7 @@ use Rattle.std.proofs.lemmas.List.FromFn.{get_or-map-range_with_len, length-map-
 use Rattle.std.proofs.lemmas.List.{flat_map_more}
 use Rattle.batch.proofs.Lists.{concat_more, range_more}
 use Rattle.batch.specs.Batches.{IsBatch}
-use Rattle.batch.specs.Extent.{widest}
+use Rattle.batch.specs.ShapeView.{widest}
 use Rattle.batch.specs.Overlap.{transfer_at}
 use Rattle.batch.specs.Places.{HasPlace, source_of}
 use Rattle.batch.specs.Written.{flag_of}

@@ -2,7 +2,7 @@
 -- a module, by a flag for each block.
 use Rattle.std.specs.Prelude.{◌≡◌, ℕ, Bool, false, List, filter, map, slice_index_or}
 use Rattle.std.specs.List.{range_with_len}
-use Rattle.batch.specs.Extent.{widest}
+use Rattle.batch.specs.ShapeView.{widest}
 use Rattle.batch.specs.Places.{HasPlace}
 use Rattle.batch.specs.Written.{flag_of}
 use Rattle.batch.specs.declared.limits.TheConstants.{MAX_BLOCKS}

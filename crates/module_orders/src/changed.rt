@@ -2,7 +2,7 @@
 
 ghost use Rattle.std.specs.Prelude.{◌≡◌, ◌<◌, [], ◌++◌, List, length, All};
 ghost use Rattle.batch.specs.Batches.{IsBatch};
-ghost use Rattle.batch.specs.Extent.{widest};
+ghost use Rattle.batch.specs.ShapeView.{widest};
 ghost use Rattle.batch.specs.Places.{HasPlace, place_index};
 ghost use Rattle.batch.specs.Written.{flag_of};
 ghost use Rattle.batch.specs.declared.transfer.Transfer.{Transfer};
@@ -13,20 +13,20 @@ use batch::{Batch, MAX_BLOCKS, MAX_MODULES, Place};
 use switch_settings::transfer_of;
 
 /// How many blocks the widest shape has.
-const MAX_PLACES: usize = MAX_MODULES * MAX_BLOCKS;
+const MAX_RACK_BLOCKS: usize = MAX_MODULES * MAX_BLOCKS;
 
 /// A flag for each block of the widest shape, which is up where a transfer so far has changed the
 /// block.
 #[derive(Drop)]
 pub(crate) struct ChangedBlocks {
-    pub(crate) flags: [bool; MAX_PLACES],
+    pub(crate) flags: [bool; MAX_RACK_BLOCKS],
 }
 
 /// Where a block stands among those of the widest shape.
 fn index_of(place: Place) -> usize
     requires { HasPlace widest place }
     ensures value { result ≡ place_index widest place }
-    ensures below { result < MAX_PLACES }
+    ensures below { result < MAX_RACK_BLOCKS }
 {
     place.module * MAX_BLOCKS + place.block
 }
@@ -37,7 +37,7 @@ impl ChangedBlocks {
         ensures { AreChanged [] result.flags }
     {
         ChangedBlocks {
-            flags: [false; MAX_PLACES],
+            flags: [false; MAX_RACK_BLOCKS],
         }
     }
 

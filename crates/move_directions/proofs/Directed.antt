@@ -10,7 +10,7 @@ use Rattle.batch.specs.declared.transfer.Kind.{Kind}
 use Rattle.batch.specs.declared.transfer.Kind.TheVariants.{Push, Pull}
 use Rattle.batch.specs.declared.transfer.Transfer.{Transfer}
 use Rattle.batch.specs.Batches.{IsBatch}
-use Rattle.batch.specs.Extent.{widest}
+use Rattle.batch.specs.ShapeView.{widest}
 use Rattle.batch.specs.Text as text
 use Rattle.link_graph.specs.declared.link.End.{End}
 use Rattle.link_graph.specs.declared.link.End.TheVariants.{Zero, Three}

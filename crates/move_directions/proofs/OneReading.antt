@@ -1,7 +1,7 @@
 -- A text denotes one list of moves or has one first fault, and not both.
 use Rattle.std.proofs.Common.{ap, ◌∙◌}
 use Rattle.batch.specs.declared.transfer.Place.{Place}
-use Rattle.batch.specs.Extent.{widest}
+use Rattle.batch.specs.ShapeView.{widest}
 use Rattle.batch.proofs.Lines.{Tells}
 use Rattle.batch.proofs.OneList as lists
 use Rattle.batch.proofs.Shapes.{widest_shape}

@@ -1,7 +1,7 @@
 -- The first fault of a text that denotes no list of moves.
 use Rattle.std.specs.Prelude.{List, ℕ}
 use Rattle.batch.specs.declared.fault.BatchFault.{BatchFault}
-use Rattle.batch.specs.Extent.{widest}
+use Rattle.batch.specs.ShapeView.{widest}
 use Rattle.batch.specs.ListFaults as lists
 use Rattle.move_directions.specs.Text.{moves_form}
 

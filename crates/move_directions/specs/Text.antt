@@ -1,6 +1,6 @@
 -- The text of a list of moves. The form is this project's choice.
 use Rattle.std.specs.Prelude.{List, ℕ, codes}
-use Rattle.batch.specs.Extent.{widest}
+use Rattle.batch.specs.ShapeView.{widest}
 use Rattle.batch.specs.Lists as lists
 use Rattle.batch.specs.Lists.{Form}
 use Rattle.move_directions.specs.declared.moves.Move.{Move}

@@ -5,7 +5,7 @@ use Rattle.std.specs.Global.{Global}
 use Rattle.std.specs.Io.KnownBytes.{Appends}
 use Rattle.byte_streams.specs.Writing.{IsCutShort}
 use Rattle.refusals.specs.declared.refusal.Refusal.TheVariants as refusal
-use Rattle.named_files.specs.declared.unanswered.Unanswered.TheVariants.{File}
+use Rattle.named_files.specs.declared.refusal_cause.RefusalCause.TheVariants.{File}
 use Rattle.named_files.specs.Notes.{unanswered, IsToldInPart, IsNoteOn, IsWholeLine}
 
 -- the bytes of a line, if there is one

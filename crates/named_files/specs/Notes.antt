@@ -6,11 +6,11 @@ use Rattle.plan_answers.specs.declared.limits.TheConstants.{REFUSED}
 use Rattle.refusals.specs.declared.refusal.Refusal.{Refusal}
 use Rattle.refusals.specs.Refusals.{refusal_line}
 pub use Rattle.refusal_notes.specs.Told.{IsWholeLine}
-use Rattle.named_files.specs.declared.notes.NoAnswer.{NoAnswer}
-use Rattle.named_files.specs.declared.notes.NoAnswer.TheVariants.{Refused, Unwritten}
+use Rattle.named_files.specs.declared.notes.JobFailure.{JobFailure}
+use Rattle.named_files.specs.declared.notes.JobFailure.TheVariants.{Refused, OutputFailure}
 use Rattle.refusals.specs.declared.refusal.Refusal.TheVariants as refusal
-use Rattle.named_files.specs.declared.unanswered.Unanswered.{Unanswered}
-use Rattle.named_files.specs.declared.unanswered.Unanswered.TheVariants.{File, NoMemory, Output}
+use Rattle.named_files.specs.declared.refusal_cause.RefusalCause.{RefusalCause}
+use Rattle.named_files.specs.declared.refusal_cause.RefusalCause.TheVariants.{File, NoMemory, Output}
 
 -- this line says a refusal, which isn't want of memory
 abbrev pub SaysRefusal : List ℕ → Type 0
@@ -55,23 +55,23 @@ HasToldLines quiet before after =
     ⊎ ((quiet ≡ false) × ((lines : List (List ℕ)) × AreToldLines before after lines))
 
 -- which refusal that is
-abbrev pub refusal_of : Unanswered → Refusal
+abbrev pub refusal_of : RefusalCause → Refusal
 refusal_of File = refusal.File
 refusal_of Output = refusal.File
 refusal_of NoMemory = refusal.NoMemory
 
 -- what is printed where there is no answer
-abbrev pub unanswered : Unanswered → Printed
+abbrev pub unanswered : RefusalCause → Printed
 unanswered why = record { text = refusal_line (refusal_of why); status = REFUSED }
 
 -- what is told where there is no answer; what couldn't be written is told otherwise
-abbrev pub IsNoAnswer : NoAnswer → Type 0
+abbrev pub IsNoAnswer : JobFailure → Type 0
 IsNoAnswer (Refused why note) =
     IsNoteOn (unanswered why) (option_map (λ line. string_bytes line) note)
-IsNoAnswer (Unwritten what) = ⊤
+IsNoAnswer (OutputFailure what) = ⊤
 
 -- it is refused, with what is told of that
-abbrev pub IsRefused : NoAnswer → Type 0
+abbrev pub IsRefused : JobFailure → Type 0
 IsRefused (Refused why note) =
     IsNoteOn (unanswered why) (option_map (λ line. string_bytes line) note)
-IsRefused (Unwritten what) = ⊥
+IsRefused (OutputFailure what) = ⊥

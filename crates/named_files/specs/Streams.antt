@@ -15,33 +15,33 @@ named_text name bytes = (length name ∷ name) ++ bytes
 
 -- What has gone to the stream of this name that has these contents; none where it was opened by
 -- another name.
-abbrev pub gone_to : Text → Option (List ℕ) → Option (List ℕ)
-gone_to name contents = option_and_then (bytes_after (length name ∷ name)) contents
+abbrev pub written_to : Text → Option (List ℕ) → Option (List ℕ)
+written_to name contents = option_and_then (bytes_after (length name ∷ name)) contents
 
 -- the same where the name is one of a file that may be asked for
-abbrev pub gone_by : Option Text → Option (List ℕ) → Option (List ℕ)
-gone_by None contents = contents
-gone_by (Some name) contents = gone_to name contents
+abbrev pub written_by : Option Text → Option (List ℕ) → Option (List ℕ)
+written_by None contents = contents
+written_by (Some name) contents = written_to name contents
 
 -- the same of any of these streams
-abbrev pub gone_at : {F : Type 0} → (F → Option (List ℕ)) → Option Text → F → Option (List ℕ)
-gone_at contents name file = gone_by name (contents file)
+abbrev pub written_at : {F : Type 0} → (F → Option (List ℕ)) → Option Text → F → Option (List ℕ)
+written_at contents name file = written_by name (contents file)
 
 -- what is left of a stream: the name by which it was opened, all that has gone to it, and whether it
 -- stands in its place
 pub record Closed : Type 0 where
   pub name : Text
   pub bytes : Option (List ℕ)
-  pub stands : Bool
+  pub durable : Bool
 
 abbrev pub closed : Text → Option (List ℕ) → Bool → Closed
-closed name bytes stands = record { name = name; bytes = bytes; stands = stands }
+closed name bytes durable = record { name = name; bytes = bytes; durable = durable }
 
 -- so much is left of a stream with these contents
-abbrev pub IsLeftOf : Option (List ℕ) → (stands : Bool) → Closed → Type 0
-IsLeftOf contents stands left =
-    (name : Text) (bytes : List ℕ) → gone_to name contents ≡ Some bytes
-    → left ≡ closed name (Some bytes) stands
+abbrev pub IsLeftOf : Option (List ℕ) → (durable : Bool) → Closed → Type 0
+IsLeftOf contents durable left =
+    (name : Text) (bytes : List ℕ) → written_to name contents ≡ Some bytes
+    → left ≡ closed name (Some bytes) durable
 
 -- a front of these bytes stands there
 abbrev pub IsFrontOf : List ℕ → Option (List ℕ) → Type 0

@@ -6,7 +6,7 @@ ghost use Rattle.named_files.specs.DistinctFiles.{TellsBy};
 
 use crate::distinct_files::DistinctFiles;
 use crate::io_failure::IoFailure;
-use crate::sent_file::SentFile;
+use crate::traced_file::TracedFile;
 use byte_streams::PassedBytes;
 use command_words::Text;
 use session_answers::{ClientStreams, ThreadsStarted};
@@ -18,7 +18,7 @@ use std::sync::OnceLock;
 /// What opens the files of clients, in the thread of each, once all threads are there.
 pub trait ClientFiles: Sync {
     /// What a client says is read from this.
-    type Heard: Read + Send + Drop;
+    type Input: Read + Send + Drop;
 
     /// What comes from the file of this name, as far as that is known.
     ghost says: { Self → List ℕ → Option (List ℕ) };
@@ -27,17 +27,17 @@ pub trait ClientFiles: Sync {
     ghost had: { Self → List ℕ → List ℕ };
 
     /// Opens the file from which a client is heard.
-    fn open_heard(&self, there: &ThreadsStarted, name: &str) -> io::Result<Self::Heard>
-        ensures { IfOk result (λ heard. Self.Heard.remaining heard ≡ says self.now name.now) };
+    fn open_input(&self, there: &ThreadsStarted, name: &str) -> io::Result<Self::Input>
+        ensures { IfOk result (λ heard. Self.Input.remaining heard ≡ says self.now name.now) };
 
     /// Opens the file by which a client is told: it is made where it isn't there, and emptied. It is
     /// one by which the job tells a client.
-    fn open_told(
+    fn open_output(
         &self,
         there: &ThreadsStarted,
         apart: &DistinctFiles,
         name: &str,
-    ) -> io::Result<SentFile>
+    ) -> io::Result<TracedFile>
         requires { TellsBy apart.now name.now }
         ensures { IfOk result (λ told. told.sent ≡ had self.now name.now) };
 }
@@ -74,9 +74,9 @@ impl<'a, S: ClientFiles> ClientStreams for FileStreams<'a, S> {
     ghost use Rattle.std.specs.Prelude.{Some};
     ghost use Rattle.named_files.specs.Clients.{clients_by};
 
-    type Reader = S::Heard;
+    type Reader = S::Input;
 
-    type Writer = SentFile;
+    type Writer = TracedFile;
 
     type Receipt = PassedBytes;
 
@@ -96,21 +96,21 @@ impl<'a, S: ClientFiles> ClientStreams for FileStreams<'a, S> {
     }
 
     // What the client says is opened first.
-    fn open(&self, there: ThreadsStarted, client: usize) -> io::Result<(S::Heard, SentFile)> {
+    fn open(&self, there: ThreadsStarted, client: usize) -> io::Result<(S::Input, TracedFile)> {
         let Some(name) = self.clients.get(client) else {
             return Err(io::Error::from(ErrorKind::NotFound));
         };
         let name = name.as_str();
         let said = format!(in self.alloc; "{name}.in")?;
         let told = format!(in self.alloc; "{name}.out")?;
-        let reader = match self.system.open_heard(&there, said.as_str()) {
+        let reader = match self.system.open_input(&there, said.as_str()) {
             Ok(reader) => reader,
             Err(error) => {
                 self.keep(client, said, &error);
                 return Err(error);
             }
         };
-        match self.system.open_told(&there, self.apart, told.as_str()) {
+        match self.system.open_output(&there, self.apart, told.as_str()) {
             Ok(writer) => Ok((reader, writer)),
             Err(error) => {
                 self.keep(client, told, &error);
@@ -119,7 +119,7 @@ impl<'a, S: ClientFiles> ClientStreams for FileStreams<'a, S> {
         }
     }
 
-    fn close(&self, writer: SentFile) -> PassedBytes {
+    fn close(&self, writer: TracedFile) -> PassedBytes {
         writer.into_sent()
     }
 }

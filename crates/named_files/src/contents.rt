@@ -10,10 +10,10 @@ ghost use Rattle.named_files.specs.DistinctFiles.{IsReadOf};
 ghost use Rattle.named_files.specs.Notes.{IsRefused};
 
 use crate::distinct_files::DistinctFiles;
-use crate::notes::{NoAnswer, unread};
+use crate::notes::{JobFailure, read_failure};
 use crate::system::System;
 use command_words::{JobFiles, Text};
-use plan_answers::Source;
+use plan_answers::ScheduleSource;
 use std::alloc::{AllocError, Global};
 use std::io;
 use std::io::Read;
@@ -35,7 +35,7 @@ pub fn read_contents<S: System, I: Read>(
     apart: &DistinctFiles,
     files: JobFiles<'_>,
     input: &mut I,
-) -> Result<Contents, NoAnswer>
+) -> Result<Contents, JobFailure>
     requires { file_names files ≡ files_of apart.now }
     ensures contents { IfOk result (λ contents. AreContents (S.holds system.now)
         (I.remaining input.old) (file_names files.entry) (contents_in contents)
@@ -58,7 +58,7 @@ fn read_option<S: System, I: Read>(
     apart: &DistinctFiles,
     name: Option<&Text>,
     input: &mut I,
-) -> Result<Option<Vec<u8>>, NoAnswer>
+) -> Result<Option<Vec<u8>>, JobFailure>
     requires { All (IsReadOf apart.now) (option_to_list (bytes_of name)) }
     ensures content { IfOk result (λ file. AreRead (S.holds system.now) (I.remaining input.old)
         (option_to_list (bytes_of name.entry))
@@ -78,7 +78,7 @@ fn read_files<S: System, I: Read>(
     apart: &DistinctFiles,
     names: &[Text],
     input: &mut I,
-) -> Result<Vec<Vec<u8>>, NoAnswer>
+) -> Result<Vec<Vec<u8>>, JobFailure>
     requires { All (IsReadOf apart.now) names.now }
     ensures content { IfOk result (λ files. AreRead (S.holds system.now) (I.remaining input.old)
         names.now (map (λ file. file.items) files.items) (I.remaining input.new)) }
@@ -99,7 +99,7 @@ fn read_file<S: System, I: Read>(
     apart: &DistinctFiles,
     name: &Text,
     input: &mut I,
-) -> Result<Vec<u8>, NoAnswer>
+) -> Result<Vec<u8>, JobFailure>
     requires { IsReadOf apart.now name.now }
     ensures content { IfOk result (λ file. IsFileRead (S.holds system.now) (I.remaining input.old)
         name.now file.items (I.remaining input.new)) }
@@ -107,7 +107,7 @@ fn read_file<S: System, I: Read>(
 {
     match read_bytes(system, alloc, apart, name, input) {
         Ok(file) => Ok(file),
-        Err(error) => Err(unread(alloc, name, &error)),
+        Err(error) => Err(read_failure(alloc, name, &error)),
     }
 }
 
@@ -152,11 +152,11 @@ pub fn text_of(file: &Option<Vec<u8>>) -> &[u8]
 }
 
 /// Where a schedule comes from, with its text, where a file has one.
-pub fn source_with<'a>(source: &Source<Text>, text: &'a [u8]) -> Source<&'a [u8]>
+pub fn source_with<'a>(source: &ScheduleSource<Text>, text: &'a [u8]) -> ScheduleSource<&'a [u8]>
     ensures { said_by result ≡ source_map (λ _. text.entry.now) source.now }
 {
     match source {
-        Source::Plan(planning) => Source::Plan(*planning),
-        Source::Text(_) => Source::Text(text),
+        ScheduleSource::Plan(planning) => ScheduleSource::Plan(*planning),
+        ScheduleSource::Text(_) => ScheduleSource::Text(text),
     }
 }

@@ -3,15 +3,15 @@
 ghost use Rattle.std.specs.Prelude.{◌≡◌, ◌↔◌, All, IfErr, IfOk, IfSome, IsTrue, OnOk, codes, false, string_bytes};
 ghost use Rattle.command_words.specs.Jobs.{file_uses as the_uses};
 ghost use Rattle.command_words.specs.declared.uses.Access.TheVariants.{Port};
-ghost use Rattle.named_files.specs.declared.place.FileKind.TheVariants.{Null, Plain};
-ghost use Rattle.named_files.specs.DistinctFiles.{HaveNoClash, AreSeenApart, Clash, IsBarred, IsBarredSeen, IsClashSeen, IsNoneOf, IsOther, IsSeen};
+ghost use Rattle.named_files.specs.declared.file_id.FileKind.TheVariants.{Null, Plain};
+ghost use Rattle.named_files.specs.DistinctFiles.{HaveNoClash, AreSeenApart, Clash, IsForbiddenStream, IsBarredSeen, IsClashSeen, IsNoneOf, IsOther, IsSeen};
 ghost use Rattle.named_files.specs.Notes.{IsWholeLine, IsRefused};
 
-use crate::notes::NoAnswer;
-use crate::place::{FileKind, Place, Places, are_one_file};
-use crate::unanswered::Unanswered;
+use crate::notes::JobFailure;
+use crate::file_id::{FileKind, FileId, PathLookup, are_one_file};
+use crate::refusal_cause::RefusalCause;
 use command_words::{Access, FileUse, Job, RoleClash, Text, file_uses};
-use refusal_notes::{Named, file_line};
+use refusal_notes::{NamedText, file_line};
 use std::alloc::{AllocError, Global};
 use std::marker::Model;
 use std::snapshot::Snapshot;
@@ -55,31 +55,31 @@ fn is_port(access: Access) -> bool
 
 /// Whether files of these uses have to be two, and are one. A character device may be one, but as a
 /// port.
-fn clash_at(one: Access, other: Access, place: &Place, there: &Place) -> bool
-    ensures { IsTrue result ↔ Clash one other place.now there.now }
+fn clash_at(one: Access, other: Access, file_id: &FileId, there: &FileId) -> bool
+    ensures { IsTrue result ↔ Clash one other file_id.now there.now }
 {
     one.excludes(other)
-        && are_one_file(place, there)
-        && (!place.kind.is_device() || is_port(one) || is_port(other))
+        && are_one_file(file_id, there)
+        && (!file_id.kind.is_device() || is_port(one) || is_port(other))
 }
 
 /// The same, where both can be told.
-fn clash_seen(one: Access, other: Access, place: &Option<Place>, there: &Option<Place>) -> bool
-    ensures { IsTrue result ↔ IsClashSeen one other place.now there.now }
+fn clash_seen(one: Access, other: Access, file_id: &Option<FileId>, there: &Option<FileId>) -> bool
+    ensures { IsTrue result ↔ IsClashSeen one other file_id.now there.now }
 {
-    match (place, there) {
-        (Some(place), Some(there)) => clash_at(one, other, place, there),
+    match (file_id, there) {
+        (Some(file_id), Some(there)) => clash_at(one, other, file_id, there),
         _ => false,
     }
 }
 
 /// Whether two files that have to be two are one, as far as that can be told.
-fn clash<S: Places>(system: &S, one: &FileUse, other: &FileUse) -> Result<bool, AllocError>
+fn clash<S: PathLookup>(system: &S, one: &FileUse, other: &FileUse) -> Result<bool, AllocError>
     ensures { IfOk result (λ clash. IsSeen (S.leads system.now) one.now other.now clash) }
 {
-    let place = system.place(one.name.as_str())?;
-    let there = system.place(other.name.as_str())?;
-    Ok(clash_seen(one.access, other.access, &place, &there))
+    let file_id = system.file_id(one.name.as_str())?;
+    let there = system.file_id(other.name.as_str())?;
+    Ok(clash_seen(one.access, other.access, &file_id, &there))
 }
 
 /// What is told of two names that lead to one file.
@@ -90,29 +90,29 @@ fn one_file_line(alloc: Global, one: &FileUse, other: &FileUse) -> Option<String
         first: one.role(),
         later: other.role(),
     };
-    let first = Named::only(one.name.as_str());
+    let first = NamedText::only(one.name.as_str());
     let reason = format!(in alloc; "the same file as {first}, and {clash}").ok()?;
     file_line(alloc, other.name.as_str(), reason.as_str())
 }
 
 /// Why a job isn't done where two of its files are one, and what is told of them.
-fn refused(alloc: Global, one: &FileUse, other: &FileUse) -> NoAnswer
+fn refused(alloc: Global, one: &FileUse, other: &FileUse) -> JobFailure
     ensures { IsRefused result }
 {
     let note = one_file_line(alloc, one, other);
-    NoAnswer::Refused {
-        why: Unanswered::File,
+    JobFailure::Refused {
+        why: RefusalCause::File,
         note,
     }
 }
 
 /// Looks whether a file and each of others are two, where they have to be.
-fn look_at<S: Places>(
+fn look_at<S: PathLookup>(
     system: &S,
     alloc: Global,
     file: &FileUse,
     others: &[FileUse],
-) -> Result<(), NoAnswer>
+) -> Result<(), JobFailure>
     ensures apart { OnOk result
         (All (λ other. IsSeen (S.leads system.now) other file.now false) others.now) }
     ensures note { IfErr result (λ missed. IsRefused missed) }
@@ -126,7 +126,7 @@ fn look_at<S: Places>(
 }
 
 /// Looks whether each two of these files are two, where they have to be.
-fn look_through<S: Places>(system: &S, alloc: Global, files: &[FileUse]) -> Result<(), NoAnswer>
+fn look_through<S: PathLookup>(system: &S, alloc: Global, files: &[FileUse]) -> Result<(), JobFailure>
     ensures apart { OnOk result (HaveNoClash (S.leads system.now) files.now) }
     ensures note { IfErr result (λ missed. IsRefused missed) }
 {
@@ -153,17 +153,17 @@ fn is_null(kind: FileKind) -> bool
 /// Whether no standard stream may lead to a file of this use: to no plain file, nor, but for the
 /// null device, to one that is written.
 fn is_barred(access: Access, kind: FileKind) -> bool
-    ensures { IsTrue result ↔ IsBarred access kind }
+    ensures { IsTrue result ↔ IsForbiddenStream access kind }
 {
     is_plain(kind) || (access.excludes(Access::Read) && !is_null(kind))
 }
 
 /// Whether a stream leads to such a file, as far as that can be told.
-fn is_barred_seen(access: Access, place: &Option<Place>, there: &Option<Place>) -> bool
-    ensures { IsTrue result ↔ IsBarredSeen access place.now there.now }
+fn is_barred_seen(access: Access, file_id: &Option<FileId>, there: &Option<FileId>) -> bool
+    ensures { IsTrue result ↔ IsBarredSeen access file_id.now there.now }
 {
-    match (place, there) {
-        (Some(place), Some(there)) => is_barred(access, place.kind) && are_one_file(place, there),
+    match (file_id, there) {
+        (Some(file_id), Some(there)) => is_barred(access, file_id.kind) && are_one_file(file_id, there),
         _ => false,
     }
 }
@@ -171,20 +171,20 @@ fn is_barred_seen(access: Access, place: &Option<Place>, there: &Option<Place>) 
 /// Looks whether a stream that leads to this place is none of these files, but where it may be.
 /// Where it is another, this is why there is no answer; what is told of that may go to standard
 /// error, or nowhere.
-fn look_beside<S: Places>(
+fn look_beside<S: PathLookup>(
     system: &S,
     alloc: Global,
-    place: &Option<Place>,
+    file_id: &Option<FileId>,
     files: &[FileUse],
-    why: Unanswered,
+    why: RefusalCause,
     tells: bool,
-) -> Result<(), NoAnswer>
-    ensures none { OnOk result (All (IsOther (S.leads system.now) place.now) files.now) }
+) -> Result<(), JobFailure>
+    ensures none { OnOk result (All (IsOther (S.leads system.now) file_id.now) files.now) }
     ensures note { IfErr result (λ missed. IsRefused missed) }
 {
     for file in files {
-        let there = system.place(file.name.as_str())?;
-        if is_barred_seen(file.access, place, &there) {
+        let there = system.file_id(file.name.as_str())?;
+        if is_barred_seen(file.access, file_id, &there) {
             return Err(unanswered(alloc, &file.name, why, tells));
         }
     }
@@ -192,41 +192,41 @@ fn look_beside<S: Places>(
 }
 
 /// Why a job isn't done where a standard stream is one of its files.
-fn unanswered(alloc: Global, file: &Text, why: Unanswered, tells: bool) -> NoAnswer
+fn unanswered(alloc: Global, file: &Text, why: RefusalCause, tells: bool) -> JobFailure
     ensures { IsRefused result }
 {
     match why {
-        Unanswered::Output if tells => {
+        RefusalCause::Output if tells => {
             let reason = "standard output goes there, and nothing else may";
             let note = file_line(alloc, file.as_str(), reason);
-            NoAnswer::Refused { why, note }
+            JobFailure::Refused { why, note }
         }
-        _ => NoAnswer::Refused { why, note: None },
+        _ => JobFailure::Refused { why, note: None },
     }
 }
 
 /// Looks whether standard output and standard error are none of these files, but where they may be.
 /// Where standard error is another, nothing is told there.
-fn look_at_streams<S: Places>(system: &S, alloc: Global, files: &[FileUse]) -> Result<(), NoAnswer>
+fn look_at_streams<S: PathLookup>(system: &S, alloc: Global, files: &[FileUse]) -> Result<(), JobFailure>
     ensures out { OnOk result (IsNoneOf (S.leads system.now) (codes "/dev/stdout") files.now) }
     ensures err { OnOk result (IsNoneOf (S.leads system.now) (codes "/dev/stderr") files.now) }
     ensures note { IfErr result (λ missed. IsRefused missed) }
 {
-    let out = system.place("/dev/stdout")?;
-    let err = system.place("/dev/stderr")?;
-    let end = look_beside(system, alloc, &err, files, Unanswered::File, false);
-    look_beside(system, alloc, &out, files, Unanswered::Output, end.is_ok())?;
+    let out = system.file_id("/dev/stdout")?;
+    let err = system.file_id("/dev/stderr")?;
+    let end = look_beside(system, alloc, &err, files, RefusalCause::File, false);
+    look_beside(system, alloc, &out, files, RefusalCause::Output, end.is_ok())?;
     end
 }
 
 /// Looks whether the files that a job writes are others than those that it reads, and than each
 /// other, and whether standard output and standard error are none of all these, but where they may
 /// be, as far as the system tells where their names lead. Nothing is opened.
-pub(crate) fn check_distinct<S: Places>(
+pub(crate) fn check_distinct<S: PathLookup>(
     system: &S,
     alloc: Global,
     job: &Job,
-) -> Result<DistinctFiles, NoAnswer>
+) -> Result<DistinctFiles, JobFailure>
     ensures job { IfOk result (λ apart. apart ≡ job.now) }
     ensures apart { OnOk result (AreSeenApart (S.leads system.now) (the_uses job.now)) }
     ensures note { IfErr result (λ missed. IsRefused missed) }

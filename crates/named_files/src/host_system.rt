@@ -3,7 +3,7 @@
 use crate::client_streams::ClientFiles;
 use crate::distinct_files::DistinctFiles;
 use crate::output_file::{ClosedFile, OutputFile, empty_alone};
-use crate::sent_file::SentFile;
+use crate::traced_file::TracedFile;
 use crate::system::System;
 use session_answers::ThreadsStarted;
 use std::fs::{File, OpenOptions};
@@ -19,7 +19,7 @@ impl System for HostRuntime {
 
     ghost holds = { λ _ _ _. ⊤ };
 
-    ghost received = { λ file. closed file.named (Some file.sent) file.stands };
+    ghost received = { λ file. closed file.named (Some file.sent) file.durable };
 
     fn read(&self, _apart: &DistinctFiles, name: &str) -> io::Result<Vec<u8>> {
         fs::read(self, name)
@@ -58,27 +58,27 @@ impl System for HostRuntime {
 impl ClientFiles for HostRuntime {
     ghost use Rattle.std.specs.Prelude.{[], None};
 
-    type Heard = File;
+    type Input = File;
 
     ghost says = { λ _ _. None };
 
     ghost had = { λ _ _. [] };
 
-    fn open_heard(&self, _there: &ThreadsStarted, name: &str) -> io::Result<File> {
+    fn open_input(&self, _there: &ThreadsStarted, name: &str) -> io::Result<File> {
         File::open(self, name)
     }
 
-    fn open_told(
+    fn open_output(
         &self,
         _there: &ThreadsStarted,
         _apart: &DistinctFiles,
         name: &str,
-    ) -> io::Result<SentFile> {
+    ) -> io::Result<TracedFile> {
         let file = OpenOptions::new()
             .write(true)
             .create(true)
             .open(self, name)?;
         empty_alone(&file)?;
-        Ok(SentFile::of(file))
+        Ok(TracedFile::of(file))
     }
 }

@@ -1,7 +1,7 @@
 //! What the program asks of the system by name: files that it reads, files that sessions write, the
 //! files of live clients, and the ports of switches.
 //!
-//! [`System`] and [`ClientFiles`] say what each call does to the file of which name, [`Places`] to
+//! [`System`] and [`ClientFiles`] say what each call does to the file of which name, [`PathLookup`] to
 //! which file a name leads. `HostRuntime` is the one implementation over the real system, of which
 //! contracts know nothing but names, and [`HostPorts`] is that of `drive_answers`' ports. Streams
 //! and receipts of any [`System`] aren't `Drop`: each that is opened is closed, and its receipt is
@@ -21,31 +21,31 @@ mod contents;
 mod distinct_files;
 mod host_system;
 mod io_failure;
-mod lost;
+mod write_failures;
 mod notes;
 mod output_file;
 mod outputs;
-mod place;
+mod file_id;
 mod ports;
-mod sent_file;
+mod traced_file;
 mod system;
-mod unanswered;
-mod unwritten;
+mod refusal_cause;
+mod output_failure;
 
 pub use client_streams::{ClientFiles, FileStreams};
 pub use contents::{Contents, read_contents, slice_of, source_with, text_of};
 pub use distinct_files::DistinctFiles;
 pub use io_failure::IoFailure;
-pub use lost::{Lost, Reason};
-pub use notes::{NoAnswer, lack_line, reason_line, tell_line, tell_note, unread};
+pub use write_failures::{WriteFailures, WriteFailure};
+pub use notes::{JobFailure, failure_line, reason_line, tell_line, tell_note, read_failure};
 pub use output_file::{ClosedFile, OutputFile};
 pub use outputs::{
-    OutFile, Outputs, Receipts, close_file, close_stream, keep_file, leave_file, open_distinct,
+    NamedOutput, Outputs, Receipts, close_file, close_stream, keep_file, leave_file, open_distinct,
     put_written,
 };
-pub use place::{FileKind, Place, Places};
+pub use file_id::{FileKind, FileId, PathLookup};
 pub use ports::HostPorts;
-pub use sent_file::SentFile;
-pub use system::{Runtime, System};
-pub use unanswered::Unanswered;
-pub use unwritten::Unwritten;
+pub use traced_file::TracedFile;
+pub use system::{ProgramRuntime, System};
+pub use refusal_cause::RefusalCause;
+pub use output_failure::OutputFailure;

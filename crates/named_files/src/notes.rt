@@ -4,8 +4,8 @@ ghost use Rattle.std.specs.Prelude.{◌≡◌, IfSome, option_map, string_bytes}
 ghost use Rattle.named_files.specs.Notes.{IsRefused, IsToldInPart, IsToldUnless, IsWholeLine};
 
 use crate::io_failure::IoFailure;
-use crate::unanswered::Unanswered;
-use crate::unwritten::Unwritten;
+use crate::refusal_cause::RefusalCause;
+use crate::output_failure::OutputFailure;
 use byte_streams::write_bytes;
 use command_words::Text;
 use refusal_notes::file_line;
@@ -15,33 +15,33 @@ use std::io::{ErrorKind, Write};
 
 /// Why there is no answer.
 #[derive(Drop)]
-pub enum NoAnswer {
+pub enum JobFailure {
     /// It is refused, with the line that is told beside that.
     Refused {
-        why: Unanswered,
+        why: RefusalCause,
         note: Option<String>,
     },
     /// What stands before it couldn't be written.
-    Unwritten(Unwritten),
+    OutputFailure(OutputFailure),
 }
 
-impl From<AllocError> for NoAnswer {
+impl From<AllocError> for JobFailure {
     ghost use Rattle.std.specs.Prelude.{◌≡◌, None};
-    ghost use Rattle.named_files.specs.declared.notes.NoAnswer.TheVariants.{Refused};
-    ghost use Rattle.named_files.specs.declared.unanswered.Unanswered.TheVariants.{NoMemory};
+    ghost use Rattle.named_files.specs.declared.notes.JobFailure.TheVariants.{Refused};
+    ghost use Rattle.named_files.specs.declared.refusal_cause.RefusalCause.TheVariants.{NoMemory};
 
     ghost from_gives = { λ _ missed. missed ≡ Refused NoMemory None };
 
-    fn from(_error: AllocError) -> NoAnswer {
-        NoAnswer::Refused {
-            why: Unanswered::NoMemory,
+    fn from(_error: AllocError) -> JobFailure {
+        JobFailure::Refused {
+            why: RefusalCause::NoMemory,
             note: None,
         }
     }
 }
 
 /// What is told of what lacks.
-pub fn lack_line(alloc: Global, lack: &IoFailure) -> Option<String>
+pub fn failure_line(alloc: Global, lack: &IoFailure) -> Option<String>
     ensures { IfSome result (λ line. IsWholeLine (string_bytes line)) }
 {
     file_line(alloc, lack.name.as_str(), lack.why.as_str())
@@ -49,13 +49,13 @@ pub fn lack_line(alloc: Global, lack: &IoFailure) -> Option<String>
 
 /// Why there is no answer where a file of this name can't be read, or opened, and what is told of
 /// it.
-pub fn unread(alloc: Global, name: &Text, error: &io::Error) -> NoAnswer
+pub fn read_failure(alloc: Global, name: &Text, error: &io::Error) -> JobFailure
     ensures { IsRefused result }
 {
     match error.kind() {
-        ErrorKind::OutOfMemory => NoAnswer::from(AllocError),
-        _ => NoAnswer::Refused {
-            why: Unanswered::File,
+        ErrorKind::OutOfMemory => JobFailure::from(AllocError),
+        _ => JobFailure::Refused {
+            why: RefusalCause::File,
             note: reason_line(alloc, name.as_str(), error),
         },
     }

@@ -3,8 +3,8 @@
 ghost use Rattle.std.specs.Prelude.{◌≡◌, ◌≤◌, [], IfOk, OnOk, OnErr, false, is_ok, length, take};
 
 use crate::distinct_files::DistinctFiles;
-use crate::place::{Place, Places, are_one_file, folder_of, followed};
-use crate::sent_file::{SentFile, passed};
+use crate::file_id::{FileId, PathLookup, are_one_file, folder_of, followed};
+use crate::traced_file::{TracedFile, passed};
 use byte_streams::PassedBytes;
 use std::alloc::AllocError;
 use std::fs::{File, OpenOptions, TryLockError};
@@ -24,22 +24,22 @@ const STREAMS: [&str; 3] = ["/dev/stdin", "/dev/stdout", "/dev/stderr"];
 
 /// What is open to be written.
 #[derive(Drop)]
-enum Opened {
+enum OutputTarget {
     /// A device or a pipe.
     Device,
     /// The file to which this name led.
     Held(String),
     /// A new file of this name, which goes to this place.
-    New { name: String, place: PathBuf },
+    New { name: String, file_id: PathBuf },
 }
 
 /// A file that is open to be written: that of a name itself, or a new one that goes there.
 #[derive(Drop)]
 pub struct OutputFile {
-    pub(crate) sent: SentFile,
+    pub(crate) sent: TracedFile,
     /// The name by which it was opened.
     pub(crate) named: PassedBytes,
-    opened: Opened,
+    opened: OutputTarget,
     syncs: bool,
     /// Why something couldn't be written, where that was so.
     pub(crate) failure: Option<io::Error>,
@@ -51,7 +51,7 @@ pub struct OutputFile {
 pub struct ClosedFile {
     pub(crate) sent: PassedBytes,
     pub(crate) named: PassedBytes,
-    pub(crate) stands: bool,
+    pub(crate) durable: bool,
 }
 
 /// What is at a name: a file, or a device or a pipe, or nothing as yet.
@@ -74,23 +74,23 @@ fn leads_to(rt: &HostRuntime, name: &str, file: &File) -> io::Result<bool> {
 }
 
 /// Whether a name leads to this place.
-fn is_at(rt: &HostRuntime, name: &str, place: &Place) -> Result<bool, AllocError> {
-    let there = rt.place(name)?;
-    Ok(there.is_some_and(|there| are_one_file(&there, place)))
+fn is_at(rt: &HostRuntime, name: &str, file_id: &FileId) -> Result<bool, AllocError> {
+    let there = rt.file_id(name)?;
+    Ok(there.is_some_and(|there| are_one_file(&there, file_id)))
 }
 
 /// Whether the file of this name is one that the job names, or a standard stream.
 fn is_used(rt: &HostRuntime, apart: &DistinctFiles, name: &str) -> Result<bool, AllocError> {
-    let Some(place) = rt.place(name)? else {
+    let Some(file_id) = rt.file_id(name)? else {
         return Ok(false);
     };
     for stream in STREAMS {
-        if is_at(rt, stream, &place)? {
+        if is_at(rt, stream, &file_id)? {
             return Ok(true);
         }
     }
     for file in apart.files() {
-        if is_at(rt, file.name.as_str(), &place)? {
+        if is_at(rt, file.name.as_str(), &file_id)? {
             return Ok(true);
         }
     }
@@ -129,13 +129,13 @@ fn is_of_new_file(name: &str) -> bool {
 }
 
 /// Has the disk keep the name of a file that is new in its folder.
-fn keep_name(rt: &HostRuntime, place: Path<'_>) -> io::Result<()> {
-    File::open(rt, folder_of(place))?.sync_all()
+fn keep_name(rt: &HostRuntime, file_id: Path<'_>) -> io::Result<()> {
+    File::open(rt, folder_of(file_id))?.sync_all()
 }
 
 /// The same where it has to.
-fn sync_name(rt: &HostRuntime, place: Path<'_>) -> io::Result<()> {
-    match keep_name(rt, place) {
+fn sync_name(rt: &HostRuntime, file_id: Path<'_>) -> io::Result<()> {
+    match keep_name(rt, file_id) {
         Err(error) if error.kind() != ErrorKind::OutOfMemory => {
             Err(io::Error::other("its folder can't be synced"))
         }
@@ -147,10 +147,10 @@ fn sync_name(rt: &HostRuntime, place: Path<'_>) -> io::Result<()> {
 fn make_beside(
     rt: &HostRuntime,
     apart: &DistinctFiles,
-    place: &PathBuf,
+    file_id: &PathBuf,
 ) -> io::Result<(File, String)> {
     for number in 0..MAX_NAMES {
-        let name = format!(in rt.alloc(); "{}{NEW_FILE}{number}", place.as_str())?;
+        let name = format!(in rt.alloc(); "{}{NEW_FILE}{number}", file_id.as_str())?;
         match make_new(rt, apart, name.as_str()) {
             Ok(Some(file)) => return Ok((file, name)),
             Err(error) if error.kind() == ErrorKind::PermissionDenied => {
@@ -199,25 +199,25 @@ fn lock_at(rt: &HostRuntime, name: &str) -> io::Result<File> {
 
 /// Puts a new file that the disk has in its place, unless another program has come to write what
 /// stands there. The disk keeps its name, if the system can do that.
-fn put_new(rt: &HostRuntime, name: &str, place: Path<'_>) -> io::Result<()> {
-    let there = match is_file_at(rt, place.as_str())? {
-        Some(true) => Some(lock_at(rt, place.as_str())?),
+fn put_new(rt: &HostRuntime, name: &str, file_id: Path<'_>) -> io::Result<()> {
+    let there = match is_file_at(rt, file_id.as_str())? {
+        Some(true) => Some(lock_at(rt, file_id.as_str())?),
         _ => None,
     };
-    fs::rename(rt, name, place)?;
+    fs::rename(rt, name, file_id)?;
     drop(there);
-    let _ = keep_name(rt, place);
+    let _ = keep_name(rt, file_id);
     Ok(())
 }
 
 impl OutputFile {
     /// The file that was opened by this name, to which nothing has gone.
-    fn of(file: File, name: &str, opened: Opened) -> OutputFile
+    fn of(file: File, name: &str, opened: OutputTarget) -> OutputFile
         ensures sent { result.sent.sent ≡ [] }
         ensures named { result.named ≡ name.now }
     {
         OutputFile {
-            sent: SentFile::of(file),
+            sent: TracedFile::of(file),
             named: passed(name.as_bytes()),
             opened,
             syncs: false,
@@ -230,7 +230,7 @@ impl OutputFile {
         ensures { IfOk result (λ it. (it.sent.sent ≡ []) × (it.named ≡ name.now)) }
     {
         let file = OpenOptions::new().write(true).open(rt, name)?;
-        Ok(OutputFile::of(file, name, Opened::Device))
+        Ok(OutputFile::of(file, name, OutputTarget::Device))
     }
 
     /// The file of a name, to be written after its end, and what it holds. No other record may be
@@ -259,9 +259,9 @@ impl OutputFile {
         file.read_to_end(&mut held)?;
         let sent = passed(held.as_slice());
         let it = OutputFile {
-            sent: SentFile { file, sent },
+            sent: TracedFile { file, sent },
             named: passed(name.as_bytes()),
-            opened: Opened::Held(String::from_str(rt.alloc(), name)?),
+            opened: OutputTarget::Held(String::from_str(rt.alloc(), name)?),
             syncs,
             failure: None,
         };
@@ -282,15 +282,15 @@ impl OutputFile {
             Some(true) => Some(lock_at(rt, name)?.metadata()?.permissions()),
             None => None,
         };
-        let place = followed(rt, name)?;
-        if is_of_new_file(place.as_str()) {
+        let file_id = followed(rt, name)?;
+        if is_of_new_file(file_id.as_str()) {
             return Err(io::Error::other("names that end in .exchange-N are for new files"));
         }
-        let (file, new) = make_beside(rt, apart, &place)?;
+        let (file, new) = make_beside(rt, apart, &file_id)?;
         if let Some(permissions) = permissions {
             let _ = file.set_permissions(permissions);
         }
-        let opened = Opened::New { name: new, place };
+        let opened = OutputTarget::New { name: new, file_id };
         Ok(OutputFile::of(file, name, opened))
     }
 
@@ -302,7 +302,7 @@ impl OutputFile {
         ensures named { self.new.named ≡ self.old.named }
     {
         match &self.opened {
-            Opened::Device => {}
+            OutputTarget::Device => {}
             _ => self.sent.file.set_len(kept as u64)?,
         }
         self.sent.sent = passed(&held[..kept]);
@@ -312,41 +312,41 @@ impl OutputFile {
     /// What has gone to it. It is let go, and a new file with it.
     pub(crate) fn close(self, rt: &HostRuntime) -> ClosedFile
         ensures { (result.sent ≡ self.sent.sent) × (result.named ≡ self.named)
-            × (result.stands ≡ false) }
+            × (result.durable ≡ false) }
     {
         self.forget(rt);
         ClosedFile {
             sent: self.sent.into_sent(),
             named: self.named,
-            stands: false,
+            durable: false,
         }
     }
 
     /// What has gone to it. Once the disk has it, a new file is put in its place, or else let go.
     pub(crate) fn put(self, rt: &HostRuntime) -> (ClosedFile, io::Result<()>)
         ensures { (result.0.sent ≡ self.sent.sent) × (result.0.named ≡ self.named)
-            × (result.0.stands ≡ is_ok result.1) }
+            × (result.0.durable ≡ is_ok result.1) }
     {
-        let end = self.settle(rt);
+        let end = self.persist(rt);
         let closed = ClosedFile {
             sent: self.sent.into_sent(),
             named: self.named,
-            stands: end.is_ok(),
+            durable: end.is_ok(),
         };
         (closed, end)
     }
 
     /// Lets go of a new file.
     fn forget(&self, rt: &HostRuntime) {
-        if let Opened::New { name, .. } = &self.opened {
+        if let OutputTarget::New { name, .. } = &self.opened {
             let _ = fs::remove_file(rt, name.as_str());
         }
     }
 
     /// Waits until the disk has it, and sees to it that its name leads to it: a new file is put in
     /// its place. Where that fails a new file goes.
-    fn settle(&self, rt: &HostRuntime) -> io::Result<()> {
-        let end = self.settle_named(rt);
+    fn persist(&self, rt: &HostRuntime) -> io::Result<()> {
+        let end = self.persist_named(rt);
         if end.is_err() {
             self.forget(rt);
         }
@@ -354,19 +354,19 @@ impl OutputFile {
     }
 
     /// The same, but that a new file stays where that fails.
-    fn settle_named(&self, rt: &HostRuntime) -> io::Result<()> {
+    fn persist_named(&self, rt: &HostRuntime) -> io::Result<()> {
         match &self.opened {
-            Opened::Device => Ok(()),
-            Opened::Held(name) => {
+            OutputTarget::Device => Ok(()),
+            OutputTarget::Held(name) => {
                 self.sent.file.sync_all()?;
                 if leads_to(rt, name.as_str(), &self.sent.file)? {
                     return Ok(());
                 }
                 Err(io::Error::other("its name leads to another file now, or to none"))
             }
-            Opened::New { name, place } => {
+            OutputTarget::New { name, file_id } => {
                 self.sent.file.sync_all()?;
-                put_new(rt, name.as_str(), place.as_path())
+                put_new(rt, name.as_str(), file_id.as_path())
             }
         }
     }

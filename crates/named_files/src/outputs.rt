@@ -5,11 +5,11 @@ ghost use Rattle.command_words.specs.Jobs.{file_uses as the_uses, recorded_in};
 ghost use Rattle.named_files.specs.DistinctFiles.{AreSeenApart, IsWrittenOf, MayBeWritten};
 ghost use Rattle.named_files.specs.Notes.{IsRefused};
 ghost use Rattle.named_files.specs.Outputs.{AreNamed, AreOpened, IsFileWritten, IsLeftOfAny, IsOpened, IsUnput, begins_with, is_live as live, is_new, name_of, none_open, none_opened, output_of, record_of, stream_of};
-ghost use Rattle.named_files.specs.Streams.{IsLeftOf, IsWrittenBy, gone_to};
+ghost use Rattle.named_files.specs.Streams.{IsLeftOf, IsWrittenBy, written_to};
 
 use crate::distinct_files::{DistinctFiles, check_distinct};
-use crate::lost::Reason;
-use crate::notes::{NoAnswer, unread};
+use crate::write_failures::WriteFailure;
+use crate::notes::{JobFailure, read_failure};
 use crate::system::System;
 use byte_streams::write_bytes;
 use command_words::{Job, SharedRack, Text};
@@ -18,7 +18,7 @@ use std::io;
 use std::io::Write;
 
 /// A file that is open to be written.
-pub struct OutFile<'a, F> {
+pub struct NamedOutput<'a, F> {
     /// Its name, or that of the place where it goes.
     pub name: &'a Text,
     pub file: F,
@@ -29,9 +29,9 @@ pub struct OutFile<'a, F> {
 /// The files to which go what sessions leave, where they are named.
 pub struct Outputs<'a, F> {
     /// That of the record.
-    pub recorded: Option<OutFile<'a, F>>,
+    pub recorded: Option<NamedOutput<'a, F>>,
     /// That of the image.
-    pub image: Option<OutFile<'a, F>>,
+    pub image: Option<NamedOutput<'a, F>>,
 }
 
 impl<'a, F> Outputs<'a, F> {
@@ -73,19 +73,19 @@ fn open_new<'a, S: System>(
     alloc: Global,
     apart: &DistinctFiles,
     name: &'a Text,
-) -> Result<OutFile<'a, S::Stream>, NoAnswer>
+) -> Result<NamedOutput<'a, S::Stream>, JobFailure>
     requires { IsWrittenOf apart.now name.now }
     ensures opened { IfOk result (λ out.
         IsOpened S.Stream.contents is_new (Some name.entry.now) (Some out)) }
     ensures note { IfErr result (λ missed. IsRefused missed) }
 {
     match system.open_new(apart, name.as_str()) {
-        Ok(file) => Ok(OutFile {
+        Ok(file) => Ok(NamedOutput {
             name,
             file,
             held: Vec::new(alloc),
         }),
-        Err(error) => Err(unread(alloc, name, &error)),
+        Err(error) => Err(read_failure(alloc, name, &error)),
     }
 }
 
@@ -96,15 +96,15 @@ fn open_held<'a, S: System>(
     apart: &DistinctFiles,
     name: &'a Text,
     syncs: bool,
-) -> Result<OutFile<'a, S::Stream>, NoAnswer>
+) -> Result<NamedOutput<'a, S::Stream>, JobFailure>
     requires { IsWrittenOf apart.now name.now }
     ensures opened { IfOk result (λ out.
         IsOpened S.Stream.contents (S.holds system.now) (Some name.entry.now) (Some out)) }
     ensures note { IfErr result (λ missed. IsRefused missed) }
 {
     match system.open_record(apart, name.as_str(), syncs) {
-        Ok((file, held)) => Ok(OutFile { name, file, held }),
-        Err(error) => Err(unread(alloc, name, &error)),
+        Ok((file, held)) => Ok(NamedOutput { name, file, held }),
+        Err(error) => Err(read_failure(alloc, name, &error)),
     }
 }
 
@@ -115,7 +115,7 @@ fn open_record<'a, S: System>(
     apart: &DistinctFiles,
     rack: &'a SharedRack,
     is_live: bool,
-) -> Result<Option<OutFile<'a, S::Stream>>, NoAnswer>
+) -> Result<Option<NamedOutput<'a, S::Stream>>, JobFailure>
     requires { MayBeWritten apart.now (recorded_in rack.now) }
     ensures named { IfOk result (λ out. name_of out ≡ recorded_in rack.entry.now) }
     ensures opened { IfOk result (IsOpened S.Stream.contents
@@ -138,7 +138,7 @@ fn open_image<'a, S: System>(
     alloc: Global,
     apart: &DistinctFiles,
     name: &'a Option<Text>,
-) -> Result<Option<OutFile<'a, S::Stream>>, NoAnswer>
+) -> Result<Option<NamedOutput<'a, S::Stream>>, JobFailure>
     requires { MayBeWritten apart.now name.now }
     ensures named { IfOk result (λ out. name_of out ≡ name.entry.now) }
     ensures opened { IfOk result (IsOpened S.Stream.contents is_new name.entry.now) }
@@ -158,7 +158,7 @@ fn open_both<'a, S: System>(
     apart: &DistinctFiles,
     rack: &'a SharedRack,
     is_live: bool,
-) -> (Outputs<'a, S::Stream>, Result<(), NoAnswer>)
+) -> (Outputs<'a, S::Stream>, Result<(), JobFailure>)
     requires recorded { MayBeWritten apart.now (recorded_in rack.now) }
     requires image { MayBeWritten apart.now rack.now.image_out }
     ensures opened { AreOpened S.Stream.contents (begins_with (S.holds system.now) is_live)
@@ -187,7 +187,7 @@ fn open_outputs<'a, S: System>(
     alloc: Global,
     apart: &DistinctFiles,
     job: &'a Job,
-) -> (Outputs<'a, S::Stream>, Result<(), NoAnswer>)
+) -> (Outputs<'a, S::Stream>, Result<(), JobFailure>)
     requires { apart.now ≡ job.now }
     ensures opened { AreOpened S.Stream.contents
         (begins_with (S.holds system.now) (live job.entry.now)) (record_of job.entry.now)
@@ -208,7 +208,7 @@ pub fn open_distinct<'a, S: System>(
     system: &S,
     alloc: Global,
     job: &'a Job,
-) -> (Outputs<'a, S::Stream>, Result<DistinctFiles, NoAnswer>)
+) -> (Outputs<'a, S::Stream>, Result<DistinctFiles, JobFailure>)
     ensures opened { AreOpened S.Stream.contents
         (begins_with (S.holds system.now) (live job.entry.now)) (record_of job.entry.now)
         (output_of job.entry.now) result.0 }
@@ -238,12 +238,12 @@ pub fn close_stream<S: System>(system: &S, stream: Option<S::Stream>) -> Option<
 }
 
 /// Closes a file, where one is open.
-pub fn close_file<S: System>(system: &S, out: Option<OutFile<'_, S::Stream>>) -> Option<S::Receipt>
+pub fn close_file<S: System>(system: &S, out: Option<NamedOutput<'_, S::Stream>>) -> Option<S::Receipt>
     ensures { IsLeftOfAny S.Stream.contents S.received (stream_of out.entry) result }
 {
     match out {
         Some(
-            OutFile {
+            NamedOutput {
                 name: _,
                 file,
                 held: _,
@@ -270,9 +270,9 @@ pub fn put_written<S: System>(
 
 /// Writes these bytes to a file that is empty. Where they couldn't be had, nothing is written.
 fn write_new<W: Write>(file: &mut W, bytes: Result<Vec<u8>, AllocError>) -> io::Result<()>
-    ensures { (name : List ℕ) → (wanted : List ℕ) → gone_to name (W.contents file.old) ≡ Some []
+    ensures { (name : List ℕ) → (wanted : List ℕ) → written_to name (W.contents file.old) ≡ Some []
         → IfOk bytes (λ bytes. bytes.items ≡ wanted)
-        → IsWrittenBy result wanted (gone_to name (W.contents file.new)) }
+        → IsWrittenBy result wanted (written_to name (W.contents file.new)) }
 {
     let bytes = bytes?;
     write_bytes(file, bytes.as_slice())
@@ -284,38 +284,38 @@ pub fn keep_file<S: System>(
     system: &S,
     alloc: Global,
     bytes: Result<Vec<u8>, AllocError>,
-    out: Option<OutFile<'_, S::Stream>>,
-) -> (Option<S::Receipt>, Option<Reason>)
+    out: Option<NamedOutput<'_, S::Stream>>,
+) -> (Option<S::Receipt>, Option<WriteFailure>)
     requires { IsOpened S.Stream.contents is_new (name_of out) out }
     ensures { (wanted : List ℕ) → IfOk bytes (λ bytes. bytes.items ≡ wanted)
         → IsFileWritten S.received (name_of out.entry) wanted result.0 result.1 }
 {
-    let Some(OutFile { name, file, held }) = out else {
+    let Some(NamedOutput { name, file, held }) = out else {
         return (None, None);
     };
     drop(held);
     let mut file = file;
     let end = write_new(&mut file, bytes);
     let (receipt, end) = put_written(system, file, end);
-    (Some(receipt), Reason::why(alloc, Some(name), &end))
+    (Some(receipt), WriteFailure::why(alloc, Some(name), &end))
 }
 
 /// Leaves a new file for an image unwritten, where one is open, since the record isn't kept.
 pub fn leave_file<S: System>(
     system: &S,
     alloc: Global,
-    out: Option<OutFile<'_, S::Stream>>,
-) -> (Option<S::Receipt>, Option<Reason>)
+    out: Option<NamedOutput<'_, S::Stream>>,
+) -> (Option<S::Receipt>, Option<WriteFailure>)
     requires { IsOpened S.Stream.contents is_new (name_of out) out }
     ensures written { (wanted : List ℕ)
         → IsFileWritten S.received (name_of out.entry) wanted result.0 result.1 }
     ensures unput { IsUnput S.received result.0 }
 {
-    let Some(OutFile { name, file, held }) = out else {
+    let Some(NamedOutput { name, file, held }) = out else {
         return (None, None);
     };
     drop(held);
     let why = io::Error::other("not written, since the record isn't kept");
-    let lost = Reason::of(alloc, name, &why);
+    let lost = WriteFailure::of(alloc, name, &why);
     (Some(system.close(file)), Some(lost))
 }

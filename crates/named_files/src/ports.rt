@@ -88,10 +88,10 @@ fn open_device<R: Files>(rt: &R, name: &str) -> io::Result<SwitchStream<R::File,
 }
 
 /// The streams of a port that was opened, and whether it is two pipes.
-type Opened<F> = (SwitchStream<F, F>, bool);
+type OpenedPort<F> = (SwitchStream<F, F>, bool);
 
 /// A file of a port that couldn't be opened, and why.
-type Unopened = (PortFile, io::Error);
+type OpenFailure = (PortFile, io::Error);
 
 /// The pipes that a port may be, by their names, and whether they are there.
 #[derive(Drop)]
@@ -128,7 +128,7 @@ impl Pipes {
     }
 
     /// Opens both, that to the switch first.
-    fn open<R: AllocGlobal + Files>(&self, rt: &R) -> Result<Opened<R::File>, Unopened> {
+    fn open<R: AllocGlobal + Files>(&self, rt: &R) -> Result<OpenedPort<R::File>, OpenFailure> {
         let writer = open_to(rt, self.to.as_str()).map_err(|why| (PortFile::In, why))?;
         let reader = OpenOptions::new().read(true).open(rt, self.from.as_str());
         let reader = reader.map_err(|why| (PortFile::Out, why))?;
@@ -138,7 +138,7 @@ impl Pipes {
 
 /// Opens both ways of a port: `NAME.in` to the switch, and then `NAME.out` from it, where both are
 /// there; else `NAME` both to read and to write. Nothing is made, and nothing emptied.
-fn open_port<R: AllocGlobal + Files>(rt: &R, name: &str) -> Result<Opened<R::File>, Unopened> {
+fn open_port<R: AllocGlobal + Files>(rt: &R, name: &str) -> Result<OpenedPort<R::File>, OpenFailure> {
     let pipes = Pipes::of(rt, name).map_err(|why| (PortFile::Port, why))?;
     if pipes.has_to && pipes.has_from {
         return pipes.open(rt);
@@ -151,7 +151,7 @@ fn open_port<R: AllocGlobal + Files>(rt: &R, name: &str) -> Result<Opened<R::Fil
 
 impl<'a, R: AllocGlobal + Files> HostPorts<'a, R> {
     /// Opens one of them.
-    fn open_one(&mut self, port: PortName, name: &str) -> Result<Opened<R::File>, Refusal>
+    fn open_one(&mut self, port: PortName, name: &str) -> Result<OpenedPort<R::File>, Refusal>
         ensures refused { IfErr result (λ refusal. refusal ≢ NoMemory → refusal ≡ Port port) }
         ensures same { self.new ≡ self.old }
     {

@@ -2,11 +2,11 @@
 
 ghost use Rattle.std.specs.Prelude.{◌≡◌, ◌≤◌, ℕ, false, is_ok, length, take, List, [], Some, IfOk, OnOk, OnErr};
 ghost use Rattle.named_files.specs.DistinctFiles.{IsReadOf, IsWrittenOf};
-ghost use Rattle.named_files.specs.Streams.{Closed, IsLeftOf, gone_to};
+ghost use Rattle.named_files.specs.Streams.{Closed, IsLeftOf, written_to};
 
 use crate::client_streams::ClientFiles;
 use crate::distinct_files::DistinctFiles;
-use crate::place::Places;
+use crate::file_id::PathLookup;
 use std::io;
 use std::io::Write;
 use std::sync::Wait;
@@ -14,15 +14,15 @@ use std::thread::Threads;
 use std::time::Clock;
 
 /// What the program runs on.
-pub trait Runtime: AllocGlobal + Clock + Threads + Wait + Sync {}
+pub trait ProgramRuntime: AllocGlobal + Clock + Threads + Wait + Sync {}
 
-impl<R: AllocGlobal + Clock + Threads + Wait + Sync> Runtime for R {}
+impl<R: AllocGlobal + Clock + Threads + Wait + Sync> ProgramRuntime for R {}
 
 /// What the program asks of the system by name. It is shared, so no call changes what contracts see
 /// of it. A stream of a record or an image isn't `Drop`, and neither is its receipt: who is handed
 /// any system can let neither go, so each is closed, and its receipt handed out. What contracts see
 /// of a stream begins with the name by which it was opened, and its receipt has that name.
-pub trait System: Places + ClientFiles + Sync {
+pub trait System: PathLookup + ClientFiles + Sync {
     /// What was opened to be written.
     type Stream: Write + Send;
     /// What is left of a stream that was closed.
@@ -50,7 +50,7 @@ pub trait System: Places + ClientFiles + Sync {
     ) -> io::Result<(Self::Stream, Vec<u8>)>
         requires { IsWrittenOf apart.now name.now }
         ensures { IfOk result (λ opened. holds self.now name.now opened.1.items
-            × (gone_to name.now (Self.Stream.contents opened.0) ≡ Some opened.1.items)) };
+            × (written_to name.now (Self.Stream.contents opened.0) ≡ Some opened.1.items)) };
 
     /// Opens a new file, to be written and put in the place of the file of this name, which is as
     /// it was until then. A device or a pipe of this name is opened itself. The new file is none
@@ -58,16 +58,16 @@ pub trait System: Places + ClientFiles + Sync {
     fn open_new(&self, apart: &DistinctFiles, name: &str) -> io::Result<Self::Stream>
         requires { IsWrittenOf apart.now name.now }
         ensures { IfOk result (λ stream.
-            gone_to name.now (Self.Stream.contents stream) ≡ Some []) };
+            written_to name.now (Self.Stream.contents stream) ≡ Some []) };
 
     /// Cuts off what a file holds after so many bytes.
     fn cut(&self, stream: &mut Self::Stream, held: &[u8], kept: usize) -> io::Result<()>
         requires held { (name : List ℕ)
-            × (gone_to name (Self.Stream.contents stream.old) ≡ Some held.now) }
+            × (written_to name (Self.Stream.contents stream.old) ≡ Some held.now) }
         requires kept { kept ≤ length held.now }
         ensures cut { OnOk result ((name : List ℕ)
-            → gone_to name (Self.Stream.contents stream.old) ≡ Some held.now
-            → gone_to name (Self.Stream.contents stream.new) ≡ Some (take kept held.now)) }
+            → written_to name (Self.Stream.contents stream.old) ≡ Some held.now
+            → written_to name (Self.Stream.contents stream.new) ≡ Some (take kept held.now)) }
         ensures same { OnErr result
             (Self.Stream.contents stream.new ≡ Self.Stream.contents stream.old) };
 

@@ -1,7 +1,7 @@
 -- The addresses of a block's words.
 use Rattle.std.proofs.Common.{ℕ, ◌≡◌, ◌≢◌, ◌<◌, ◌+◌, ◌*◌, ◌/◌, ◌%◌, ◌==◌, true, false, length, get_or, refl, sym, ap, ap₂, ◌∙◌, arith, eq-eqb, ne_eqb, lt-ltb, le-leb, nat_lt, nat_le, Result, Ok, Err}
 use Rattle.std.proofs.lemmas.Nat.{div-mul-add, mod-mul-add}
-use Rattle.batch.specs.Extent.{Extent}
+use Rattle.batch.specs.ShapeView.{ShapeView}
 use Rattle.module_memory.specs.declared.address.TheConstants.{WORD_BYTES}
 use Rattle.module_memory.specs.Lending.{BlockAt, with_word}
 use Rattle.module_memory.specs.Address.{number_from, address_from}
@@ -12,14 +12,14 @@ use Rattle.peek_poke.specs.declared.fault.StoreFault.{StoreFault}
 use Rattle.peek_poke.specs.declared.fault.StoreFault.TheVariants.{Outside}
 
 -- what is known of the address of word j of any block of the window
-record Found (start : ℕ) (s : Extent) (b : BlockAt) (block j : ℕ) : Type 0 where
+record Found (start : ℕ) (s : ShapeView) (b : BlockAt) (block j : ℕ) : Type 0 where
   aligned : (address_from start s block j % WORD_BYTES == 0) ≡ true
   from : nat_le start (address_from start s block j) ≡ true
   some : nat_lt 0 (length b.words) ≡ true
   row : number_from start (address_from start s block j) / length b.words ≡ block
   column : number_from start (address_from start s block j) % length b.words ≡ j
 
-found : (start : ℕ) (s : Extent) (b : BlockAt) (block j : ℕ) → start % WORD_BYTES ≡ 0 → length b.words ≡ s.words → j < s.words → Found start s b block j
+found : (start : ℕ) (s : ShapeView) (b : BlockAt) (block j : ℕ) → start % WORD_BYTES ≡ 0 → length b.words ≡ s.words → j < s.words → Found start s b block j
 found start s b block j four e h =
     let n = block * s.words + j in
     let number : number_from start (address_from start s block j) ≡ n = by_four start n in
@@ -32,14 +32,14 @@ found start s b block j four e h =
     }
 
 -- the address of a word of the block is that word
-word_in-address_from : (start : ℕ) (s : Extent) (b : BlockAt) (j : ℕ) → start % WORD_BYTES ≡ 0 → length b.words ≡ s.words → j < s.words → word_in start b (address_from start s b.place.block j) ≡ Ok j
+word_in-address_from : (start : ℕ) (s : ShapeView) (b : BlockAt) (j : ℕ) → start % WORD_BYTES ≡ 0 → length b.words ≡ s.words → j < s.words → word_in start b (address_from start s b.place.block j) ≡ Ok j
 word_in-address_from start s b j four e h =
     let f = found start s b b.place.block j four e h in
     let here : (number_from start (address_from start s b.place.block j) / length b.words == b.place.block) ≡ true = eq-eqb _ _ f.row in
     rw (f.aligned, f.from, f.some, here) (ap (λ x. Ok x) f.column)
 
 -- that of another block is no word
-word_in-other : (start : ℕ) (s : Extent) (b : BlockAt) (other j : ℕ) → start % WORD_BYTES ≡ 0 → length b.words ≡ s.words → j < s.words → other ≢ b.place.block → word_in start b (address_from start s other j) ≡ Err Outside
+word_in-other : (start : ℕ) (s : ShapeView) (b : BlockAt) (other j : ℕ) → start % WORD_BYTES ≡ 0 → length b.words ≡ s.words → j < s.words → other ≢ b.place.block → word_in start b (address_from start s other j) ≡ Err Outside
 word_in-other start s b other j four e h n =
     let f = found start s b other j four e h in
     let away : (number_from start (address_from start s other j) / length b.words == b.place.block) ≡ false = ne_eqb _ _ (λ r. n (sym f.row ∙ r)) in

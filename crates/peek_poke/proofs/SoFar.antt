@@ -8,16 +8,16 @@ use Rattle.peek_poke.specs.declared.message.Message.{Message}
 use Rattle.peek_poke.specs.declared.fault.StoreFault.{StoreFault}
 use Rattle.peek_poke.specs.declared.fault.AnswerFault.{AnswerFault}
 use Rattle.peek_poke.specs.Messages.{spell, IsMessage, IsPartial, Pending}
-use Rattle.peek_poke.specs.Effects.{Does, DoAll, HasAnswered, Feeds}
+use Rattle.peek_poke.specs.Effects.{HasEffect, DoAll, HasAnswered, Feeds}
 
 whole_more : (ms : List Message) (m : Message) → flat_map spell ms ++ spell m ≡ flat_map spell (ms ++ m ∷ [])
 whole_more ms m = flat_map_more spell [] ms m
 
 module _ {S : Type 0} (read : S → ℕ → Result ℕ StoreFault) (write : S → ℕ → ℕ → Result S StoreFault) where
   -- one more message
-  DoAll-push : (s u t : S) (ms : List Message) (m : Message) (answers : List (List ℕ)) (a : Option (List ℕ)) → DoAll read write s ms answers u → Does read write u m a t → DoAll read write s (ms ++ m ∷ []) (answers ++ option_to_list a) t
+  DoAll-push : (s u t : S) (ms : List Message) (m : Message) (answers : List (List ℕ)) (a : Option (List ℕ)) → DoAll read write s ms answers u → HasEffect read write u m a t → DoAll read write s (ms ++ m ∷ []) (answers ++ option_to_list a) t
   DoAll-push s u t [] m answers a h d =
-      (a, t, [], subst (λ (x : S). Does read write x m a t) h.1 d, ap (λ (xs : List (List ℕ)). xs ++ option_to_list a) h.0 ∙ sym (append-nil (option_to_list a)), (refl, refl))
+      (a, t, [], subst (λ (x : S). HasEffect read write x m a t) h.1 d, ap (λ (xs : List (List ℕ)). xs ++ option_to_list a) h.0 ∙ sym (append-nil (option_to_list a)), (refl, refl))
   DoAll-push s u t (n ∷ ms) m answers a h d =
       (h.0, h.1, h.2 ++ option_to_list a, h.3, ap (λ (xs : List (List ℕ)). xs ++ option_to_list a) h.4 ∙ append_assoc (option_to_list h.0) h.2 (option_to_list a), DoAll-push h.1 u t ms m h.2 a h.5 d)
 

@@ -10,7 +10,7 @@ use Rattle.std.proofs.lemmas.Nat.{from_le_bytes-to_le_bytes_4}
 use Rattle.peek_poke.specs.declared.message.Message.TheVariants.{Poke, Peek}
 use Rattle.peek_poke.specs.declared.message.TheConstants.{POKE, PEEK, POKE_BYTES, PEEK_BYTES}
 use Rattle.peek_poke.specs.Messages.{word_bytes, spell, IsMessage, IsPartial, Pending}
-use Rattle.peek_poke.specs.Effects.{ReadsWord, WritesWord, EndsRefused, IsCause, Feeds, Does, answer_fault}
+use Rattle.peek_poke.specs.Effects.{ReadsWord, WritesWord, EndsRefused, IsCause, Feeds, HasEffect, answer_fault}
 use Rattle.peek_poke.specs.declared.fault.StoreFault.{StoreFault}
 use Rattle.peek_poke.specs.declared.fault.StoreFault.TheVariants.{Misaligned, Outside}
 
@@ -46,7 +46,7 @@ same_ok : {A B : Type 0} (x y : A) → ◌≡◌ {A = Result A B} (Ok x) (Ok y) 
 same_ok x y e = cc
 
 -- what answers a peek: the bytes of the word that the store has there
-answered_by : {S : Type 0} (read : ReadsWord S) (write : WritesWord S) (s t : S) (a : ℕ) (reply : List ℕ) → a < 2 ^ 32 → (m : Message) → IsMessage m → spell (Peek a) ≡ spell m → Does read write s m (Some reply) t → (w : ℕ) × (w < 2 ^ 32) × (read s a ≡ Ok w) × (reply ≡ word_bytes w)
+answered_by : {S : Type 0} (read : ReadsWord S) (write : WritesWord S) (s t : S) (a : ℕ) (reply : List ℕ) → a < 2 ^ 32 → (m : Message) → IsMessage m → spell (Peek a) ≡ spell m → HasEffect read write s m (Some reply) t → (w : ℕ) × (w < 2 ^ 32) × (read s a ≡ Ok w) × (reply ≡ word_bytes w)
 answered_by read write s t a reply h (Poke x w) f e d = absurd (some_not_none reply d.0)
 answered_by read write s t a reply h (Peek x) f e d =
     let same : word_bytes a ≡ word_bytes x = ap (λ (xs : List ℕ). drop 1 xs) e in

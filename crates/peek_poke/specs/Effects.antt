@@ -21,10 +21,10 @@ abbrev pub WritesWord : Type 0 → Type 0
 WritesWord S = S → ℕ → ℕ → Result S StoreFault
 
 -- a message makes one store of another: a poke writes its word, a peek answers the word as it is
-abbrev pub Does : {S : Type 0} → ReadsWord S → WritesWord S → S → Message → Option (List ℕ) → S
+abbrev pub HasEffect : {S : Type 0} → ReadsWord S → WritesWord S → S → Message → Option (List ℕ) → S
     → Type 0
-Does read write s (Poke address word) answer t = (answer ≡ None) × (write s address word ≡ Ok t)
-Does read write s (Peek address) answer t =
+HasEffect read write s (Poke address word) answer t = (answer ≡ None) × (write s address word ≡ Ok t)
+HasEffect read write s (Peek address) answer t =
     (t ≡ s)
     × ((word : ℕ) × (word < 2 ^ 32) × (read s address ≡ Ok word)
     × (answer ≡ Some (word_bytes word)))
@@ -39,7 +39,7 @@ abbrev pub DoAll : {S : Type 0} → ReadsWord S → WritesWord S → S → List 
     → Type 0
 DoAll read write s [] answers t = (answers ≡ []) × (t ≡ s)
 DoAll {S} read write s (m ∷ ms) answers t =
-    (answer : Option (List ℕ)) × (u : S) × (more : List (List ℕ)) × Does read write s m answer u
+    (answer : Option (List ℕ)) × (u : S) × (more : List (List ℕ)) × HasEffect read write s m answer u
     × (answers ≡ option_to_list answer ++ more) × DoAll read write u ms more t
 
 -- the text is that of messages, which made the one store of the other, with these answers, and then
@@ -80,7 +80,7 @@ pub record Ends {S : Type 0} (read : ReadsWord S) (write : WritesWord S) (old : 
   pub fits : IsMessage message
   pub whole : old.bytes ++ byte ∷ [] ≡ spell message
   pub rest : new.bytes ≡ []
-  pub does : Does read write s message answer t
+  pub does : HasEffect read write s message answer t
 
 -- the byte ends a message that the store refuses
 abbrev pub EndsRefused : {S : Type 0} → ReadsWord S → WritesWord S → Pending → S → ℕ → StoreFault

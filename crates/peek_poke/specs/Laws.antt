@@ -2,7 +2,7 @@
 use Rattle.std.specs.Prelude.{ℕ, ◌≡◌, ◌<◌, List, ◌++◌, length, All, ◌≢◌, ◌%◌, slice_index, Ok, Err}
 use Rattle.std.specs.List.{flat_map}
 use Rattle.peek_poke.specs.declared.message.Message.{Message}
-use Rattle.batch.specs.Extent.{Extent}
+use Rattle.batch.specs.ShapeView.{ShapeView}
 use Rattle.module_memory.specs.declared.address.TheConstants.{WORD_BYTES}
 use Rattle.module_memory.specs.Lending.{BlockAt, with_word}
 use Rattle.module_memory.specs.Address.{address_from}
@@ -21,21 +21,21 @@ OneReading =
 -- at the address of word j of a block stands that word
 abbrev pub WordsAreRead : Type 0
 WordsAreRead =
-    (start : ℕ) (shape : Extent) (b : BlockAt) (j : ℕ) → start % WORD_BYTES ≡ 0
+    (start : ℕ) (shape : ShapeView) (b : BlockAt) (j : ℕ) → start % WORD_BYTES ≡ 0
     → length b.words ≡ shape.words → j < shape.words
     → block_read start b (address_from start shape b.place.block j) ≡ Ok (slice_index b.words j)
 
 -- a write to the address of word j of a block changes that word alone
 abbrev pub WordsAreWritten : Type 0
 WordsAreWritten =
-    (start : ℕ) (shape : Extent) (b : BlockAt) (j w : ℕ) → start % WORD_BYTES ≡ 0
+    (start : ℕ) (shape : ShapeView) (b : BlockAt) (j w : ℕ) → start % WORD_BYTES ≡ 0
     → length b.words ≡ shape.words → j < shape.words
     → block_write start b (address_from start shape b.place.block j) w ≡ Ok (with_word b j w)
 
 -- the address of a word of another block of the module is outside
 abbrev pub OthersAreOutside : Type 0
 OthersAreOutside =
-    (start : ℕ) (shape : Extent) (b : BlockAt) (other j w : ℕ) → start % WORD_BYTES ≡ 0
+    (start : ℕ) (shape : ShapeView) (b : BlockAt) (other j w : ℕ) → start % WORD_BYTES ≡ 0
     → length b.words ≡ shape.words → j < shape.words → other ≢ b.place.block
     → (block_read start b (address_from start shape other j) ≡ Err Outside)
     × (block_write start b (address_from start shape other j) w ≡ Err Outside)

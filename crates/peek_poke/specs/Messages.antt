@@ -30,8 +30,8 @@ IsPartial (control ∷ bytes) =
     ⊎ ((control ≡ PEEK) × (length bytes + 1 < PEEK_BYTES))
 
 -- the bytes at the front of a message's buffer, so many, are less than a whole message
-abbrev pub IsBegun : List ℕ → ℕ → Type 0
-IsBegun buffer count =
+abbrev pub IsPartialMessage : List ℕ → ℕ → Type 0
+IsPartialMessage buffer count =
     IsPartial (take count buffer) × (count < POKE_BYTES) × (length buffer ≡ POKE_BYTES)
 
 -- an answering end: whether it has failed, what has come of the next message, and all bytes that it

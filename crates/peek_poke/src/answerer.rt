@@ -2,7 +2,7 @@
 
 ghost use Rattle.std.specs.Prelude.{◌≡◌, ◌↔◌, [], ◌∷◌, ◌++◌, length, false, IsTrue, MatchResult};
 ghost use Rattle.peek_poke.specs.Messages.{IsAtRest, IsPartial, rest_after};
-ghost use Rattle.peek_poke.specs.Effects.{Continues, Does, Feeds, IsRefused};
+ghost use Rattle.peek_poke.specs.Effects.{Continues, HasEffect, Feeds, IsRefused};
 
 use crate::fault::{AnswerFault, StoreFault};
 use crate::message::{Message, PEEK, PEEK_BYTES, POKE, POKE_BYTES, REPLY_BYTES, message_in};
@@ -24,20 +24,20 @@ pub struct Answerer {
 
 impl Model for Answerer {
     ghost use Rattle.std.specs.Prelude.{take};
-    ghost use Rattle.peek_poke.specs.Messages.{IsBegun, Pending};
+    ghost use Rattle.peek_poke.specs.Messages.{IsPartialMessage, Pending};
 
     ghost Value = { Pending };
 
     ghost view = { λ a. record { failed = a.failed; bytes = take a.len a.bytes; taken = a.taken } };
 
-    ghost invariant = { λ a. IsBegun a.bytes a.len };
+    ghost invariant = { λ a. IsPartialMessage a.bytes a.len };
 }
 
 impl Message {
     /// Takes effect on a store: a poke writes its word, a peek answers the bytes of the word.
     fn act<S: WordStore>(self, store: &mut S) -> Result<Option<[u8; REPLY_BYTES]>, StoreFault>
         ensures { MatchResult result
-            (λ answer. Does S.read_gives S.write_gives store.old self answer store.new)
+            (λ answer. HasEffect S.read_gives S.write_gives store.old self answer store.new)
             (λ fault. IsRefused S.read_gives S.write_gives store.old self fault
             × (store.new ≡ store.old)) }
     {

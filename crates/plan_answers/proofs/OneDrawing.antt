@@ -2,7 +2,7 @@
 use Rattle.std.proofs.Common.{◌≡◌, ℕ, List, [], ◌∷◌, Option, Some, None, refl, sym, ap, ◌∙◌, arith}
 use Rattle.std.specs.Prelude.{IfSome}
 use Rattle.batch.specs.declared.transfer.Transfer.{Transfer}
-use Rattle.batch.specs.Extent.{Extent, IsShape}
+use Rattle.batch.specs.ShapeView.{ShapeView, IsShape}
 use Rattle.link_graph.specs.declared.check_fault.CheckFault.{CheckFault}
 use Rattle.link_graph.specs.declared.check_fault.CheckFault.TheVariants.{WrongLink}
 use Rattle.link_graph.specs.Checks.{IsSettingsFault}
@@ -11,7 +11,7 @@ use Rattle.link_graph.specs.Schedules.{IsScheduleOf}
 use Rattle.link_graph.proofs.OneFault.{same_fault}
 use Rattle.refusals.specs.declared.refusal.Refusal.{Refusal}
 use Rattle.refusals.specs.Sources.{of_check}
-use Rattle.schedule_picture.specs.declared.shown.Shown.{Shown}
+use Rattle.schedule_picture.specs.declared.shown.ShownSettings.{ShownSettings}
 use Rattle.plan_answers.specs.declared.setting_range.SettingRange.{SettingRange}
 use Rattle.plan_answers.specs.Validities.{IsScheduleRead, IsUnscheduled, IsInvalid, unread, unscheduled}
 use Rattle.plan_answers.specs.Drawings.{IsInOrder, AreWanted, AreShown, IsOutside, invalid}
@@ -25,7 +25,7 @@ in_order settings_text None p = tt
 in_order None (Some range) p = absurd p
 in_order (Some text) (Some range) p = p.some
 
-pub not_outside : (range : Option SettingRange) (settings k : ℕ) (shown : Shown) → AreShown range settings shown → IsOutside range settings k → ⊥
+pub not_outside : (range : Option SettingRange) (settings k : ℕ) (shown : ShownSettings) → AreShown range settings shown → IsOutside range settings k → ⊥
 not_outside None settings k shown a b = b
 not_outside (Some range) settings k shown a b = omega (arith, a.0, b.0)
 
@@ -43,7 +43,7 @@ no_fault batch settings fault s bad =
     omega (arith, wrong_same 0 1 (sym (is 0) ∙ is 1))
 
 -- a schedule that is read has nothing wrong
-pub read_right : (shape : Extent) → IsShape shape → (batch schedule : List ℕ) (ts : List Transfer) (xs : List (List ℕ)) (refusal : Refusal) → IsScheduleRead shape batch schedule ts xs → IsInvalid shape batch schedule refusal → ⊥
+pub read_right : (shape : ShapeView) → IsShape shape → (batch schedule : List ℕ) (ts : List Transfer) (xs : List (List ℕ)) (refusal : Refusal) → IsScheduleRead shape batch schedule ts xs → IsInvalid shape batch schedule refusal → ⊥
 read_right shape valid batch schedule ts xs refusal a (unread wrong) = texts_right shape valid batch schedule ts xs a.certificate refusal a.texts wrong
 read_right shape valid batch schedule ts xs refusal a (unscheduled us ys m texts wrong) =
     no_fault ts xs wrong.0 a.valid (same_texts (λ t x n. IsSettingsFault t x wrong.0) shape valid batch schedule ts us xs ys a.certificate m a.texts texts wrong.1)
@@ -53,7 +53,7 @@ one_unscheduled ts xs q r a b =
     let nothing : Naming = naming None [] in
     a.2 ∙ ap of_check (same_fault ts xs nothing a.0 b.0 (a.1.1 nothing) (b.1.1 nothing)) ∙ sym b.2
 
-pub one_invalid : (shape : Extent) → IsShape shape → (batch schedule : List ℕ) (q r : Refusal) → IsInvalid shape batch schedule q → IsInvalid shape batch schedule r → q ≡ r
+pub one_invalid : (shape : ShapeView) → IsShape shape → (batch schedule : List ℕ) (q r : Refusal) → IsInvalid shape batch schedule q → IsInvalid shape batch schedule r → q ≡ r
 one_invalid shape valid batch schedule q r (unread a) (unread b) = one_text_wrong shape valid batch schedule q r a b
 one_invalid shape valid batch schedule q r (unread a) (unscheduled ts xs m texts b) = absurd (texts_right shape valid batch schedule ts xs m q texts a)
 one_invalid shape valid batch schedule q r (unscheduled ts xs m texts a) (unread b) = absurd (texts_right shape valid batch schedule ts xs m r texts b)

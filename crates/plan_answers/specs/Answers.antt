@@ -3,7 +3,7 @@ use Rattle.std.specs.Prelude.{◌≡◌, ℕ, List, ◌++◌, length, Option, So
 use Rattle.std.specs.Fmt.{decimal}
 use Rattle.batch.specs.declared.fault.BatchFault.{BatchFault}
 use Rattle.batch.specs.declared.transfer.Transfer.{Transfer}
-use Rattle.batch.specs.Extent.{Extent}
+use Rattle.batch.specs.ShapeView.{ShapeView}
 use Rattle.batch.specs.Text.{Denotes}
 use Rattle.batch.specs.Faults.{IsFirstFault}
 use Rattle.link_graph.specs.declared.check_fault.CheckFault.{CheckFault}
@@ -39,7 +39,7 @@ pub record SaysPlan (planning : Planning) (batch : List Transfer) (text : List �
 
 -- a text that says such a plan of the batch that the batch text denotes, or the refusal of that
 -- text's first fault, each under its status
-pub data IsPlanned (planning : Planning) (shape : Extent) (batch : List ℕ) (printed : Printed)
+pub data IsPlanned (planning : Planning) (shape : ShapeView) (batch : List ℕ) (printed : Printed)
     : Type 0 where
   planned : (transfers : List Transfer) → Denotes shape batch transfers
       → SaysPlan planning transfers printed.text → printed.status ≡ DONE
@@ -51,7 +51,7 @@ pub data IsPlanned (planning : Planning) (shape : Extent) (batch : List ℕ) (pr
 
 -- The texts are those of a batch and of a shortest schedule of it, which has so many settings, with
 -- a certificate that shows it.
-pub record IsShown (shape : Extent) (batch schedule : List ℕ) (count : ℕ) : Type 0 where
+pub record IsShown (shape : ShapeView) (batch schedule : List ℕ) (count : ℕ) : Type 0 where
   pub transfers : List Transfer
   pub settings : List (List ℕ)
   pub named : Naming
@@ -68,7 +68,7 @@ IsUnshown transfers settings (Some named) refusal =
     × (refusal ≡ of_check fault)
 
 -- what is first wrong: the texts are looked at first, then the schedule
-pub data IsFirstWrong (shape : Extent) (batch schedule : List ℕ) (refusal : Refusal) : Type 0 where
+pub data IsFirstWrong (shape : ShapeView) (batch schedule : List ℕ) (refusal : Refusal) : Type 0 where
   unread : IsTextWrong shape batch schedule refusal → IsFirstWrong shape batch schedule refusal
   unshown : (transfers : List Transfer) (settings : List (List ℕ)) (certificate : Option Naming)
       → AreTexts shape batch schedule transfers settings certificate
@@ -80,7 +80,7 @@ abbrev pub shortest_line : ℕ → List ℕ
 shortest_line count = codes "shortest " ++ decimal count ++ codes "\n"
 
 -- how many settings the shortest schedule has, or what is first wrong, each under its status
-pub data IsChecked (shape : Extent) (batch schedule : List ℕ) (printed : Printed) : Type 0 where
+pub data IsChecked (shape : ShapeView) (batch schedule : List ℕ) (printed : Printed) : Type 0 where
   shortest : (count : ℕ) → IsShown shape batch schedule count → printed.text ≡ shortest_line count
       → printed.status ≡ DONE → IsChecked shape batch schedule printed
   refused : (refusal : Refusal) → IsFirstWrong shape batch schedule refusal

@@ -2,7 +2,7 @@
 use Rattle.std.specs.Prelude.{◌≡◌, ℕ, List, ◌++◌, codes}
 use Rattle.std.specs.Fmt.{decimal}
 use Rattle.batch.specs.declared.transfer.Transfer.{Transfer}
-use Rattle.batch.specs.Extent.{Extent}
+use Rattle.batch.specs.ShapeView.{ShapeView}
 use Rattle.refusals.specs.declared.refusal.Refusal.{Refusal}
 use Rattle.refusals.specs.Refusals.{refusal_words}
 use Rattle.schedule_picture.specs.declared.verdict.Verdict.{Verdict}
@@ -16,7 +16,7 @@ changes_line changes least =
     codes "changes " ++ decimal changes ++ codes " least " ++ decimal least ++ codes "\n"
 
 -- the line of the schedule that the texts say
-pub record IsCounting (shape : Extent) (batch schedule text : List ℕ) : Type 0 where
+pub record IsCounting (shape : ShapeView) (batch schedule text : List ℕ) : Type 0 where
   pub transfers : List Transfer
   pub settings : List (List ℕ)
   pub verdict : Verdict
@@ -25,7 +25,7 @@ pub record IsCounting (shape : Extent) (batch schedule text : List ℕ) : Type 0
 
 -- that line, where so many changes are shown, or the refusal of what is first wrong, each under its
 -- status
-pub data IsCountedWith (shape : Extent) (batch schedule : List ℕ) (least : ℕ) (printed : Printed)
+pub data IsCountedWith (shape : ShapeView) (batch schedule : List ℕ) (least : ℕ) (printed : Printed)
     : Type 0 where
   counted : (counting : IsCounting shape batch schedule printed.text)
       → counting.verdict.least ≡ least → printed.status ≡ DONE
@@ -35,6 +35,6 @@ pub data IsCountedWith (shape : Extent) (batch schedule : List ℕ) (least : ℕ
       → IsCountedWith shape batch schedule least printed
 
 -- so it is, however many changes are shown
-abbrev pub IsCounted : Extent → List ℕ → List ℕ → Printed → Type 0
+abbrev pub IsCounted : ShapeView → List ℕ → List ℕ → Printed → Type 0
 IsCounted shape batch schedule printed =
     (least : ℕ) × IsCountedWith shape batch schedule least printed

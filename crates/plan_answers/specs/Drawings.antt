@@ -2,12 +2,12 @@
 use Rattle.std.specs.Prelude.{◌≡◌, ℕ, ◌<◌, ◌≤◌, ◌+◌, max, List, ◌++◌, length, Option, Some, None, codes, ⊤}
 use Rattle.std.specs.Fmt.{decimal}
 use Rattle.batch.specs.declared.transfer.Transfer.{Transfer}
-use Rattle.batch.specs.Extent.{Extent}
+use Rattle.batch.specs.ShapeView.{ShapeView}
 use Rattle.batch.specs.Text.{IsNumber}
 use Rattle.refusals.specs.declared.refusal.Refusal.{Refusal}
 use Rattle.refusals.specs.declared.refusal.Refusal.TheVariants.{Settings, NoSetting}
 use Rattle.refusals.specs.Refusals.{refusal_words}
-use Rattle.schedule_picture.specs.declared.shown.Shown.{Shown}
+use Rattle.schedule_picture.specs.declared.shown.ShownSettings.{ShownSettings}
 use Rattle.schedule_picture.specs.declared.verdict.Verdict.{Verdict}
 use Rattle.schedule_picture.specs.Picture.{picture_of, all_shown}
 use Rattle.plan_answers.specs.declared.limits.TheConstants.{DONE}
@@ -49,7 +49,7 @@ IsBadSettingsText None = ⊥
 IsBadSettingsText (Some text) = IsBadRange text
 
 -- of so many settings these are shown: all, or those of the range, which are all there
-abbrev pub AreShown : Option SettingRange → ℕ → Shown → Type 0
+abbrev pub AreShown : Option SettingRange → ℕ → ShownSettings → Type 0
 AreShown None settings shown = shown ≡ all_shown settings
 AreShown (Some range) settings shown =
     (range.last < settings) × (shown.first ≡ range.first)
@@ -64,13 +64,13 @@ IsOutside (Some range) settings k =
 -- ---- the answer
 
 -- the picture of the settings that are wanted of the schedule that the texts say
-pub record IsDrawing (shape : Extent) (batch schedule : List ℕ) (settings_text : Option (List ℕ))
+pub record IsDrawing (shape : ShapeView) (batch schedule : List ℕ) (settings_text : Option (List ℕ))
     (text : List ℕ) : Type 0 where
   pub transfers : List Transfer
   pub settings : List (List ℕ)
   pub verdict : Verdict
   pub range : Option SettingRange
-  pub shown : Shown
+  pub shown : ShownSettings
   pub wanted : AreWanted settings_text range
   pub valid : IsValid shape batch schedule transfers settings verdict
   pub are_shown : AreShown range (length settings) shown
@@ -78,7 +78,7 @@ pub record IsDrawing (shape : Extent) (batch schedule : List ℕ) (settings_text
 
 -- What is first wrong: the text of the range is looked at first, then the texts of the batch and of
 -- the schedule, then whether that has all settings of the range.
-pub data IsFirstUndrawn (shape : Extent) (batch schedule : List ℕ) (settings_text : Option (List ℕ))
+pub data IsFirstUndrawn (shape : ShapeView) (batch schedule : List ℕ) (settings_text : Option (List ℕ))
     (refusal : Refusal) : Type 0 where
   no_range : IsBadSettingsText settings_text → refusal ≡ Settings
       → IsFirstUndrawn shape batch schedule settings_text refusal
@@ -93,7 +93,7 @@ pub data IsFirstUndrawn (shape : Extent) (batch schedule : List ℕ) (settings_t
 
 -- the picture, where so many changes are shown, or the refusal of what is first wrong, each under
 -- its status
-pub data IsDrawnWith (shape : Extent) (batch schedule : List ℕ) (settings_text : Option (List ℕ))
+pub data IsDrawnWith (shape : ShapeView) (batch schedule : List ℕ) (settings_text : Option (List ℕ))
     (least : ℕ) (printed : Printed) : Type 0 where
   drawn : (drawing : IsDrawing shape batch schedule settings_text printed.text)
       → drawing.verdict.least ≡ least → printed.status ≡ DONE
@@ -103,6 +103,6 @@ pub data IsDrawnWith (shape : Extent) (batch schedule : List ℕ) (settings_text
       → IsDrawnWith shape batch schedule settings_text least printed
 
 -- so it is, however many changes are shown
-abbrev pub IsDrawn : Extent → List ℕ → List ℕ → Option (List ℕ) → Printed → Type 0
+abbrev pub IsDrawn : ShapeView → List ℕ → List ℕ → Option (List ℕ) → Printed → Type 0
 IsDrawn shape batch schedule settings_text printed =
     (least : ℕ) × IsDrawnWith shape batch schedule settings_text least printed

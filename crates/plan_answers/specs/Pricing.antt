@@ -3,13 +3,13 @@ use Rattle.std.specs.Prelude.{◌≡◌, ℕ, ◌+◌, ◌*◌, List, ◌++◌, 
 use Rattle.std.specs.Fmt.{decimal}
 use Rattle.std.specs.List.{flat_map, range_with_len}
 use Rattle.batch.specs.declared.transfer.Transfer.{Transfer}
-use Rattle.batch.specs.Extent.{Extent}
+use Rattle.batch.specs.ShapeView.{ShapeView}
 use Rattle.link_graph.specs.ScheduleText.{numbers}
 use Rattle.link_graph.specs.declared.limits.TheConstants.{LINKS}
 use Rattle.refusals.specs.declared.refusal.Refusal.{Refusal}
 use Rattle.refusals.specs.Refusals.{refusal_words}
 use Rattle.steady_schedule.specs.Prices.{IsPriceTable}
-use Rattle.steady_schedule.specs.declared.priced.Priced.{Priced}
+use Rattle.steady_schedule.specs.declared.priced.PriceTable.{PriceTable}
 use Rattle.plan_answers.specs.declared.limits.TheConstants.{DONE}
 use Rattle.plan_answers.specs.Refusals.{Printed, IsRefused}
 use Rattle.plan_answers.specs.Validities.{IsScheduleRead, IsInvalid}
@@ -25,7 +25,7 @@ price_line prices k =
     codes "prices" ++ numbers (take LINKS (drop (k * LINKS) prices)) ++ codes "\n"
 
 -- the first line, and a line for each length from 1 on
-abbrev pub table_text : ℕ → Priced → List ℕ
+abbrev pub table_text : ℕ → PriceTable → List ℕ
 table_text settings priced =
     shown_line settings priced.changes
     ++ flat_map (λ shorter. price_line priced.prices.items (shorter + 1))
@@ -34,13 +34,13 @@ table_text settings priced =
 -- the text has prices, and says how many changes they show of each schedule of the batch with so
 -- many settings
 pub record SaysPrices (batch : List Transfer) (settings : ℕ) (text : List ℕ) : Type 0 where
-  pub priced : Priced
+  pub priced : PriceTable
   pub table : IsPriceTable batch settings priced
   pub says : text ≡ table_text settings priced
 
 -- such prices for as many settings as the schedule has that the texts say, or the refusal of what
 -- is first wrong, each under its status
-pub data IsPriced (shape : Extent) (batch schedule : List ℕ) (printed : Printed) : Type 0 where
+pub data IsPriced (shape : ShapeView) (batch schedule : List ℕ) (printed : Printed) : Type 0 where
   priced : (transfers : List Transfer) (settings : List (List ℕ))
       → IsScheduleRead shape batch schedule transfers settings
       → SaysPrices transfers (length settings) printed.text → printed.status ≡ DONE

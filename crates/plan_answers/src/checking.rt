@@ -2,7 +2,7 @@
 
 ghost use Rattle.std.specs.Prelude.{◌≡◌, ◌≢◌, List, ℕ, IfOk, IfErr, OnOk, length};
 ghost use Rattle.std.specs.Option.{IsSomeAnd};
-ghost use Rattle.batch.specs.Extent.{widest};
+ghost use Rattle.batch.specs.ShapeView.{widest};
 ghost use Rattle.link_graph.specs.Certificates.{IsCertified};
 ghost use Rattle.refusals.specs.declared.refusal.Refusal.TheVariants.{NoMemory};
 ghost use Rattle.plan_answers.specs.Texts.{AreTexts};

@@ -1,7 +1,7 @@
 //! How often the switch changes over a schedule.
 
 ghost use Rattle.std.specs.Prelude.{IfOk};
-ghost use Rattle.batch.specs.Extent.{widest};
+ghost use Rattle.batch.specs.ShapeView.{widest};
 ghost use Rattle.plan_answers.specs.Counting.{IsCounted};
 
 use crate::answer::Answer;

@@ -1,9 +1,9 @@
 //! The command `draw`.
 
 ghost use Rattle.std.specs.Prelude.{◌≡◌, ◌≢◌, ℕ, ◌+◌, IfOk, IfErr, IfSome, length, string_bytes};
-ghost use Rattle.batch.specs.Extent.{widest};
+ghost use Rattle.batch.specs.ShapeView.{widest};
 ghost use Rattle.batch.specs.Text.{IsNumber};
-ghost use Rattle.schedule_picture.specs.declared.shown.Shown.{Shown};
+ghost use Rattle.schedule_picture.specs.declared.shown.ShownSettings.{ShownSettings};
 ghost use Rattle.schedule_picture.specs.declared.verdict.Verdict.{Verdict};
 ghost use Rattle.schedule_picture.specs.Picture.{picture_of};
 ghost use Rattle.schedule_picture.specs.Verdicts.{IsVerdict};
@@ -16,7 +16,7 @@ use crate::schedule_texts::ScheduleTexts;
 use crate::setting_range::SettingRange;
 use batch::Shape;
 use refusals::Refusal;
-use schedule_picture::{Shown, draw};
+use schedule_picture::{ShownSettings, draw};
 use std::alloc::{AllocError, Global};
 
 /// The range of a text, where there is one.
@@ -35,14 +35,14 @@ fn read_range(text: Option<&[u8]>) -> Result<Option<SettingRange>, Refusal>
 }
 
 /// The settings to draw of so many: those of the range, or all where there is none.
-fn shown_of(range: Option<SettingRange>, settings: usize) -> Result<Shown, Refusal>
+fn shown_of(range: Option<SettingRange>, settings: usize) -> Result<ShownSettings, Refusal>
     requires { IfSome range IsInOrder }
     ensures some { IfOk result (AreShown range settings) }
     ensures outside { IfErr result (λ refusal.
         (k : ℕ) × (refusal ≡ NoSetting k) × IsOutside range settings k) }
 {
     match range {
-        None => Ok(Shown {
+        None => Ok(ShownSettings {
             first: 0,
             count: settings,
         }),
@@ -50,7 +50,7 @@ fn shown_of(range: Option<SettingRange>, settings: usize) -> Result<Shown, Refus
             if range.last >= settings {
                 return Err(Refusal::NoSetting(range.first.max(settings)));
             }
-            Ok(Shown {
+            Ok(ShownSettings {
                 first: range.first,
                 count: range.last - range.first + 1,
             })
@@ -66,7 +66,7 @@ fn draw_range(
 ) -> Result<String, Refusal>
     requires settings { IsNumber (length texts.now.schedule) }
     requires range { IfSome range IsInOrder }
-    ensures drawn { IfOk result (λ text. (verdict : Verdict) × (shown : Shown)
+    ensures drawn { IfOk result (λ text. (verdict : Verdict) × (shown : ShownSettings)
         × IsVerdict texts.now.batch texts.now.schedule texts.now.certificate verdict
         × AreShown range (length texts.now.schedule) shown
         × (string_bytes text ≡ picture_of texts.now.batch texts.now.schedule verdict shown)) }

@@ -37,4 +37,4 @@ pub use limits::{DONE, REFUSED};
 pub use planning::answer_plan;
 pub use pricing::answer_prices;
 pub use scheduled::Scheduled;
-pub use source::{Planning, Source};
+pub use source::{Planning, ScheduleSource};

@@ -1,7 +1,7 @@
 //! The command `plan`.
 
 ghost use Rattle.std.specs.Prelude.{IfOk};
-ghost use Rattle.batch.specs.Extent.{widest};
+ghost use Rattle.batch.specs.ShapeView.{widest};
 ghost use Rattle.plan_answers.specs.Answers.{SaysPlan, IsPlanned};
 ghost use Rattle.plan_answers.specs.declared.source.Planning.TheVariants.{Plain};
 

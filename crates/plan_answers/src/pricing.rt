@@ -1,7 +1,7 @@
 //! The command `draw --prices`.
 
 ghost use Rattle.std.specs.Prelude.{◌≡◌, ◌++◌, ◌*◌, ◌+◌, IfOk, OnOk, codes, length, string_bytes};
-ghost use Rattle.batch.specs.Extent.{widest};
+ghost use Rattle.batch.specs.ShapeView.{widest};
 ghost use Rattle.link_graph.specs.ScheduleText.{numbers};
 ghost use Rattle.link_graph.specs.Schedules.{IsScheduleOf};
 ghost use Rattle.link_graph.specs.declared.limits.TheConstants.{LINKS};
@@ -15,7 +15,7 @@ use crate::validity::most_uses;
 use batch::{Batch, Shape};
 use link_graph::{LINKS, LinkGraph, Schedule};
 use std::alloc::{AllocError, Global};
-use steady_schedule::{Priced, count_changes, most_shown};
+use steady_schedule::{PriceTable, count_changes, best_price_table};
 
 /// Puts the line of the prices of a length at the end of the text.
 fn push_prices(text: &mut String, prices: &[u32]) -> Result<(), AllocError>
@@ -30,7 +30,7 @@ fn push_prices(text: &mut String, prices: &[u32]) -> Result<(), AllocError>
 }
 
 /// The text of a table of prices, for schedules with so many settings.
-fn table(alloc: Global, settings: usize, priced: &Priced) -> Result<String, AllocError>
+fn table(alloc: Global, settings: usize, priced: &PriceTable) -> Result<String, AllocError>
     requires { length priced.now.prices.items ≡ (priced.now.top + 1) * LINKS }
     ensures { IfOk result (λ text. string_bytes text ≡ table_text settings priced.now) }
 {
@@ -45,16 +45,16 @@ fn table(alloc: Global, settings: usize, priced: &Priced) -> Result<String, Allo
 
 /// A table of prices for schedules of the batch with as many settings as this one. Nothing is
 /// looked for beyond its changes. Where its settings aren't the fewest the table shows nothing.
-fn prices_of(alloc: Global, batch: &Batch, schedule: &Schedule) -> Result<Priced, AllocError>
+fn prices_of(alloc: Global, batch: &Batch, schedule: &Schedule) -> Result<PriceTable, AllocError>
     requires { IsScheduleOf batch.now schedule.now }
     ensures { IfOk result (IsPriceTable batch.now (length schedule.now)) }
 {
     let graph = LinkGraph::of(batch)?;
     let settings = schedule.settings();
     if settings != most_uses(&graph) {
-        return Priced::none(alloc);
+        return PriceTable::none(alloc);
     }
-    most_shown(alloc, &graph, settings, count_changes(&graph, schedule))
+    best_price_table(alloc, &graph, settings, count_changes(&graph, schedule))
 }
 
 /// The answer of `exchange draw --prices`: prices by which it is shown how often the switch has to
@@ -64,7 +64,7 @@ fn prices_of(alloc: Global, batch: &Batch, schedule: &Schedule) -> Result<Priced
 /// The first line is `settings S shown N`: each schedule of the batch with S settings, as many as
 /// this one has, changes the switch at least N times. Then a line `prices P0 P1 ..` for each length
 /// of a step, from 1 on, has the prices of all [`LINKS`] links: of links 0 by their modules, then
-/// of links 3. They add up to 65,536 at most. [`most_shown`] says why they show N changes.
+/// of links 3. They add up to 65,536 at most. [`best_price_table`] says why they show N changes.
 ///
 /// Where the schedule hasn't the fewest settings, or there is no transfer, N is 0. Where N is 0, no
 /// prices follow. That is no failure: prices show nothing then.
@@ -73,7 +73,7 @@ fn prices_of(alloc: Global, batch: &Batch, schedule: &Schedule) -> Result<Priced
 /// of the picture says `the fewest with so few settings`, and else no more than the title says.
 ///
 /// The texts are looked at as by [`answer_draw`](crate::answer_draw). Takes time that grows with
-/// the lengths of the texts, and as [`most_shown`] does.
+/// the lengths of the texts, and as [`best_price_table`] does.
 pub fn answer_prices(alloc: Global, batch: &[u8], schedule: &[u8]) -> Result<Answer, AllocError>
     ensures { IfOk result (IsPriced widest batch.now schedule.now) }
 {

@@ -8,11 +8,11 @@ ghost use Rattle.plan_answers.specs.Texts.{AreTexts};
 ghost use Rattle.plan_answers.specs.Validities.{IsInvalid};
 
 use crate::texts::ReadTexts;
-use crate::validity::standing_in;
+use crate::validity::certificate_status_in;
 use batch::{Batch, Shape};
 use link_graph::Schedule;
 use refusals::Refusal;
-use schedule_picture::{Standing, Verdict, verdict_on};
+use schedule_picture::{CertificateStatus, Verdict, verdict_on};
 use std::alloc::{AllocError, Global};
 use std::marker::Model;
 
@@ -21,12 +21,12 @@ use std::marker::Model;
 pub(crate) struct ScheduleTexts {
     texts: ReadTexts,
     /// How the certificate stands.
-    standing: Standing,
+    standing: CertificateStatus,
 }
 
 impl Model for ScheduleTexts {
     ghost use Rattle.link_graph.specs.Schedules.{IsScheduleOf};
-    ghost use Rattle.schedule_picture.specs.Verdicts.{IsStanding};
+    ghost use Rattle.schedule_picture.specs.Verdicts.{IsCertificateStatus};
     ghost use Rattle.plan_answers.specs.declared.texts.ReadTexts.{ReadTexts};
 
     ghost Value = { ReadTexts };
@@ -34,7 +34,7 @@ impl Model for ScheduleTexts {
     ghost view = { λ t. t.texts };
 
     ghost invariant = { λ t. IsScheduleOf t.texts.batch t.texts.schedule
-        × IsStanding t.texts.batch t.texts.schedule t.texts.certificate t.standing };
+        × IsCertificateStatus t.texts.batch t.texts.schedule t.texts.certificate t.standing };
 }
 
 impl ScheduleTexts {
@@ -56,7 +56,7 @@ impl ScheduleTexts {
             → IsInvalid shape batch.now schedule.now refusal) }
     {
         let texts = ReadTexts::read(alloc, shape, batch, schedule)?;
-        let standing = standing_in(alloc, &texts)?;
+        let standing = certificate_status_in(alloc, &texts)?;
         Ok(ScheduleTexts { texts, standing })
     }
 

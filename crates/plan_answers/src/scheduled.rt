@@ -8,7 +8,7 @@ ghost use Rattle.plan_answers.specs.Schedules.{IsPlannedAs, IsScheduleFrom, IsWr
 ghost use Rattle.plan_answers.specs.declared.source.Planning.TheVariants.{Plain};
 
 use crate::schedule_texts::ScheduleTexts;
-use crate::source::{Planning, Source};
+use crate::source::{Planning, ScheduleSource};
 use batch::{Batch, Shape};
 use exchange_limits::WorkerCount;
 use link_graph::Schedule;
@@ -20,7 +20,7 @@ use steady_schedule::{Steady, steady};
 
 /// What a schedule came from.
 #[derive(Drop)]
-enum Made {
+enum PlannedBy {
     Plan(Planned),
     Steady { batch: Batch, plan: Steady },
     Text(ScheduleTexts),
@@ -29,7 +29,7 @@ enum Made {
 /// A batch and a schedule of it.
 #[derive(Drop)]
 pub struct Scheduled {
-    made: Made,
+    made: PlannedBy,
 }
 
 impl Model for Scheduled {
@@ -59,7 +59,7 @@ impl Scheduled {
         alloc: Global,
         shape: Shape,
         batch: &[u8],
-        source: Source<&[u8]>,
+        source: ScheduleSource<&[u8]>,
         workers: WorkerCount,
     ) -> Result<Scheduled, Refusal>
         ensures schedule { IfOk result (λ read.
@@ -68,12 +68,12 @@ impl Scheduled {
             → IsWrongFrom (said_by source.entry) shape batch.now refusal) }
     {
         match source {
-            Source::Plan(planning) => {
+            ScheduleSource::Plan(planning) => {
                 let batch = Batch::read(alloc, batch, shape)?;
                 Ok(Scheduled::plan(rt, alloc, batch, planning, workers)?)
             }
-            Source::Text(schedule) => Ok(Scheduled {
-                made: Made::Text(ScheduleTexts::read(alloc, shape, batch, schedule)?),
+            ScheduleSource::Text(schedule) => Ok(Scheduled {
+                made: PlannedBy::Text(ScheduleTexts::read(alloc, shape, batch, schedule)?),
             }),
         }
     }
@@ -95,7 +95,7 @@ impl Scheduled {
             Planning::Steady => {
                 let plan = steady(alloc, &batch)?;
                 Ok(Scheduled {
-                    made: Made::Steady { batch, plan },
+                    made: PlannedBy::Steady { batch, plan },
                 })
             }
         }
@@ -110,7 +110,7 @@ impl Scheduled {
         let _reinserted = planned.reinserted();
         let _batch = planned.batch();
         Scheduled {
-            made: Made::Plan(planned),
+            made: PlannedBy::Plan(planned),
         }
     }
 
@@ -119,9 +119,9 @@ impl Scheduled {
         ensures { result.now ≡ self.now.batch }
     {
         match &self.made {
-            Made::Plan(plan) => plan.batch(),
-            Made::Steady { batch, .. } => batch,
-            Made::Text(texts) => texts.batch(),
+            PlannedBy::Plan(plan) => plan.batch(),
+            PlannedBy::Steady { batch, .. } => batch,
+            PlannedBy::Text(texts) => texts.batch(),
         }
     }
 
@@ -131,9 +131,9 @@ impl Scheduled {
         ensures valid { IsScheduleOf self.now.batch self.now.settings }
     {
         match &self.made {
-            Made::Plan(plan) => plan.schedule(),
-            Made::Steady { plan, .. } => plan.schedule(),
-            Made::Text(texts) => texts.schedule(),
+            PlannedBy::Plan(plan) => plan.schedule(),
+            PlannedBy::Steady { plan, .. } => plan.schedule(),
+            PlannedBy::Text(texts) => texts.schedule(),
         }
     }
 }

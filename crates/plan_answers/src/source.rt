@@ -11,7 +11,7 @@ pub enum Planning {
 
 /// Where a schedule of a batch comes from.
 #[derive(Drop)]
-pub enum Source<T> {
+pub enum ScheduleSource<T> {
     /// The batch is planned so.
     Plan(Planning),
     /// A text says it: this one, or that of this file.

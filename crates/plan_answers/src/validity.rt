@@ -1,11 +1,11 @@
 //! Whether a schedule is one of its batch, whatever certificate it has.
 
 ghost use Rattle.std.specs.Prelude.{◌≡◌, ◌≢◌, List, ℕ, Option, OnOk, IfOk, IfErr};
-ghost use Rattle.batch.specs.Extent.{widest};
+ghost use Rattle.batch.specs.ShapeView.{widest};
 ghost use Rattle.link_graph.specs.declared.link.Link.{Link};
 ghost use Rattle.link_graph.specs.Schedules.{IsScheduleOf};
 ghost use Rattle.refusals.specs.declared.refusal.Refusal.TheVariants.{NoMemory};
-ghost use Rattle.schedule_picture.specs.Verdicts.{IsBusiestOf, uses_of, IsStanding};
+ghost use Rattle.schedule_picture.specs.Verdicts.{IsBusiestOf, uses_of, IsCertificateStatus};
 ghost use Rattle.plan_answers.specs.Answers.{IsUnshown};
 ghost use Rattle.plan_answers.specs.Texts.{AreTexts};
 ghost use Rattle.plan_answers.specs.Validities.{IsUnscheduled, IsKnown};
@@ -13,20 +13,20 @@ ghost use Rattle.plan_answers.specs.Validities.{IsUnscheduled, IsKnown};
 use crate::texts::ReadTexts;
 use link_graph::LinkGraph;
 use refusals::{Refusal, Validity};
-use schedule_picture::{Standing, standing_of};
+use schedule_picture::{CertificateStatus, certificate_status};
 use std::alloc::Global;
 
 /// How the certificate of the texts stands, where their schedule is one of the batch; or what is
 /// first wrong with its settings.
-pub(crate) fn standing_in(alloc: Global, texts: &ReadTexts) -> Result<Standing, Refusal>
+pub(crate) fn certificate_status_in(alloc: Global, texts: &ReadTexts) -> Result<CertificateStatus, Refusal>
     ensures schedule { OnOk result (IsScheduleOf texts.now.batch texts.now.schedule) }
     ensures standing { IfOk result
-        (IsStanding texts.now.batch texts.now.schedule texts.now.certificate) }
+        (IsCertificateStatus texts.now.batch texts.now.schedule texts.now.certificate) }
     ensures wrong { IfErr result (λ refusal. refusal ≢ NoMemory
         → IsUnscheduled texts.now.batch texts.now.schedule refusal) }
 {
     let certificate = texts.certificate.as_ref();
-    Ok(standing_of(alloc, &texts.batch, &texts.schedule, certificate)?)
+    Ok(certificate_status(alloc, &texts.batch, &texts.schedule, certificate)?)
 }
 
 /// How many transfers the busiest link has, so that no schedule has fewer settings.
@@ -65,7 +65,7 @@ pub(crate) fn validity_of(alloc: Global, texts: &ReadTexts, refusal: Refusal) ->
         → IsKnown batch schedule result }
 {
     match refusal {
-        Refusal::NoCertificate => match standing_in(alloc, texts) {
+        Refusal::NoCertificate => match certificate_status_in(alloc, texts) {
             Ok(_) => enough_for(texts),
             Err(wrong) => match wrong {
                 Refusal::NoMemory => Validity::Unknown,

@@ -3,7 +3,7 @@
 use atomic_table::{Join, Play, Split, TableRule};
 
 /// What is known of the word from one watcher. No value of it is made.
-pub struct View {
+pub struct WordView {
     /// The greatest value that was seen.
     pub seen: u64,
     /// The greatest value to which the word was raised.
@@ -30,7 +30,7 @@ pub enum Step {
 /// The rule, for the table.
 pub(crate) struct Rises;
 
-impl TableRule<u8, View, ()> for Rises {
+impl TableRule<u8, WordView, ()> for Rises {
     ghost use Rattle.progress_word.specs.Plays.{MeetsRule};
     ghost use Rattle.progress_word.specs.Rule.{whole_view};
 
@@ -42,7 +42,7 @@ impl TableRule<u8, View, ()> for Rises {
 /// A load.
 pub(crate) struct Loads;
 
-impl Play<u8, View> for Loads {
+impl Play<u8, WordView> for Loads {
     ghost use Rattle.progress_word.specs.Plays.{HasLoaded};
 
     ghost then = { HasLoaded };
@@ -51,16 +51,16 @@ impl Play<u8, View> for Loads {
 /// A raise.
 pub(crate) struct Raises;
 
-impl Play<u8, View> for Raises {
+impl Play<u8, WordView> for Raises {
     ghost use Rattle.progress_word.specs.Plays.{HasRaised};
 
     ghost then = { HasRaised };
 }
 
 /// A split.
-pub(crate) struct OnePart;
+pub(crate) struct SplitsOff;
 
-impl Split<View> for OnePart {
+impl Split<WordView> for SplitsOff {
     ghost use Rattle.progress_word.specs.Rule.{without_part, split_off};
 
     ghost left = { without_part };
@@ -69,9 +69,9 @@ impl Split<View> for OnePart {
 }
 
 /// A join.
-pub(crate) struct Both;
+pub(crate) struct MergesIn;
 
-impl Join<View> for Both {
+impl Join<WordView> for MergesIn {
     ghost use Rattle.progress_word.specs.Rule.{joined, absorbed};
 
     ghost both = { joined };

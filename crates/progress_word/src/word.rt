@@ -4,7 +4,7 @@ ghost use Rattle.std.specs.Prelude.{◌≡◌, ◌+◌, ◌-◌, ◌<◌, ◌≤
 ghost use Rattle.progress_word.specs.Watchers.{watcher_view, IsAt};
 
 use crate::limits::ALL_PARTS;
-use crate::rule::{Both, Loads, OnePart, Raises, Rises, View};
+use crate::rule::{MergesIn, Loads, SplitsOff, Raises, Rises, WordView};
 use atomic_table::{Seat, Table};
 use std::alloc::{AllocError, Global};
 use std::marker::Model;
@@ -12,7 +12,7 @@ use std::marker::Model;
 /// A word of 64 bits that is never lowered. Contracts see which word it is.
 #[derive(Drop)]
 pub struct ProgressWord {
-    table: Table<u8, View, (), Rises, Global>,
+    table: Table<u8, WordView, (), Rises, Global>,
 }
 
 impl Model for ProgressWord {
@@ -32,7 +32,7 @@ impl Model for ProgressWord {
 /// that.
 #[derive(Drop)]
 pub struct Watcher {
-    seat: Seat<u8, View>,
+    seat: Seat<u8, WordView>,
 }
 
 impl Model for Watcher {
@@ -92,7 +92,7 @@ impl ProgressWord {
             watcher_view self.now watcher.old.seen watcher.old.raised (watcher.old.parts - 1) }
         ensures given { result ≡ watcher_view self.now watcher.old.seen 0 1 }
     {
-        let seat = self.table.shared.split_seat::<OnePart>(&mut watcher.seat);
+        let seat = self.table.shared.split_seat::<SplitsOff>(&mut watcher.seat);
         Watcher { seat }
     }
 
@@ -106,6 +106,6 @@ impl ProgressWord {
             (watcher.old.parts + other.parts) }
     {
         let Watcher { seat } = other;
-        self.table.shared.join_seat::<Both>(&mut watcher.seat, seat);
+        self.table.shared.join_seat::<MergesIn>(&mut watcher.seat, seat);
     }
 }

@@ -4,7 +4,7 @@ use Rattle.batch.specs.Batches.{IsBatch}
 use Rattle.batch.specs.Overlap.{no_transfer}
 use Rattle.batch.specs.declared.transfer.Transfer.{Transfer}
 use Rattle.board_wiring.specs.Boards.{IsFilled}
-use Rattle.board_wiring.specs.Lacks.{HasWaysOn}
+use Rattle.board_wiring.specs.Missing.{HasWaysOn}
 use Rattle.board_wiring.specs.declared.board.Board.{Board}
 use Rattle.board_wiring.proofs.ReadBoards.{joins_all}
 use Rattle.crossbar.specs.declared.board.BoardWiring.{BoardWiring}

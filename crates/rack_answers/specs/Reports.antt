@@ -10,8 +10,8 @@ use Rattle.module_memory.specs.Store.{Store, block_of}
 use Rattle.setting_runner.specs.LineBits.{bits_of}
 use Rattle.line_words.specs.HexWords.{hex8}
 use Rattle.plan_answers.specs.declared.source.Planning.TheVariants.{Plain, Steady}
-use Rattle.plan_answers.specs.declared.source.Source.{Source}
-use Rattle.plan_answers.specs.declared.source.Source.TheVariants.{Plan, Text}
+use Rattle.plan_answers.specs.declared.source.ScheduleSource.{ScheduleSource}
+use Rattle.plan_answers.specs.declared.source.ScheduleSource.TheVariants.{Plan, Text}
 use Rattle.steady_schedule.specs.Changes.{changes}
 
 -- `ran settings S words X bits Y`
@@ -59,7 +59,7 @@ report_of batch settings changed s =
 
 -- whether it is told how often the switch changed over a schedule from this source: not over a
 -- plain plan
-abbrev pub tells_changes : Source (List ℕ) → Bool
+abbrev pub tells_changes : ScheduleSource (List ℕ) → Bool
 tells_changes (Plan Plain) = false
 tells_changes (Plan Steady) = true
 tells_changes (Text schedule) = true
@@ -69,7 +69,7 @@ abbrev pub told_changes : Bool → List Transfer → List (List ℕ) → Option 
 told_changes told batch settings = if told then Some (changes batch settings) else None
 
 -- the report of a run of a schedule from this source
-abbrev pub report_for : Source (List ℕ) → List Transfer → List (List ℕ) → Store → List ℕ
+abbrev pub report_for : ScheduleSource (List ℕ) → List Transfer → List (List ℕ) → Store → List ℕ
 report_for source batch settings s =
     report_of batch (length settings) (told_changes (tells_changes source) batch settings) s
 

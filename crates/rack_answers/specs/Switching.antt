@@ -3,13 +3,13 @@
 use Rattle.std.specs.Prelude.{◌≡◌, ◌||◌, ℕ, ◌++◌, Bool, List, [], Option, Some, None, if◌then◌else◌, codes, length}
 use Rattle.std.specs.Fmt.{decimal}
 use Rattle.std.specs.List.{flat_map, range_with_len}
-use Rattle.batch.specs.Extent.{widest}
+use Rattle.batch.specs.ShapeView.{widest}
 use Rattle.batch.specs.declared.transfer.Transfer.{Transfer}
 use Rattle.c004_commands.specs.Commands.{text}
 use Rattle.c004_commands.specs.declared.command.Command.{Command}
 use Rattle.board_wiring.specs.Boards.{IsFilled, modules_of}
 use Rattle.board_wiring.specs.Faults.{IsFirstBad}
-use Rattle.board_wiring.specs.Lacks.{HasWaysOn, IsLackOf, LacksNothing}
+use Rattle.board_wiring.specs.Missing.{HasWaysOn, IsMissingFor, MissesNothing}
 use Rattle.board_wiring.specs.Sources.{of_wiring}
 use Rattle.board_wiring.specs.Text.{Denotes as IsWiringText}
 use Rattle.board_wiring.specs.declared.board.Board.{Board}
@@ -25,7 +25,7 @@ use Rattle.line_words.specs.HexWords.{hex2}
 use Rattle.plan_answers.specs.declared.limits.TheConstants.{DONE}
 use Rattle.plan_answers.specs.Refusals.{Printed, IsRefused}
 use Rattle.plan_answers.specs.Schedules.{IsScheduleFrom, IsWrongFrom}
-use Rattle.plan_answers.specs.declared.source.Source.{Source}
+use Rattle.plan_answers.specs.declared.source.ScheduleSource.{ScheduleSource}
 
 -- bytes of two hexadecimal digits each, with a space before each
 abbrev pub bytes_text : List ℕ → List ℕ
@@ -81,16 +81,16 @@ TellsSwitch board wide batch settings printed =
 -- in it for what is left out. Another rack has two switches if that is said, or if the batch needs
 -- them. What isn't there is refused after faults of the batch's text, and before those of a
 -- schedule.
-pub data IsSwitched (source : Source (List ℕ)) (has_two : Bool) (board : Option Board)
+pub data IsSwitched (source : ScheduleSource (List ℕ)) (has_two : Bool) (board : Option Board)
     (batch : List ℕ) (printed : Printed) : Type 0 where
   switched : (wiring : Option BoardWiring) (transfers : List Transfer) (settings : List (List ℕ))
       → IsScheduleFrom source widest batch transfers settings
       → HasWaysOn board transfers → IsFilled board wiring
       → TellsSwitch wiring (has_two || is_wide transfers) transfers settings printed
       → IsSwitched source has_two board batch printed
-  lacking : (refusal : Refusal) → IsLackOf board batch refusal
+  lacking : (refusal : Refusal) → IsMissingFor board batch refusal
       → IsRefused (refusal_words refusal) printed → IsSwitched source has_two board batch printed
-  wrong : (refusal : Refusal) → IsWrongFrom source widest batch refusal → LacksNothing board batch
+  wrong : (refusal : Refusal) → IsWrongFrom source widest batch refusal → MissesNothing board batch
       → IsRefused (refusal_words refusal) printed → IsSwitched source has_two board batch printed
 
 -- ---- the text of a wiring

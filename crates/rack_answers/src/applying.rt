@@ -6,7 +6,7 @@ ghost use Rattle.batch.specs.Overlap.{IsApart};
 ghost use Rattle.module_memory.specs.Core.{FitsIn};
 ghost use Rattle.module_memory.specs.Placing.{IsPlacedImage};
 ghost use Rattle.plan_answers.specs.declared.source.Planning.TheVariants.{Plain};
-ghost use Rattle.plan_answers.specs.declared.source.Source.TheVariants.{Plan};
+ghost use Rattle.plan_answers.specs.declared.source.ScheduleSource.TheVariants.{Plan};
 ghost use Rattle.rack_answers.specs.Answers.{IsResult, IsWrongOf, IsFirstRunWrong, IsApplied, IsImage};
 ghost use Rattle.refusals.specs.declared.refusal.Refusal.TheVariants.{NoMemory};
 

@@ -9,7 +9,7 @@ use batch::{Batch, Shape};
 use exchange_limits::WorkerCount;
 use link_graph::Schedule;
 use module_orders::RackOrders;
-use plan_answers::{Answer, Scheduled, Source};
+use plan_answers::{Answer, Scheduled, ScheduleSource};
 use refusals::Refusal;
 use schedule_certificate::Planner;
 use std::alloc::{AllocError, Global};
@@ -43,7 +43,7 @@ pub fn answer_orders<R: Planner>(
     rt: &R,
     alloc: Global,
     batch: &[u8],
-    source: Source<&[u8]>,
+    source: ScheduleSource<&[u8]>,
     only: Option<usize>,
     workers: WorkerCount,
 ) -> Result<Answer, AllocError>

@@ -1,7 +1,7 @@
 //! What a completed run reports.
 
 ghost use Rattle.std.specs.Prelude.{◌≡◌, ◌<◌, IfOk, OnOk};
-ghost use Rattle.batch.specs.Extent.{IsShape};
+ghost use Rattle.batch.specs.ShapeView.{IsShape};
 ghost use Rattle.batch.specs.Places.{HasPlace};
 ghost use Rattle.rack_answers.specs.Reports.{words_text, block_head as head_of, block_text, module_text, changes_text, report_of, Adds};
 

@@ -12,7 +12,7 @@ ghost use Rattle.rack_answers.specs.Openings.{IsOfImageOrMarked, IsWrongImage};
 ghost use Rattle.refusals.specs.declared.refusal.Refusal.TheVariants.{NoMemory};
 ghost use Rattle.plan_answers.specs.Schedules.{said_by};
 ghost use Rattle.plan_answers.specs.declared.source.Planning.TheVariants.{Steady};
-ghost use Rattle.plan_answers.specs.declared.source.Source.TheVariants.{Plan};
+ghost use Rattle.plan_answers.specs.declared.source.ScheduleSource.TheVariants.{Plan};
 ghost use Rattle.rack_answers.specs.Reports.{report_of, tells_changes as tells, told_changes};
 ghost use Rattle.steady_schedule.specs.Changes.{changes};
 
@@ -24,7 +24,7 @@ use exchange_limits::WorkerCount;
 use link_graph::{LinkGraph, Schedule};
 use module_memory::{ImageFault, Rack};
 use peek_poke::PlainWires;
-use plan_answers::{Answer, Planning, Scheduled, Source};
+use plan_answers::{Answer, Planning, Scheduled, ScheduleSource};
 use refusals::Refusal;
 use schedule_certificate::OpenGate;
 use setting_runner::{Notice, Outcome, Plant, RunRefusal, run};
@@ -122,7 +122,7 @@ fn run_texts<R: Threads + Sync>(
     alloc: Global,
     shape: &[u8],
     batch: &[u8],
-    source: Source<&[u8]>,
+    source: ScheduleSource<&[u8]>,
     image: Option<&[u8]>,
     workers: WorkerCount,
 ) -> Result<(Scheduled, Rack), Refusal>
@@ -139,12 +139,12 @@ fn run_texts<R: Threads + Sync>(
 }
 
 /// Whether it is told how often the switch changed over a schedule from this source.
-fn tells_changes(source: &Source<&[u8]>) -> bool
+fn tells_changes(source: &ScheduleSource<&[u8]>) -> bool
     ensures { result ≡ tells (said_by source.now) }
 {
     match source {
-        Source::Plan(Planning::Plain) => false,
-        Source::Plan(Planning::Steady) | Source::Text(_) => true,
+        ScheduleSource::Plan(Planning::Plain) => false,
+        ScheduleSource::Plan(Planning::Steady) | ScheduleSource::Text(_) => true,
     }
 }
 
@@ -195,7 +195,7 @@ pub fn answer_run<R: Threads + Sync>(
     alloc: Global,
     shape: &[u8],
     batch: &[u8],
-    source: Source<&[u8]>,
+    source: ScheduleSource<&[u8]>,
     image: Option<&[u8]>,
     workers: WorkerCount,
 ) -> Result<Answer, AllocError>

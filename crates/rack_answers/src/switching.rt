@@ -14,12 +14,12 @@ ghost use Rattle.rack_answers.specs.Switching.{bytes_text, setting_head as head_
 
 use crate::spaced::push_spaced;
 use batch::{Batch, Shape};
-use board_wiring::{Board, read_board, read_lack, wiring_of};
+use board_wiring::{Board, read_board, read_missing, wiring_of};
 use crossbar::{BoardWiring, Pair, Wiring};
 use exchange_limits::WorkerCount;
 use line_words::{Line, hex2_of};
 use link_graph::Schedule;
-use plan_answers::{Answer, Scheduled, Source};
+use plan_answers::{Answer, Scheduled, ScheduleSource};
 use schedule_certificate::Planner;
 use std::alloc::{AllocError, Global};
 use switch_settings::{PairList, WIDE_CHANGE_BYTES, bytes_for, is_wide, numbers_of_setting};
@@ -133,12 +133,12 @@ fn switch_on<R: Planner>(
     has_two: bool,
     board: &Option<Board>,
     batch: &[u8],
-    source: Source<&[u8]>,
+    source: ScheduleSource<&[u8]>,
     workers: WorkerCount,
 ) -> Result<Answer, AllocError>
     ensures { IfOk result (IsSwitched (said_by source.entry) has_two board.now batch.now) }
 {
-    if let Some(lack) = read_lack(alloc, board, batch)? {
+    if let Some(lack) = read_missing(alloc, board, batch)? {
         return Answer::refused(alloc, lack);
     }
     match Scheduled::read(rt, alloc, Shape::WIDEST, batch, source, workers) {
@@ -172,7 +172,7 @@ pub fn answer_switch<R: Planner>(
     has_two: bool,
     wiring: Option<&[u8]>,
     batch: &[u8],
-    source: Source<&[u8]>,
+    source: ScheduleSource<&[u8]>,
     workers: WorkerCount,
 ) -> Result<Answer, AllocError>
     ensures { IfOk result

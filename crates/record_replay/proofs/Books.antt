@@ -7,12 +7,12 @@ use Rattle.std.proofs.lemmas.List.Elements.{All-append, All-from_recursion, All-
 use Rattle.std.proofs.lemmas.List.FromFn.{get_or-range_with_len, length-range_with_len}
 use Rattle.std.proofs.lemmas.List.Sums.{sum_by-cons}
 use Rattle.std.proofs.lemmas.Simd.{map-map}
-use Rattle.batch.specs.Extent.{Extent, IsShape}
+use Rattle.batch.specs.ShapeView.{ShapeView, IsShape}
 use Rattle.batch.specs.ShapeText.{shape_text}
 use Rattle.module_memory.specs.Images.{image_of}
 use Rattle.module_memory.specs.Store.{Store}
 use Rattle.batch_book.specs.declared.entry.Entry.{Entry}
-use Rattle.batch_book.specs.History.{Account, AreUnstopped, IsReplay, Starts, new_account}
+use Rattle.batch_book.specs.History.{BookView, AreUnstopped, IsReplay, IsPrefix, new_book_view}
 use Rattle.batch_book.specs.Machine.{Machine, opened}
 use Rattle.batch_book.specs.Replies.{IsUnstopped}
 use Rattle.batch_book.specs.Seats.{own}
@@ -49,7 +49,7 @@ use Rattle.record_replay.specs.SessionRecords.{CanGoOn, IsGivenShape, IsRecorded
 -- ---- the rack
 
 -- the shape of a rack
-its_shape : (extent : Extent) (image : Option (List ℕ)) (rack : Store) → IsOfImageOrZeros extent image rack → rack.shape ≡ extent
+its_shape : (extent : ShapeView) (image : Option (List ℕ)) (rack : Store) → IsOfImageOrZeros extent image rack → rack.shape ≡ extent
 its_shape extent None rack words = ap (λ (s : Store). s.shape) words
 its_shape extent (Some bytes) rack words = words.same_shape
 
@@ -116,7 +116,7 @@ parts_told tell opening earlier es mid end parts n before legal counted have uns
 -- ---- the whole history
 
 -- a record can tell it
-all_told : SessionsAreTold → (loses : Bool) (opening : Store) (earlier : List Entry) (parts : List Part) (left : Account) (n : ℕ) → HaveOneHistory loses opening earlier parts left → All CanTell earlier → map session_of parts ≡ range_with_len 0 n → n ≤ 1000000000 → OfLines parts → All CanTell left.history
+all_told : SessionsAreTold → (loses : Bool) (opening : Store) (earlier : List Entry) (parts : List Part) (left : BookView) (n : ℕ) → HaveOneHistory loses opening earlier parts left → All CanTell earlier → map session_of parts ≡ range_with_len 0 n → n ≤ 1000000000 → OfLines parts → All CanTell left.history
 all_told tell loses opening earlier parts left n one before numbers few say =
     let legal = replay_split (opened opening) earlier one.made left.machine (subst (λ (l : List Entry). IsReplay (opened opening) l left.machine) one.are one.replay) in
     let unstopped = (both_parts (λ e. IsUnstopped e.reply) earlier one.made (subst AreUnstopped one.are one.unstopped)).1 in
@@ -124,25 +124,25 @@ all_told tell loses opening earlier parts left n one before numbers few say =
     subst (All CanTell) (sym one.are) (All-append CanTell earlier one.made before made)
 
 -- it is by sessions below this
-all_below : (limit : ℕ) (loses : Bool) (opening : Store) (earlier : List Entry) (parts : List Part) (left : Account) (n : ℕ) → HaveOneHistory loses opening earlier parts left → All (IsBelow limit) earlier → map session_of parts ≡ range_with_len 0 n → n ≤ limit → All (IsBelow limit) left.history
+all_below : (limit : ℕ) (loses : Bool) (opening : Store) (earlier : List Entry) (parts : List Part) (left : BookView) (n : ℕ) → HaveOneHistory loses opening earlier parts left → All (IsBelow limit) earlier → map session_of parts ≡ range_with_len 0 n → n ≤ limit → All (IsBelow limit) left.history
 all_below limit loses opening earlier parts left n one before numbers few =
     let made = each_below n limit one.made few (no_others one.made n (parts_total one.made parts n one.counted one.are_parts numbers)) in
     subst (All (IsBelow limit)) (sym one.are) (All-append (IsBelow limit) earlier one.made before made)
 
 -- its machine, from the words with which the book was opened
-all_led : (loses : Bool) (opening : Store) (earlier : List Entry) (parts : List Part) (left : Account) → HaveOneHistory loses opening earlier parts left → IsReplay (opened left.opening) left.history left.machine
+all_led : (loses : Bool) (opening : Store) (earlier : List Entry) (parts : List Part) (left : BookView) → HaveOneHistory loses opening earlier parts left → IsReplay (opened left.opening) left.history left.machine
 all_led loses opening earlier parts left one = subst (λ (s : Store). IsReplay (opened s) left.history left.machine) (sym one.is_opening) one.replay
 
 -- ---- what stands after the head
 
 -- the first entries of the book's history are made again, all that stand among them, and then the
 -- record ends
-record Made (limit : ℕ) (names : List (List ℕ)) (book : Account) (file : List ℕ) : Type 0 where
+record Made (limit : ℕ) (names : List (List ℕ)) (book : BookView) (file : List ℕ) : Type 0 where
   body : List ℕ
   is : file ≡ head_of book.opening.shape (adler (image_of book.opening)) names ++ body
   front : List Entry
-  has : Starts book.stands front
-  first : Starts front book.history
+  has : IsPrefix book.durable front
+  first : IsPrefix front book.history
   end : Machine
   rest : List ℕ
   remade : IsRemade limit body book.opening None front end rest
@@ -160,33 +160,33 @@ made_again limit opening es end rest can below legal ends = record {
 }
 
 -- the text of the entries that stand, and a front of that of the others
-cut_made : (limit : ℕ) (names : List (List ℕ)) (book : Account) (file : List ℕ) (waiting : List Entry) (rest missing : List ℕ) → book.history ≡ book.stands ++ waiting → All CanTell book.history → All (IsBelow limit) book.history → IsReplay (opened book.opening) book.history book.machine
-    → file ≡ record_of names book.opening book.stands ++ rest → texts (length book.stands) waiting ≡ rest ++ missing → Made limit names book file
+cut_made : (limit : ℕ) (names : List (List ℕ)) (book : BookView) (file : List ℕ) (waiting : List Entry) (rest missing : List ℕ) → book.history ≡ book.durable ++ waiting → All CanTell book.history → All (IsBelow limit) book.history → IsReplay (opened book.opening) book.history book.machine
+    → file ≡ record_of names book.opening book.durable ++ rest → texts (length book.durable) waiting ≡ rest ++ missing → Made limit names book file
 cut_made limit names book file waiting rest missing are can below legal has cut =
     let head = head_of book.opening.shape (adler (image_of book.opening)) names in
-    let stands = texts 0 book.stands in
-    let parts = both_parts CanTell book.stands waiting (subst (All CanTell) are can) in
-    let c = each_front (length book.stands) waiting rest missing parts.1 cut in
-    let front = book.stands ++ c.whole in
-    let all : book.history ≡ front ++ c.more = are ∙ ap (λ (l : List Entry). book.stands ++ l) c.are ∙ sym (append_assoc book.stands c.whole c.more) in
+    let durable = texts 0 book.durable in
+    let parts = both_parts CanTell book.durable waiting (subst (All CanTell) are can) in
+    let c = each_front (length book.durable) waiting rest missing parts.1 cut in
+    let front = book.durable ++ c.whole in
+    let all : book.history ≡ front ++ c.more = are ∙ ap (λ (l : List Entry). book.durable ++ l) c.are ∙ sym (append_assoc book.durable c.whole c.more) in
     let part = replay_split (opened book.opening) front c.more book.machine (subst (λ (l : List Entry). IsReplay (opened book.opening) l book.machine) all legal) in
-    let text : stands ++ rest ≡ texts 0 front ++ c.rest =
-    ap (λ (l : List ℕ). stands ++ l) c.read ∙ sym (append_assoc stands (texts (length book.stands) c.whole) c.rest) ∙ ap (λ (l : List ℕ). l ++ c.rest) (sym (texts_both book.stands c.whole)) in
+    let text : durable ++ rest ≡ texts 0 front ++ c.rest =
+    ap (λ (l : List ℕ). durable ++ l) c.read ∙ sym (append_assoc durable (texts (length book.durable) c.whole) c.rest) ∙ ap (λ (l : List ℕ). l ++ c.rest) (sym (texts_both book.durable c.whole)) in
     record {
       body = texts 0 front ++ c.rest;
-      is = has ∙ append_assoc head stands rest ∙ ap (λ (l : List ℕ). head ++ l) text;
+      is = has ∙ append_assoc head durable rest ∙ ap (λ (l : List ℕ). head ++ l) text;
       front = front;
-      has = starts book.stands front c.whole refl;
+      has = starts book.durable front c.whole refl;
       first = starts front book.history c.more all;
       end = part.0;
       rest = c.rest;
       remade =
-          made_again limit book.opening front part.0 c.rest (All-append CanTell book.stands c.whole parts.0 c.each)
+          made_again limit book.opening front part.0 c.rest (All-append CanTell book.durable c.whole parts.0 c.each)
           (both_parts (IsBelow limit) front c.more (subst (All (IsBelow limit)) all below)).0 part.1 (inr c.torn);
     }
 
 -- the text of all entries, and a front of the last lines
-ended_made : (limit : ℕ) (names : List (List ℕ)) (book : Account) (file line missing : List ℕ) → Starts book.stands book.history → All CanTell book.history → All (IsBelow limit) book.history → IsReplay (opened book.opening) book.history book.machine
+ended_made : (limit : ℕ) (names : List (List ℕ)) (book : BookView) (file line missing : List ℕ) → IsPrefix book.durable book.history → All CanTell book.history → All (IsBelow limit) book.history → IsReplay (opened book.opening) book.history book.machine
     → file ≡ record_of names book.opening book.history ++ line → last_lines (length book.history) ≡ line ++ missing → Made limit names book file
 ended_made limit names book file line missing stand can below legal has cut =
     record {
@@ -200,18 +200,18 @@ ended_made limit names book file line missing stand can below legal has cut =
       remade = made_again limit book.opening book.history book.machine line can below legal (line_ends (length book.history) line missing cut);
     }
 
-file_made : (limit : ℕ) (names : List (List ℕ)) (book : Account) (file : List ℕ) → Starts book.stands book.history → IsRecorded names book file → All CanTell book.history → All (IsBelow limit) book.history → IsReplay (opened book.opening) book.history book.machine → Made limit names book file
+file_made : (limit : ℕ) (names : List (List ℕ)) (book : BookView) (file : List ℕ) → IsPrefix book.durable book.history → IsRecorded names book file → All CanTell book.history → All (IsBelow limit) book.history → IsReplay (opened book.opening) book.history book.machine → Made limit names book file
 file_made limit names book file stand r can below legal =
-    let more = front book.stands book.history stand in
-    let stands = record_of names book.opening book.stands in
-    let waiting = texts (length book.stands) more.0 in
+    let more = front book.durable book.history stand in
+    let durable = record_of names book.opening book.durable in
+    let waiting = texts (length book.durable) more.0 in
     let last = last_lines (length book.history) in
-    let all : record_of names book.opening book.history ≡ stands ++ waiting = ap (record_of names book.opening) more.1 ∙ record_append names book.opening book.stands more.0 in
+    let all : record_of names book.opening book.history ≡ durable ++ waiting = ap (record_of names book.opening) more.1 ∙ record_append names book.opening book.durable more.0 in
     let behind : waiting ++ last ≡ r.rest ++ r.missing =
-    append_cancel_left stands (waiting ++ last) (r.rest ++ r.missing)
-    (sym (append_assoc stands waiting last) ∙ ap (λ (l : List ℕ). l ++ last) (sym all) ∙ r.cut ∙ ap (λ (l : List ℕ). l ++ r.missing) r.has ∙ append_assoc stands r.rest r.missing) in
+    append_cancel_left durable (waiting ++ last) (r.rest ++ r.missing)
+    (sym (append_assoc durable waiting last) ∙ ap (λ (l : List ℕ). l ++ last) (sym all) ∙ r.cut ∙ ap (λ (l : List ℕ). l ++ r.missing) r.has ∙ append_assoc durable r.rest r.missing) in
     elim (split waiting last r.rest r.missing behind) [
-      | inl ended ↦ ended_made limit names book file ended.0 r.missing stand can below legal (r.has ∙ ap (λ (l : List ℕ). stands ++ l) ended.1 ∙ sym (append_assoc stands waiting ended.0) ∙ ap (λ (l : List ℕ). l ++ ended.0) (sym all)) ended.2
+      | inl ended ↦ ended_made limit names book file ended.0 r.missing stand can below legal (r.has ∙ ap (λ (l : List ℕ). durable ++ l) ended.1 ∙ sym (append_assoc durable waiting ended.0) ∙ ap (λ (l : List ℕ). l ++ ended.0) (sym all)) ended.2
       | inr cut ↦ cut_made limit names book file more.0 r.rest cut.0 more.1 can below legal r.has cut.2
     ]
 
@@ -247,7 +247,7 @@ limit_digits : (clients : ℕ) → clients ≤ MAX_SESSIONS → session_limit cl
 limit_digits zero few = omega arith
 limit_digits (suc clients) few = omega (arith, few)
 
-closing_replayed : SessionsAreTold → (shape : List ℕ) (image : Option (List ℕ)) (loses : Bool) (was left : Account) (parts : List Part) (text : List ℕ) (failed : Bool) (printed : Printed) (names : List (List ℕ)) (file : List ℕ) (n : ℕ) → IsRackOf shape image was.opening → AreNames names (length names)
+closing_replayed : SessionsAreTold → (shape : List ℕ) (image : Option (List ℕ)) (loses : Bool) (was left : BookView) (parts : List Part) (text : List ℕ) (failed : Bool) (printed : Printed) (names : List (List ℕ)) (file : List ℕ) (n : ℕ) → IsRackOf shape image was.opening → AreNames names (length names)
     → CanGoOn (length names) was → IsClosing loses was.opening was.history parts text failed printed left → IsRecorded names left file → map session_of parts ≡ range_with_len 0 n → n ≤ session_limit (length names) → OfLines parts → IsReplayedInPart shape image left file
 closing_replayed tell shape image loses was left parts text failed printed names file n rack names_are on closed r numbers few say =
     let one = closed.one in
@@ -271,7 +271,7 @@ any_session : (es : List Entry) → All CanTell es → All (IsBelow (session_lim
 any_session es each = All-weaker CanTell (IsBelow (session_limit 0)) (λ e can. can.session) es each
 
 -- the same where entries are never lost, and the whole record is written at the end
-kept_replayed : SessionsAreTold → (shape : List ℕ) (image : Option (List ℕ)) (opening : Store) (parts : List Part) (text : List ℕ) (failed : Bool) (printed : Printed) (left : Account) (n : ℕ) → IsRackOf shape image opening
+kept_replayed : SessionsAreTold → (shape : List ℕ) (image : Option (List ℕ)) (opening : Store) (parts : List Part) (text : List ℕ) (failed : Bool) (printed : Printed) (left : BookView) (n : ℕ) → IsRackOf shape image opening
     → IsClosing false opening [] parts text failed printed left → map session_of parts ≡ range_with_len 0 n → n ≤ 1000000000 → OfLines parts → IsReplayedTo shape image left.opening left.history (whole_record [] left.opening left.history)
 kept_replayed tell shape image opening parts text failed printed left n rack closed numbers few say =
     let one = closed.one in
@@ -284,7 +284,7 @@ kept_replayed tell shape image opening parts text failed printed left n rack clo
 -- ---- sessions
 
 -- the shape of a rack stays
-begins_with_shape : (clients : ℕ) (was : Account) (loses : Bool) → CanGoOn clients was → IsShape was.opening.shape → IsShape (beginning loses was).shape
+begins_with_shape : (clients : ℕ) (was : BookView) (loses : Bool) → CanGoOn clients was → IsShape was.opening.shape → IsShape (beginning loses was).shape
 begins_with_shape clients was loses on allowed = subst IsShape (sym (shape_stays (opened was.opening) was.history was.machine on.led)) allowed
 
 served_say : SessionsSay → (b : Beginning) (before after : Option (List ℕ)) (t : Transcript) → IsShape b.shape → IsServedSession b before after t → AreOfLines t.part.asked
@@ -294,16 +294,16 @@ scripts_say : SessionsSay → (b : Beginning) (scripts : List (List ℕ)) (sessi
 scripts_say law b scripts [] valid each = tt
 scripts_say law b scripts (t ∷ sessions) valid each = (served_say law b (Some each.0.0) (Some each.0.1) t valid each.0.3, scripts_say law b scripts sessions valid each.1)
 
-one_book : (a b : Account) → Some a ≡ Some b → b ≡ a
-one_book a b is = sym (ap (λ (o : Option Account). unwrap_or o a) is)
+one_book : (a b : BookView) → Some a ≡ Some b → b ≡ a
+one_book a b is = sym (ap (λ (o : Option BookView). unwrap_or o a) is)
 
 pub serve_is_replayed : SessionsSay → SessionsAreTold → ServeIsReplayed
 serve_is_replayed law tell shape image scripts printed book (served opening rack all) few =
     let sessions = all.0 in
     let parts = map (λ (t : Transcript). t.part) sessions in
-    let begun = beginning false (new_account opening) in
+    let begun = beginning false (new_book_view opening) in
     let left = all.2 in
-    subst (λ (a : Account). IsReplayedTo shape image a.opening a.history (whole_record [] a.opening a.history)) (one_book book left all.3)
+    subst (λ (a : BookView). IsReplayedTo shape image a.opening a.history (whole_record [] a.opening a.history)) (one_book book left all.3)
     (kept_replayed tell shape image opening parts _ _ printed left (length scripts) rack all.5 (map-map session_of (λ (t : Transcript). t.part) sessions ∙ all.1.numbers) (omega (arith, few))
     (scripts_say law begun scripts sessions (rack_blocks shape image opening rack).0 (recursion_from_All (HasItsScript begun scripts) sessions all.1.each)))
 serve_is_replayed law tell shape image scripts printed book (refused _ _ _ is) few = absurd cc

@@ -10,15 +10,15 @@ use Rattle.module_memory.specs.Store.{Store}
 use Rattle.schedule_certificate.specs.Plans.{Plan}
 use Rattle.batch_book.specs.declared.call.Call.{Call}
 use Rattle.batch_book.specs.declared.call.Call.TheVariants.{Settle}
-use Rattle.batch_book.specs.declared.kept.KeptBatch.{KeptBatch}
-use Rattle.batch_book.specs.declared.kept.Stage.{Stage}
-use Rattle.batch_book.specs.declared.kept.Stage.TheVariants as stage
+use Rattle.batch_book.specs.declared.stored_batch.StoredBatch.{StoredBatch}
+use Rattle.batch_book.specs.declared.stored_batch.BatchStage.{BatchStage}
+use Rattle.batch_book.specs.declared.stored_batch.BatchStage.TheVariants as stage
 use Rattle.batch_book.specs.declared.refusal.BookRefusal.TheVariants.{Stranger}
 use Rattle.batch_book.specs.declared.reply.Reply.{Reply}
 use Rattle.batch_book.specs.declared.reply.Reply.TheVariants.{Refused}
 use Rattle.batch_book.specs.Answering.{IsReplyTo}
 use Rattle.batch_book.specs.Machine.{Machine, batch_of, opened, settle, settle_at, refuse, IsMachineStep}
-use Rattle.batch_book.specs.History.{Account, IsGrown, IsReplay, entry}
+use Rattle.batch_book.specs.History.{BookView, IsGrown, IsReplay, entry}
 use Rattle.batch.specs.Text.{IsNumber, number, space}
 use Rattle.batch_book.specs.Told.{PlanlessCall}
 use Rattle.batch_book.specs.Told.{told}
@@ -32,15 +32,15 @@ use Rattle.record_replay.specs.Replays.{AreFewer, IsPlanFor, HasOwnPlanIn, GoesO
 
 -- ---- a plan of its own batch is no stranger's
 
-settle_at_no_stranger : (m : Machine) (id : ℕ) (plan : Plan) (s : Stage) → (settle_at m id plan s).0 ≡ Refused Stranger → ⊥
+settle_at_no_stranger : (m : Machine) (id : ℕ) (plan : Plan) (s : BatchStage) → (settle_at m id plan s).0 ≡ Refused Stranger → ⊥
 settle_at_no_stranger m id plan stage.Waiting e = absurd cc
 settle_at_no_stranger m id plan s e = absurd cc
 
-settle_if_no_stranger : (m : Machine) (id : ℕ) (plan : Plan) (h : KeptBatch) (b : Bool) → same_transfers h.batch plan.batch ≡ b → plan.batch ≡ h.batch → (if b then settle_at m id plan h.stage else refuse m Stranger).0 ≡ Refused Stranger → ⊥
+settle_if_no_stranger : (m : Machine) (id : ℕ) (plan : Plan) (h : StoredBatch) (b : Bool) → same_transfers h.batch plan.batch ≡ b → plan.batch ≡ h.batch → (if b then settle_at m id plan h.stage else refuse m Stranger).0 ≡ Refused Stranger → ⊥
 settle_if_no_stranger m id plan h true same own e = settle_at_no_stranger m id plan h.stage e
 settle_if_no_stranger m id plan h false same own e = false≢true (sym same ∙ (same_transfers-Decides h.batch plan.batch).1 (sym own))
 
-settle_no_stranger : (m : Machine) (id : ℕ) (plan : Plan) (o : Option KeptBatch) → IsPlanFor plan o → (settle m id plan o).0 ≡ Refused Stranger → ⊥
+settle_no_stranger : (m : Machine) (id : ℕ) (plan : Plan) (o : Option StoredBatch) → IsPlanFor plan o → (settle m id plan o).0 ≡ Refused Stranger → ⊥
 settle_no_stranger m id plan None own e = absurd cc
 settle_no_stranger m id plan (Some h) own e = settle_if_no_stranger m id plan h (same_transfers h.batch plan.batch) refl own e
 
@@ -51,7 +51,7 @@ no_stranger m session c n own answers step = answers
 -- ---- what was made again
 
 -- the lines are those of the entry that comes
-pub came_as : (limit : ℕ) (old new : Account) (body replied : List ℕ) (session : ℕ) (tc : PlanlessCall) (c : Call) (r : Reply) → told c ≡ tc → IsNumber session → session < limit → CanSay tc → CanBeReplied r → IsGrown old session c r new
+pub came_as : (limit : ℕ) (old new : BookView) (body replied : List ℕ) (session : ℕ) (tc : PlanlessCall) (c : Call) (r : Reply) → told c ≡ tc → IsNumber session → session < limit → CanSay tc → CanBeReplied r → IsGrown old session c r new
     → body ≡ number session space ++ (call_text tc ++ replied) → replied ≡ reply_text (id_of tc) r → GoesOnBy limit old new body
 came_as limit old new body replied session tc c r is fits below can may grown asks answers = record {
   entry = entry session c r;
@@ -65,14 +65,14 @@ came_as limit old new body replied session tc c r is fits below can may grown as
 
 -- ---- how far a record was made again
 
-pub record Going (limit : ℕ) (text : List ℕ) (opening : Store) (k : ℕ) (book : Account) (rest : List ℕ) : Type 0 where
+pub record Going (limit : ℕ) (text : List ℕ) (opening : Store) (k : ℕ) (book : BookView) (rest : List ℕ) : Type 0 where
   pub opened_so : book.opening ≡ opening
   pub counted : length book.history ≡ k
   pub each : All CanTell book.history
   pub sessions : All (λ e. e.session < limit) book.history
   pub front : text ≡ texts 0 book.history ++ rest
 
-pub going_on : (limit : ℕ) (text : List ℕ) (opening : Store) (k : ℕ) (old new : Account) (rest body after : List ℕ) → Going limit text opening k old rest → IsSummed k rest body after → GoesOnBy limit old new body → new.opening ≡ old.opening → Going limit text opening (k + 1) new after
+pub going_on : (limit : ℕ) (text : List ℕ) (opening : Store) (k : ℕ) (old new : BookView) (rest body after : List ℕ) → Going limit text opening k old rest → IsSummed k rest body after → GoesOnBy limit old new body → new.opening ≡ old.opening → Going limit text opening (k + 1) new after
 going_on limit text opening k old new rest body after had summed_so by is =
     let e = by.entry in
     let f = by.grown.history in
@@ -115,7 +115,7 @@ wrong_within limit n m last f rest due (other_reply body more replied line s o s
 wrong_within limit n m last f rest due (more_after is some so none) = (last_lines n, is)
 
 -- what is wrong after what was made again so far, as an error says it
-pub said_wrong : (limit : ℕ) (text : List ℕ) (opening : Store) (first : Option ℕ) (k wanted most : ℕ) (book : Account) (last rest : List ℕ) (due : Option (List ℕ)) (error : RecordError) → Going limit text opening k book last → IsReplay (opened book.opening) book.history book.machine
+pub said_wrong : (limit : ℕ) (text : List ℕ) (opening : Store) (first : Option ℕ) (k wanted most : ℕ) (book : BookView) (last rest : List ℕ) (due : Option (List ℕ)) (error : RecordError) → Going limit text opening k book last → IsReplay (opened book.opening) book.history book.machine
     → wanted ≡ unwrap_or first most → k < wanted → IsWrongAt limit k book.machine last error.fault rest due → error.offset ≡ length text - length rest → option_map (λ line. line.items) error.due ≡ due → IsRecordError limit text opening first error
 said_wrong limit text opening first k wanted most book last rest due error had led is less wrong at says =
     let within = wrong_within limit k book.machine last error.fault rest due wrong in

@@ -8,9 +8,9 @@ use Rattle.module_memory.specs.Address.{fault_of}
 use Rattle.module_memory.specs.declared.fault.MemoryFault.{MemoryFault}
 use Rattle.schedule_certificate.specs.Plans.{Plan}
 use Rattle.batch_book.specs.declared.limits.TheConstants.{MAX_BATCHES}
-use Rattle.batch_book.specs.declared.kept.KeptBatch.{KeptBatch}
-use Rattle.batch_book.specs.declared.kept.Stage.{Stage}
-use Rattle.batch_book.specs.declared.kept.Stage.TheVariants as stage
+use Rattle.batch_book.specs.declared.stored_batch.StoredBatch.{StoredBatch}
+use Rattle.batch_book.specs.declared.stored_batch.BatchStage.{BatchStage}
+use Rattle.batch_book.specs.declared.stored_batch.BatchStage.TheVariants as stage
 use Rattle.batch_book.specs.declared.call.Call.{Call}
 use Rattle.batch_book.specs.declared.call.Call.TheVariants.{Submit, Fetch, Settle, Run, Show, Discard, Peek, Poke}
 use Rattle.batch_book.specs.declared.entry.Entry.{Entry}
@@ -36,11 +36,11 @@ still : (m n : Machine) (last : Option (ℕ × List Transfer)) → Keeps m n →
 still m n None keeps holds = tt
 still m n (Some batch) keeps holds = keeps.1 batch.0 batch.1 holds
 
-owned_if : (h g : KeptBatch) (b : Bool) → (if b then Some h else None) ≡ Some g → Some h ≡ Some g
+owned_if : (h g : StoredBatch) (b : Bool) → (if b then Some h else None) ≡ Some g → Some h ≡ Some g
 owned_if h g true is = is
 owned_if h g false is = absurd cc
 
-owned_found : (session : ℕ) (o : Option KeptBatch) (g : KeptBatch) → owned session o ≡ Some g → o ≡ Some g
+owned_found : (session : ℕ) (o : Option StoredBatch) (g : StoredBatch) → owned session o ≡ Some g → o ≡ Some g
 owned_found session None g is = absurd cc
 owned_found session (Some h) g is = owned_if h g (h.owner == session) is
 
@@ -48,7 +48,7 @@ abbrev batch_in_reply : Reply → List Transfer
 batch_in_reply (reply.Fetched batch) = batch
 batch_in_reply r = []
 
-fetched_from : (m n : Machine) (session id : ℕ) (batch : List Transfer) (o : Option KeptBatch) → batch_of m session id ≡ o → AreNumbered m → reply.Fetched batch ≡ (fetch m o).0 → Holds m id batch
+fetched_from : (m n : Machine) (session id : ℕ) (batch : List Transfer) (o : Option StoredBatch) → batch_of m session id ≡ o → AreNumbered m → reply.Fetched batch ≡ (fetch m o).0 → Holds m id batch
 fetched_from m n session id batch None at numbered is = absurd cc
 fetched_from m n session id batch (Some h) at numbered is =
     subst (Holds m id) (sym (ap batch_in_reply is)) (holds_found m id h numbered (owned_found session (lookup (nat_eq id) m.batches) h at))
@@ -64,15 +64,15 @@ submit_no : (m : Machine) (session : ℕ) (batch : List Transfer) (b : Bool) →
 submit_no m session batch true is = absurd cc
 submit_no m session batch false is = absurd cc
 
-fetch_no : (m : Machine) (o : Option KeptBatch) → reply.Refused Stranger ≡ (fetch m o).0 → ⊥
+fetch_no : (m : Machine) (o : Option StoredBatch) → reply.Refused Stranger ≡ (fetch m o).0 → ⊥
 fetch_no m None is = absurd cc
 fetch_no m (Some h) is = absurd cc
 
-show_no : (m : Machine) (o : Option KeptBatch) → reply.Refused Stranger ≡ (show m o).0 → ⊥
+show_no : (m : Machine) (o : Option StoredBatch) → reply.Refused Stranger ≡ (show m o).0 → ⊥
 show_no m None is = absurd cc
 show_no m (Some h) is = absurd cc
 
-discard_no : (m : Machine) (id : ℕ) (o : Option KeptBatch) → reply.Refused Stranger ≡ (discard m id o).0 → ⊥
+discard_no : (m : Machine) (id : ℕ) (o : Option StoredBatch) → reply.Refused Stranger ≡ (discard m id o).0 → ⊥
 discard_no m id None is = absurd cc
 discard_no m id (Some h) is = absurd cc
 
@@ -84,16 +84,16 @@ poke_no : (m : Machine) (mo ad w : ℕ) (f : Option MemoryFault) → reply.Refus
 poke_no m mo ad w None is = absurd cc
 poke_no m mo ad w (Some f) is = absurd cc
 
-run_at_no : (m : Machine) (id : ℕ) (s : Stage) (n : Machine) → IsRunAt m id s (reply.Refused Stranger) n → ⊥
+run_at_no : (m : Machine) (id : ℕ) (s : BatchStage) (n : Machine) → IsRunAt m id s (reply.Refused Stranger) n → ⊥
 run_at_no m id stage.Waiting n is = let never : reply.Refused Stranger ≡ reply.Refused Unplanned = is.0 in absurd cc
 run_at_no m id (stage.Planned plan) n is = is
 run_at_no m id s n is = let never : reply.Refused Stranger ≡ reply.Refused Already = is.0 in absurd cc
 
-run_no : (m : Machine) (id : ℕ) (o : Option KeptBatch) (n : Machine) → IsRunStep m id o (reply.Refused Stranger) n → ⊥
+run_no : (m : Machine) (id : ℕ) (o : Option StoredBatch) (n : Machine) → IsRunStep m id o (reply.Refused Stranger) n → ⊥
 run_no m id None n is = let never : reply.Refused Stranger ≡ reply.Refused Unknown = is.0 in absurd cc
 run_no m id (Some h) n is = run_at_no m id h.stage n is
 
-own_plan : (m : Machine) (session id : ℕ) (batch : List Transfer) (o : Option KeptBatch) → batch_of m session id ≡ o → Holds m id batch → (plan : Plan) → plan.batch ≡ batch → IsPlanFor plan o
+own_plan : (m : Machine) (session id : ℕ) (batch : List Transfer) (o : Option StoredBatch) → batch_of m session id ≡ o → Holds m id batch → (plan : Plan) → plan.batch ≡ batch → IsPlanFor plan o
 own_plan m session id batch None at holds plan same = tt
 own_plan m session id batch (Some h) at holds plan same = same ∙ sym (found (IsOnly id batch) id m.batches h holds.1 (owned_found session (lookup (nat_eq id) m.batches) h at) refl)
 

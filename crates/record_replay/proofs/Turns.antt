@@ -3,7 +3,7 @@ use Rattle.std.proofs.Common.{◌≡◌, ℕ, inl, inr, List, [], ◌∷◌, ◌
 use Rattle.std.specs.List.{AllByRecursion}
 use Rattle.std.proofs.lemmas.List.Elements.{All-from_recursion, All-weaker}
 use Rattle.batch.specs.Batches.{IsBatch}
-use Rattle.batch.specs.Extent.{Extent, IsShape, widest}
+use Rattle.batch.specs.ShapeView.{ShapeView, IsShape, widest}
 use Rattle.batch.specs.Text.{Denotes, IsWithin}
 use Rattle.batch.specs.declared.transfer.Transfer.{Transfer}
 use Rattle.batch_book.specs.declared.call.Call.{Call}
@@ -19,7 +19,7 @@ use Rattle.client_session.proofs.Lists.{every_append}
 use Rattle.client_session.specs.Commands.{Means}
 use Rattle.client_session.specs.Seats.{SeatView, logged}
 use Rattle.client_session.specs.Sessions.{IsSession, added_entries, lost_entries}
-use Rattle.client_session.specs.Turns.{Answer, LostTurn, Turn, IsBegun, IsLostTurn, IsTurn, DoesCommand, Submits, Settles, Plans, TellsReply}
+use Rattle.client_session.specs.Turns.{Answer, LostTurn, Turn, MayHaveAdded, IsLostTurn, IsTurn, DoesCommand, Submits, Settles, Plans, TellsReply}
 use Rattle.client_session.specs.declared.command.SessionCommand.{SessionCommand}
 use Rattle.client_session.specs.declared.command.SessionCommand.TheVariants.{Batch, Plan as PlanOf, Run, Show, Drop, Peek, Poke, Progress}
 use Rattle.client_session.specs.declared.fault.ServeFault.TheVariants.{Record, Write}
@@ -72,16 +72,16 @@ told_said by id c a say none tells = subst (λ (x : Answer). Said x.entries) (sy
 
 -- ---- a batch
 
-within : (shape : Extent) → IsShape shape → (t : Transfer) → IsWithin shape t → IsWithin widest t
+within : (shape : ShapeView) → IsShape shape → (t : Transfer) → IsWithin shape t → IsWithin widest t
 within shape is t has =
     let modules = is.few_modules in
     let blocks = is.few_blocks in
     ((omega (arith, has.0.0, modules), omega (arith, has.0.1, modules)), (omega (arith, has.1.0, blocks), omega (arith, has.1.1, blocks)))
 
-batch_said : (shape : Extent) (text : List ℕ) (batch : List Transfer) → IsShape shape → Denotes shape text batch → IsBatch batch
+batch_said : (shape : ShapeView) (text : List ℕ) (batch : List Transfer) → IsShape shape → Denotes shape text batch → IsBatch batch
 batch_said shape text batch is denotes = record { few = denotes.few; within = All-weaker (IsWithin shape) (IsWithin widest) (within shape is) batch denotes.within }
 
-submitted : (shape : Extent) (by : ℕ) (text : List ℕ) (a : Answer) → IsShape shape → Submits shape by text a → Said a.entries
+submitted : (shape : ShapeView) (by : ℕ) (text : List ℕ) (a : Answer) → IsShape shape → Submits shape by text a → Said a.entries
 submitted shape by text a is (inl done) = told_said by 0 (call.Submit done.0) a (batch_said shape text done.0 is done.1) tt done.2
 submitted shape by text a is (inr (inl wrong)) = subst (λ (x : Answer). Said x.entries) (sym wrong.3) nothing
 submitted shape by text a is (inr (inr none)) = subst (λ (x : Answer). Said x.entries) (sym none.1) nothing
@@ -107,7 +107,7 @@ planned by id a say (inr fetched) = settles by id fetched.0 a say fetched.1
 none_said : (a b : Answer) → a ≡ b → b.entries ≡ [] → Said a.entries
 none_said a b is none = subst Said (sym (ap (λ (x : Answer). x.entries) is ∙ none)) nothing
 
-command_said : (shape : Extent) (by : ℕ) (head : List ℕ) (command : Option SessionCommand) (text : List ℕ) (a : Answer) → IsShape shape → Means head command → DoesCommand shape by command text a → Said a.entries
+command_said : (shape : ShapeView) (by : ℕ) (head : List ℕ) (command : Option SessionCommand) (text : List ℕ) (a : Answer) → IsShape shape → Means head command → DoesCommand shape by command text a → Said a.entries
 command_said shape by head (Some (Batch count)) text a is means (inl many) = none_said a _ many.1 refl
 command_said shape by head (Some (Batch count)) text a is means (inr does) = submitted shape by text a is does.1
 command_said shape by head (Some (PlanOf id)) text a is means does = planned by id a means.0 does
@@ -119,13 +119,13 @@ command_said shape by head (Some (Poke mo ad w)) text a is means does = told_sai
 command_said shape by head (Some Progress) text a is means does = none_said a _ does.2 refl
 command_said shape by head command text a is means does = none_said a _ does refl
 
-turns_said : (shape : Extent) (by : ℕ) (turns : List Turn) → IsShape shape → AllByRecursion (IsTurn shape by) turns → Said (added_entries turns)
+turns_said : (shape : ShapeView) (by : ℕ) (turns : List Turn) → IsShape shape → AllByRecursion (IsTurn shape by) turns → Said (added_entries turns)
 turns_said shape by [] is each = nothing
 turns_said shape by (t ∷ turns) is each =
     said_append t.did.entries (added_entries turns) (command_said shape by t.head t.command _ t.did is each.0.means each.0.does) (turns_said shape by turns is each.1)
 
 -- what a command may have added before a call of it couldn't be recorded
-begun_said : (by : ℕ) (head : List ℕ) (command : Option SessionCommand) (es : List Entry) → Means head command → IsBegun by command es → Said es
+begun_said : (by : ℕ) (head : List ℕ) (command : Option SessionCommand) (es : List Entry) → Means head command → MayHaveAdded by command es → Said es
 begun_said by head (Some (PlanOf id)) es means (inl none) = subst Said (sym none) nothing
 begun_said by head (Some (PlanOf id)) es means (inr fetched) = subst Said (sym fetched.1) ((means.0, tt), (λ last. (settles_none last (call.Fetch id) tt, tt)))
 begun_said by head command es means is = subst Said (sym is) nothing

@@ -21,20 +21,20 @@ pub stream_is_recorded : StreamIsRecorded
 stream_is_recorded names was left text same w =
     let so_far = record_of names was.opening was.history in
     let all = record_of names left.opening left.history in
-    let stands = record_of names left.opening left.stands in
+    let durable = record_of names left.opening left.durable in
     let last = last_lines (length left.history) in
-    let has : text ≡ stands ++ w.front =
+    let has : text ≡ durable ++ w.front =
     w.appended ∙ sym (append_assoc so_far (texts (length was.history) w.added) w.front)
-    ∙ ap (λ (l : List ℕ). l ++ w.front) (sym (record_append names was.opening was.history w.added) ∙ ap (record_of names was.opening) (sym w.stand) ∙ ap (λ (o : Store). record_of names o left.stands) (sym same)) in
+    ∙ ap (λ (l : List ℕ). l ++ w.front) (sym (record_append names was.opening was.history w.added) ∙ ap (record_of names was.opening) (sym w.stand) ∙ ap (λ (o : Store). record_of names o left.durable) (sym same)) in
     let cut : all ≡ text ++ w.missing =
-    ap (record_of names left.opening) w.are ∙ record_append names left.opening left.stands w.waiting ∙ ap (λ (l : List ℕ). stands ++ l) w.cut ∙ sym (append_assoc stands w.front w.missing) ∙ ap (λ (l : List ℕ). l ++ w.missing) (sym has) in (
+    ap (record_of names left.opening) w.are ∙ record_append names left.opening left.durable w.waiting ∙ ap (λ (l : List ℕ). durable ++ l) w.cut ∙ sym (append_assoc durable w.front w.missing) ∙ ap (λ (l : List ℕ). l ++ w.missing) (sym has) in (
       record { rest = w.front; has = has; missing = w.missing ++ last; cut = ap (λ (l : List ℕ). l ++ last) cut ∙ append_assoc text w.missing last },
-      λ stand end missing is. let none : w.waiting ≡ [] = nil_from_length w.waiting (omega (arith, ap length w.are, ap length stand, length-append left.stands w.waiting)) in
-          let gone : w.front ++ w.missing ≡ [] = sym w.cut ∙ ap (texts (length left.stands)) none in
+      λ stand end missing is. let none : w.waiting ≡ [] = nil_from_length w.waiting (omega (arith, ap length w.are, ap length stand, length-append left.durable w.waiting)) in
+          let gone : w.front ++ w.missing ≡ [] = sym w.cut ∙ ap (texts (length left.durable)) none in
           let nothing : w.missing ≡ [] = nil_from_length w.missing (omega (arith, ap length gone, length-append w.front w.missing)) in
           record {
             rest = w.front ++ end;
-            has = ap (λ (l : List ℕ). l ++ end) has ∙ append_assoc stands w.front end;
+            has = ap (λ (l : List ℕ). l ++ end) has ∙ append_assoc durable w.front end;
             missing = missing;
             cut = ap (λ (l : List ℕ). l ++ last) (cut ∙ ap (λ (l : List ℕ). text ++ l) nothing ∙ append-nil text) ∙ ap (λ (l : List ℕ). text ++ l) is ∙ sym (append_assoc text end missing);
           },

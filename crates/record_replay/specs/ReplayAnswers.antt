@@ -1,6 +1,6 @@
 -- What `replay` answers.
 use Rattle.std.specs.Prelude.{◌≡◌, ◌⊎◌, ℕ, ◌+◌, ◌-◌, List, ◌++◌, length, Option, Some, None, option_map}
-use Rattle.batch.specs.Extent.{Extent, IsShape}
+use Rattle.batch.specs.ShapeView.{ShapeView, IsShape}
 use Rattle.batch.specs.ShapeText.{shape_text}
 use Rattle.line_words.specs.HexWords.{IsWord}
 use Rattle.module_memory.specs.Images.{image_of}
@@ -26,7 +26,7 @@ use Rattle.record_replay.specs.declared.answering.Torn.{Torn}
 
 -- the record begins with the head of some rack, which has this shape
 pub record HasHead (recorded : List ℕ) : Type 0 where
-  pub shape : Extent
+  pub shape : ShapeView
   pub sum : ℕ
   pub names : List (List ℕ)
   pub body : List ℕ

@@ -7,9 +7,9 @@ use Rattle.schedule_certificate.specs.Plans.{Plan}
 use Rattle.batch_book.specs.declared.call.Call.{Call}
 use Rattle.batch_book.specs.declared.call.Call.TheVariants.{Settle}
 use Rattle.batch_book.specs.declared.entry.Entry.{Entry}
-use Rattle.batch_book.specs.declared.kept.KeptBatch.{KeptBatch}
+use Rattle.batch_book.specs.declared.stored_batch.StoredBatch.{StoredBatch}
 use Rattle.batch_book.specs.declared.reply.Reply.{Reply}
-use Rattle.batch_book.specs.History.{Account, IsGrown, IsReplay}
+use Rattle.batch_book.specs.History.{BookView, IsGrown, IsReplay}
 use Rattle.batch_book.specs.Machine.{Machine, batch_of, opened, IsMachineStep}
 use Rattle.batch_book.specs.Told.{told}
 use Rattle.book_record.specs.RecordText.{id_of, call_text, reply_text, entry_lines, texts, CanSay, CanBeReplied, CanTell}
@@ -27,7 +27,7 @@ use Rattle.record_replay.specs.declared.fault.RecordFault.TheVariants.{Call as N
 -- ---- one entry
 
 -- a plan of what is held, if anything is
-abbrev pub IsPlanFor : Plan → Option KeptBatch → Type 0
+abbrev pub IsPlanFor : Plan → Option StoredBatch → Type 0
 IsPlanFor plan None = Unit {0}
 IsPlanFor plan (Some h) = plan.batch ≡ h.batch
 
@@ -37,7 +37,7 @@ HasOwnPlanIn m session (Settle id plan) = IsPlanFor plan (batch_of m session id)
 HasOwnPlanIn m session call = Unit {0}
 
 -- the text is that of an entry that a record can hold, of a session below this, and the book has it
-pub record GoesOnBy (limit : ℕ) (old new : Account) (body : List ℕ) : Type 0 where
+pub record GoesOnBy (limit : ℕ) (old new : BookView) (body : List ℕ) : Type 0 where
   pub entry : Entry
   pub can : CanTell entry
   pub below : entry.session < limit

@@ -2,7 +2,7 @@
 use Rattle.std.specs.Prelude.{◌≡◌, ◌≢◌, ℕ, ◌^◌, ◌<◌, ◌≤◌, List, length, sum_by, All, Option, None}
 use Rattle.std.specs.List.{range_with_len}
 use Rattle.module_memory.specs.Store.{Store}
-use Rattle.batch.specs.Extent.{IsShape}
+use Rattle.batch.specs.ShapeView.{IsShape}
 use Rattle.batch.specs.declared.limits.TheConstants.{MAX_DIGITS}
 use Rattle.batch_book.specs.declared.entry.Entry.{Entry}
 use Rattle.batch_book.specs.declared.refusal.BookRefusal.TheVariants.{Stranger}

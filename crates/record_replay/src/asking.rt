@@ -9,7 +9,7 @@ ghost use Rattle.book_record.specs.RecordText.{CanBeReplied};
 ghost use Rattle.record_replay.specs.Replays.{IsPlanFor, HasOwnPlanIn};
 
 use batch::Batch;
-use batch_book::{Book, BookRefusal, Call, RecordedCall, Reply, Silent};
+use batch_book::{Book, BookRefusal, Call, RecordedCall, Reply, NullHistory};
 use crossbar::MemoryPort;
 use exchange_limits::WorkerCount;
 use peek_poke::PlainWires;
@@ -23,9 +23,9 @@ pub(crate) type PlainPlant = Plant<MemoryPort, PlainWires, OpenGate>;
 
 /// Nobody hears how far a run has come.
 #[derive(Drop)]
-struct Unheard;
+struct NoNotice;
 
-impl Notice for Unheard {
+impl Notice for NoNotice {
     ghost hears = { λ _ _ _. Unit {0} };
 
     fn done(&mut self, _settings: usize) {}
@@ -35,7 +35,7 @@ impl Notice for Unheard {
 fn plan_for<R: Threads + Sync>(
     rt: &R,
     alloc: Global,
-    book: &Book<Silent>,
+    book: &Book<NullHistory>,
     session: usize,
     id: usize,
     workers: WorkerCount,
@@ -54,7 +54,7 @@ fn plan_for<R: Threads + Sync>(
 pub(crate) fn call_of<R: Threads + Sync>(
     rt: &R,
     alloc: Global,
-    book: &Book<Silent>,
+    book: &Book<NullHistory>,
     session: usize,
     call: RecordedCall<Batch>,
     workers: WorkerCount,
@@ -81,7 +81,7 @@ pub(crate) fn call_of<R: Threads + Sync>(
 /// without a number for another batch or run, which is the same error.
 pub(crate) fn ask<R: Threads + Sync>(
     rt: &R,
-    book: &mut Book<Silent>,
+    book: &mut Book<NullHistory>,
     plant: &mut PlainPlant,
     session: usize,
     call: Call,
@@ -95,7 +95,7 @@ pub(crate) fn ask<R: Threads + Sync>(
     // These are called only for their contracts: the machine is sound.
     book.log();
     let _shape = book.rack().shape();
-    let reply = book.apply(rt, session, call, plant, &mut Unheard);
+    let reply = book.apply(rt, session, call, plant, &mut NoNotice);
     match reply {
         Reply::Refused(BookRefusal::NoMemory) => Err(AllocError),
         Reply::Refused(BookRefusal::HistoryFull) => Err(AllocError),

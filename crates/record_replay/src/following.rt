@@ -6,7 +6,7 @@ ghost use Rattle.record_replay.specs.Replays.{GoesOnBy, IsEntryFault};
 
 use crate::asking::{PlainPlant, ask, call_of};
 use crate::fault::EntryFault;
-use batch_book::{Book, Reply, Silent};
+use batch_book::{Book, Reply, NullHistory};
 use book_record::{id_of, push_reply, read_entry};
 use client_session::reply_line::ReplyLine;
 use exchange_limits::WorkerCount;
@@ -28,7 +28,7 @@ fn due_line(alloc: Global, id: usize, reply: &Reply) -> Result<Vec<u8>, AllocErr
 pub(crate) fn follow<'a, R: Threads + Sync>(
     rt: &R,
     alloc: Global,
-    book: &mut Book<Silent>,
+    book: &mut Book<NullHistory>,
     plant: &mut PlainPlant,
     body: &'a [u8],
     limit: usize,

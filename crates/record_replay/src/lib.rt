@@ -11,7 +11,7 @@
 //! The record that `serve`, `host` or `talk` leaves is answered by the words to which its calls
 //! led, and it has each call whose reply a session got (`laws::record_is_answered`).
 //!
-//! Whoever has a record's bytes may call [`answer_replay`], as `exchange` does. `kept_sessions`
+//! Whoever has a record's bytes may call [`answer_replay`], as `exchange` does. `recorded_sessions`
 //! calls [`replay`], to go on with a record.
 #![tactic(auto)]
 
@@ -24,4 +24,4 @@ mod replaying;
 
 pub use answering::{Replayed, Torn, answer_replay, refusal_of};
 pub use fault::{RecordError, RecordFault};
-pub use replaying::{Remade, replay};
+pub use replaying::{ReplayedEntries, replay};

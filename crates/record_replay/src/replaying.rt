@@ -7,8 +7,8 @@ ghost use Rattle.record_replay.specs.Replays.{IsNext, IsRecordError, IsRemade, I
 use crate::asking::PlainPlant;
 use crate::fault::{EntryFault, RecordError, RecordFault};
 use crate::following::follow;
-use batch_book::{Book, Silent};
-use book_record::{Front, is_end, read_front};
+use batch_book::{Book, NullHistory};
+use book_record::{RecordPrefix, is_end, read_prefix};
 use crossbar::MemoryPort;
 use exchange_limits::WorkerCount;
 use module_memory::Rack;
@@ -20,9 +20,9 @@ use std::thread::Threads;
 
 /// Entries that were made again.
 #[derive(Drop)]
-pub struct Remade<'a> {
+pub struct ReplayedEntries<'a> {
     /// The book that has them.
-    pub book: Book<Silent>,
+    pub book: Book<NullHistory>,
     /// The number of these.
     pub entries: usize,
     /// What follows them.
@@ -64,10 +64,10 @@ fn next_of(rest: &[u8], entries: usize) -> Result<Next<'_>, (RecordFault, &[u8])
     ensures wrong { IfErr result (λ wrong. (limit : ℕ) → (m : Machine)
         → IsWrongAt limit entries m rest.now wrong.0 wrong.1.now None) }
 {
-    match read_front(rest, entries as u64) {
-        Front::Torn => Ok(Next::End),
-        Front::Damaged => Err((RecordFault::Sum(entries), rest)),
-        Front::Whole(body, more) => {
+    match read_prefix(rest, entries as u64) {
+        RecordPrefix::Torn => Ok(Next::End),
+        RecordPrefix::Damaged => Err((RecordFault::Sum(entries), rest)),
+        RecordPrefix::Whole(body, more) => {
             if !is_end(body, entries as u64) {
                 return Ok(Next::Entry(body, more));
             }
@@ -96,7 +96,7 @@ pub fn replay<'a, R: Threads + Sync>(
     limit: usize,
     first: Option<usize>,
     workers: WorkerCount,
-) -> Result<Remade<'a>, RecordError>
+) -> Result<ReplayedEntries<'a>, RecordError>
     ensures remade { IfOk result (λ remade. IsRemade limit text.entry.now rack first
         remade.book.history remade.book.machine remade.rest.now) }
     ensures opening { IfOk result (λ remade. remade.book.opening ≡ rack) }
@@ -110,7 +110,7 @@ pub fn replay<'a, R: Threads + Sync>(
         gate: OpenGate,
         workers,
     };
-    let Ok(mut book) = Book::with(alloc, rack, Silent::new()) else {
+    let Ok(mut book) = Book::with(alloc, rack, NullHistory::new()) else {
         return Err(RecordError::from(AllocError));
     };
     let mut rest = text;
@@ -121,7 +121,7 @@ pub fn replay<'a, R: Threads + Sync>(
             Ok(Next::Entry(body, more)) => (body, more),
             Err((fault, there)) => return Err(wrong_at(fault, text, there)),
             Ok(Next::End) => {
-                return Ok(Remade {
+                return Ok(ReplayedEntries {
                     book,
                     entries,
                     rest,
@@ -146,7 +146,7 @@ pub fn replay<'a, R: Threads + Sync>(
     let Some(entries) = first else {
         return Err(RecordError::from(AllocError));
     };
-    Ok(Remade {
+    Ok(ReplayedEntries {
         book,
         entries,
         rest,

@@ -1,9 +1,9 @@
 //! The first thing by which a line differs from what is wanted there.
 
-use crate::forms::{Due, last_stop};
+use crate::forms::{Token, last_stop};
 use crate::lines::{first_from, line_at, number_at};
 use crate::listed::Listing;
-use crate::wanted::Wanted;
+use crate::expected::Expected;
 use batch::MAX_DIGITS;
 use c004_commands::PORTS;
 use crossbar::JOINED_MODULES;
@@ -22,7 +22,7 @@ pub(crate) enum Difference {
     Moves,
     /// At this byte, counted from 1, it stops being of the form: what has to stand there, and what
     /// does.
-    Stops(usize, Due, Due),
+    Stops(usize, Token, Token),
     /// It is that of a module of this number, which no board has.
     NoModule(usize),
     /// It is that of a module of this number, which isn't above that of the line before, the second.
@@ -64,17 +64,17 @@ fn taken_by(wiring: &[u8], number: usize) -> Option<Difference> {
 impl Difference {
     /// The first by which the line of this number differs from what is wanted there: none where it
     /// has the form, or none is told of.
-    pub(crate) fn of(text: &[u8], number: usize, wanted: Wanted<'_>) -> Option<Difference> {
+    pub(crate) fn of(text: &[u8], number: usize, wanted: Expected<'_>) -> Option<Difference> {
         let line = line_at(text, number);
         match (last_stop(line, wanted.forms()), wanted) {
-            (Some(_), Wanted::Head(Listing::Transfers)) if line.starts_with(b"moves ") => {
+            (Some(_), Expected::Head(Listing::Transfers)) if line.starts_with(b"moves ") => {
                 Some(Difference::Moves)
             }
             (Some((due, rest)), _) => {
                 let before = line.len().saturating_sub(rest.len());
-                Some(Difference::Stops(before.saturating_add(1), due, Due::first_of(rest)))
+                Some(Difference::Stops(before.saturating_add(1), due, Token::first_of(rest)))
             }
-            (None, Wanted::Entry(Listing::Modules)) => Difference::of_module(text, number),
+            (None, Expected::Entry(Listing::Modules)) => Difference::of_module(text, number),
             (None, _) => None,
         }
     }
@@ -103,7 +103,7 @@ impl Display for Difference {
         match *self {
             Difference::Moves =>
                 f.write_str("a text of moves begins like this; \"direct\" makes a batch of it"),
-            Difference::Stops(1, _, Due::End) => f.write_str("the line is empty"),
+            Difference::Stops(1, _, Token::End) => f.write_str("the line is empty"),
             Difference::Stops(at, due, is) => write_stop(f, at, due, is),
             Difference::NoModule(module) => write!(f, "module {module} is above 15"),
             Difference::Falls(module, last) =>
@@ -117,13 +117,13 @@ impl Display for Difference {
 
 /// Writes what stands at this byte of a line, where something else has to.
 #[rattlefmt::skip]
-fn write_stop<W: Write>(f: &mut Formatter<W>, at: usize, due: Due, is: Due) -> fmt::Result {
+fn write_stop<W: Write>(f: &mut Formatter<W>, at: usize, due: Token, is: Token) -> fmt::Result {
     write!(f, "at byte {at} ")?;
     f.write_str(match (due, is) {
-        (Due::Number, Due::Byte(b'0')) => "a number has a leading zero",
-        (Due::Number, Due::Byte(b'1'..=b'9')) => "a number has more than nine digits",
-        (_, Due::Return) => "there is a carriage return before the end of the line",
-        (Due::Hex8, Due::Byte(_) | Due::Mark) => "eight digits 0 to 9 or a to f are expected",
+        (Token::Number, Token::Byte(b'0')) => "a number has a leading zero",
+        (Token::Number, Token::Byte(b'1'..=b'9')) => "a number has more than nine digits",
+        (_, Token::Return) => "there is a carriage return before the end of the line",
+        (Token::Hex8, Token::Byte(_) | Token::Mark) => "eight digits 0 to 9 or a to f are expected",
         _ => return write!(f, "there is {is} instead of {due}"),
     })
 }

@@ -11,7 +11,7 @@ use std::fmt::{self, Display, Formatter, Write};
 
 /// What has to stand at a byte of a line, or stands there.
 #[derive(Clone, Copy)]
-pub(crate) enum Due {
+pub(crate) enum Token {
     /// This byte.
     Byte(u8),
     /// A number.
@@ -26,72 +26,72 @@ pub(crate) enum Due {
     End,
 }
 
-impl Due {
+impl Token {
     /// What these bytes begin with.
-    pub(crate) fn first_of(bytes: &[u8]) -> Due {
+    pub(crate) fn first_of(bytes: &[u8]) -> Token {
         match bytes {
-            [] => Due::End,
-            [b'\r'] => Due::Return,
-            [0xef, 0xbb, 0xbf, ..] => Due::Mark,
-            [byte, ..] => Due::Byte(*byte),
+            [] => Token::End,
+            [b'\r'] => Token::Return,
+            [0xef, 0xbb, 0xbf, ..] => Token::Mark,
+            [byte, ..] => Token::Byte(*byte),
         }
     }
 }
 
-impl Display for Due {
+impl Display for Token {
     fn fmt<W: Write>(&self, f: &mut Formatter<W>) -> fmt::Result {
         f.write_str(match *self {
-            Due::Byte(b' ') => "a space",
-            Due::Byte(b'\t') => "a tab",
-            Due::Byte(b'\r') | Due::Return => "a carriage return",
-            Due::Byte(b'#') => "a comment",
-            Due::Byte(byte) => return Quote(&[byte]).fmt(f),
-            Due::Number => "a number",
-            Due::Hex8 => "eight digits",
-            Due::Mark => "a byte order mark",
-            Due::End => "the end of the line",
+            Token::Byte(b' ') => "a space",
+            Token::Byte(b'\t') => "a tab",
+            Token::Byte(b'\r') | Token::Return => "a carriage return",
+            Token::Byte(b'#') => "a comment",
+            Token::Byte(byte) => return Quote(&[byte]).fmt(f),
+            Token::Number => "a number",
+            Token::Hex8 => "eight digits",
+            Token::Mark => "a byte order mark",
+            Token::End => "the end of the line",
         })
     }
 }
 
 /// Where a line stops being of a form: what has to stand there, and what does from there on.
-pub(crate) type Stop<'a> = (Due, &'a [u8]);
+pub(crate) type FormMismatch<'a> = (Token, &'a [u8]);
 
 /// What stands after these words, where a line begins with them.
-fn after_words<'a>(line: &'a [u8], words: &[u8]) -> Result<&'a [u8], Stop<'a>> {
+fn after_words<'a>(line: &'a [u8], words: &[u8]) -> Result<&'a [u8], FormMismatch<'a>> {
     let mut rest = line;
     for byte in words {
         match rest {
             [first, after @ ..] if first == byte => rest = after,
-            _ => return Err((Due::Byte(*byte), rest)),
+            _ => return Err((Token::Byte(*byte), rest)),
         }
     }
     Ok(rest)
 }
 
 /// What stands after a number.
-fn after_number(line: &[u8]) -> Result<&[u8], Stop<'_>> {
+fn after_number(line: &[u8]) -> Result<&[u8], FormMismatch<'_>> {
     let end = line.iter().position(|b| !b.is_ascii_digit());
     let (digits, after) = line.split_at(end.unwrap_or(line.len()));
     match number_from_digits(digits) {
         Some(_) => Ok(after),
-        None => Err((Due::Number, line)),
+        None => Err((Token::Number, line)),
     }
 }
 
 /// What stands after eight hexadecimal digits.
-fn after_hex8(line: &[u8]) -> Result<&[u8], Stop<'_>> {
+fn after_hex8(line: &[u8]) -> Result<&[u8], FormMismatch<'_>> {
     let end = line
         .iter()
         .position(|b| !b.is_ascii_digit() && !(*b >= b'a' && *b <= b'f'));
     match line.split_at(end.unwrap_or(line.len())) {
         (digits, after) if digits.len() == 8 => Ok(after),
-        _ => Err((Due::Hex8, line)),
+        _ => Err((Token::Hex8, line)),
     }
 }
 
 /// Where numbers, each of them after a space, don't fill a line, if they don't.
-fn stop_of_numbers(line: &[u8]) -> Result<(), Stop<'_>> {
+fn stop_of_numbers(line: &[u8]) -> Result<(), FormMismatch<'_>> {
     let mut rest = line;
     for _ in 0..line.len() {
         if rest.is_empty() {
@@ -103,7 +103,7 @@ fn stop_of_numbers(line: &[u8]) -> Result<(), Stop<'_>> {
 }
 
 /// What stands after a word of a form.
-fn after_word<'a>(line: &'a [u8], word: &[u8]) -> Result<&'a [u8], Stop<'a>> {
+fn after_word<'a>(line: &'a [u8], word: &[u8]) -> Result<&'a [u8], FormMismatch<'a>> {
     match (word, line) {
         (b"at_A" | b"at_B", [b'n', ..]) => after_words(line, b"none"),
         (b"at_A" | b"at_B", _) => after_number(after_words(line, b"at ")?),
@@ -114,7 +114,7 @@ fn after_word<'a>(line: &'a [u8], word: &[u8]) -> Result<&'a [u8], Stop<'a>> {
 }
 
 /// Where a line stops being of a form, if it does.
-fn stop_of<'a>(line: &'a [u8], form: &str) -> Result<(), Stop<'a>> {
+fn stop_of<'a>(line: &'a [u8], form: &str) -> Result<(), FormMismatch<'a>> {
     let mut rest = line;
     for (k, word) in form.split(' ').enumerate() {
         if word == "U" {
@@ -127,14 +127,14 @@ fn stop_of<'a>(line: &'a [u8], form: &str) -> Result<(), Stop<'a>> {
     }
     match rest {
         [] => Ok(()),
-        _ => Err((Due::End, rest)),
+        _ => Err((Token::End, rest)),
     }
 }
 
 /// Where a line stops being of that of some forms of which it is the longest; nothing where it is
 /// of one, or there is none.
-pub(crate) fn last_stop<'a>(line: &'a [u8], forms: &str) -> Option<Stop<'a>> {
-    let mut last: Option<Stop<'a>> = None;
+pub(crate) fn last_stop<'a>(line: &'a [u8], forms: &str) -> Option<FormMismatch<'a>> {
+    let mut last: Option<FormMismatch<'a>> = None;
     for form in forms.split('`').skip(1).step_by(2) {
         let stop = stop_of(line, form).err()?;
         last = match last {

@@ -23,9 +23,9 @@ mod recorded;
 mod schedules;
 mod second;
 mod sentences;
-mod told;
-mod wanted;
+mod context;
+mod expected;
 
 pub use listed::Listing;
 pub use second::{file_line, second_line, session_line};
-pub use told::{Named, Opening, Texts};
+pub use context::{NamedText, OpeningRack, RefusalContext};

@@ -3,21 +3,21 @@
 use crate::differences::Difference;
 use crate::lines::{line_at, piece};
 use crate::quote::Quote;
-use crate::told::{Named, Opening, TextLine};
-use crate::wanted::Wanted;
+use crate::context::{NamedText, OpeningRack, TextLine};
+use crate::expected::Expected;
 use std::fmt::{self, Display, Formatter, Write};
 
 /// A line that was refused.
 #[derive(Clone, Copy)]
 pub(crate) struct LineNote<'a> {
     /// Its text.
-    pub named: Named<'a>,
+    pub named: NamedText<'a>,
     /// How many lines of its file stand above the text.
     pub above: usize,
     /// The line's number in the text, counted from 1.
     pub number: usize,
     /// What is wanted there.
-    pub wanted: Wanted<'a>,
+    pub wanted: Expected<'a>,
 }
 
 impl<'a> Display for LineNote<'a> {
@@ -33,13 +33,13 @@ impl<'a> Display for LineNote<'a> {
         let between = match self.wanted {
             _ if !is_there && self.number <= 1 => "the text is empty; expected ",
             _ if !is_there => "the text ends before this line; expected ",
-            Wanted::End => return f.write_str(" comes after the last line; nothing may follow"),
-            Wanted::RecordHead => " doesn't begin a record of this rack; expected ",
-            Wanted::HeadLine(Opening::Resumed, due) => return write!(f,
+            Expected::End => return f.write_str(" comes after the last line; nothing may follow"),
+            Expected::RecordHead => " doesn't begin a record of this rack; expected ",
+            Expected::HeadLine(OpeningRack::Resumed, due) => return write!(f,
                 "; this command's record has {due} there: --resume takes the record's shape, words and clients, in its order"),
-            Wanted::HeadLine(Opening::Zeros, due) => return write!(f,
+            Expected::HeadLine(OpeningRack::Zeros, due) => return write!(f,
                 "; this command's rack, whose words are 0, has {due} there: --image takes the record's words, and --shape its shape"),
-            Wanted::HeadLine(Opening::Image, due) => return write!(f,
+            Expected::HeadLine(OpeningRack::Image, due) => return write!(f,
                 "; this command's rack, with the words of --image, has {due} there: --image takes the record's words, and --shape its shape"),
             wanted => match Difference::of(self.named.text, self.number, wanted) {
                 Some(difference) => {

@@ -3,15 +3,15 @@
 use crate::line_note::LineNote;
 use crate::lines::{line_after, line_at, number_at, piece};
 use crate::quote::Quote;
-use crate::told::{Note, Texts};
-use crate::wanted::Wanted;
+use crate::context::{Note, RefusalContext};
+use crate::expected::Expected;
 use batch::{Batch, BatchFault, Shape, number_before};
 use exchange_limits::MAX_SESSIONS;
 use line_words::{hex8_and_rest, rest_after};
 use refusals::Refusal;
 
 /// The line in which a record is wrong, where this is wanted.
-pub(crate) fn line_wanting<'a>(texts: &Texts<'a>, wanted: Wanted<'a>) -> LineNote<'a> {
+pub(crate) fn line_wanting<'a>(texts: &RefusalContext<'a>, wanted: Expected<'a>) -> LineNote<'a> {
     let named = texts.recorded;
     LineNote {
         named,
@@ -44,21 +44,21 @@ fn is_client(text: &[u8], number: usize) -> bool {
 }
 
 /// The number of the first wrong line of a head that isn't right, and what is wanted there.
-fn wrong_in_head(text: &[u8]) -> (usize, Wanted<'static>) {
+fn wrong_in_head(text: &[u8]) -> (usize, Expected<'static>) {
     let Some(clients) = clients_in(text) else {
-        return (1, Wanted::RecordHead);
+        return (1, Expected::RecordHead);
     };
     let last = clients.saturating_add(2);
     for number in 2..last {
         if !is_client(text, number) {
-            return (number, Wanted::Client);
+            return (number, Expected::Client);
         }
     }
-    (last, Wanted::HeadSum)
+    (last, Expected::HeadSum)
 }
 
 /// The first wrong line of a record's head; where a head is due, that which differs from it.
-pub(crate) fn line_of_head<'a>(texts: &Texts<'a>) -> LineNote<'a> {
+pub(crate) fn line_of_head<'a>(texts: &RefusalContext<'a>) -> LineNote<'a> {
     let text = texts.recorded.text;
     if texts.due.is_empty() {
         let (number, wanted) = wrong_in_head(text);
@@ -68,7 +68,7 @@ pub(crate) fn line_of_head<'a>(texts: &Texts<'a>) -> LineNote<'a> {
         };
     }
     let due = Quote(line_at(texts.due, line_after(text, texts.offset)));
-    line_wanting(texts, Wanted::HeadLine(texts.opening, due))
+    line_wanting(texts, Expected::HeadLine(texts.opening, due))
 }
 
 /// What stands after so many bytes of a record and the number of one of its sessions.
@@ -95,7 +95,7 @@ pub(crate) fn note_of_call(note: Note<'_>) -> Option<Note<'_>> {
     };
     Some(Note {
         refusal,
-        texts: Texts::of(recorded.name, text, ""),
+        texts: RefusalContext::of(recorded.name, text, ""),
         above: line_after(recorded.text, offset).saturating_sub(1),
         alloc: note.alloc,
     })

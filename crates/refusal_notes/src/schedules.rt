@@ -1,7 +1,7 @@
 //! What is told of a schedule that the checker refuses.
 
 use crate::lines::{announced, entry_line};
-use crate::told::{Named, Note, Numbered, TextLine};
+use crate::context::{NamedText, Note, Numbered, TextLine};
 use batch::{Batch, BatchFault, Shape};
 use link_graph::{Certificate, CheckFault, End, Link, Schedule, check_schedule};
 use refusals::{Refusal, Validity};
@@ -10,11 +10,11 @@ use std::fmt::{self, Display, Formatter, Write};
 
 /// What is told of a schedule besides, of which this is known.
 #[derive(Clone, Copy)]
-pub(crate) struct Known<'a>(pub Named<'a>, pub Validity);
+pub(crate) struct ScheduleNote<'a>(pub NamedText<'a>, pub Validity);
 
-impl<'a> Display for Known<'a> {
+impl<'a> Display for ScheduleNote<'a> {
     fn fmt<W: Write>(&self, f: &mut Formatter<W>) -> fmt::Result {
-        let Known(plan, validity) = *self;
+        let ScheduleNote(plan, validity) = *self;
         let Validity::Valid(enough) = validity else {
             return Ok(());
         };

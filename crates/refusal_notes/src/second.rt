@@ -5,7 +5,7 @@ ghost use Rattle.refusal_notes.specs.Told.{IsWholeLine};
 
 use crate::recorded::note_of_call;
 use crate::schedules::refusal_of_settings;
-use crate::told::{Named, Note, Texts};
+use crate::context::{NamedText, Note, RefusalContext};
 use batch::Shape;
 use refusals::{Refusal, Validity};
 use std::alloc::Global;
@@ -17,7 +17,7 @@ use std::fmt::Display;
 /// There is none of want of memory, nor of a file or a port that can't be opened, of which
 /// [`file_line`] tells. There is none where there is no memory for it. Takes time that grows with
 /// the lengths of the texts.
-pub fn second_line(alloc: Global, refusal: Refusal, texts: Texts<'_>) -> Option<String>
+pub fn second_line(alloc: Global, refusal: Refusal, texts: RefusalContext<'_>) -> Option<String>
     ensures text { IfSome result (λ text. IsWholeLine (string_bytes text)) }
     ensures refusal { IfSome result (λ _. refusal ≢ Refusal.NoMemory) }
 {
@@ -51,7 +51,7 @@ pub fn session_line<'a>(
     ensures text { IfSome result (λ text. IsWholeLine (string_bytes text)) }
     ensures refusal { IfSome result (λ _. refusal ≢ Refusal.NoMemory) }
 {
-    second_line(alloc, refusal, Texts::of("", sent, shape))
+    second_line(alloc, refusal, RefusalContext::of("", sent, shape))
 }
 
 /// The line that is told on standard error of a file that can't be read, or opened, for this
@@ -65,7 +65,7 @@ pub fn file_line(alloc: Global, name: &str, reason: &str) -> Option<String>
         Ok(_) => "; where a command takes a shape, it comes before the files",
         Err(_) => "",
     };
-    let words = format!(in alloc; "{}: {reason}{hint}", Named::only(name)).ok()?;
+    let words = format!(in alloc; "{}: {reason}{hint}", NamedText::only(name)).ok()?;
     told(alloc, &words)
 }
 

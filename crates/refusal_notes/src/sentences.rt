@@ -6,9 +6,9 @@ use crate::lines::{announced, entry_line, first_from, line_at};
 use crate::listed::{Listing, is_listed, listed};
 use crate::quote::Quote;
 use crate::recorded::{line_of_head, line_wanting};
-use crate::schedules::Known;
-use crate::told::{Many, Named, Note, Numbered, TextLine};
-use crate::wanted::Wanted;
+use crate::schedules::ScheduleNote;
+use crate::context::{Many, NamedText, Note, Numbered, TextLine};
+use crate::expected::Expected;
 use batch::{MAX_BLOCKS, MAX_MODULES, MAX_TRANSFERS, MAX_WORDS};
 use module_memory::{MemoryFault, WINDOW_START, WORD_BYTES};
 use refusals::{Refusal, Validity};
@@ -89,11 +89,11 @@ impl<'a> Display for Note<'a> {
                 "is one call too many for the exchange; end the session, and start the program anew",
             Refusal::Line => return self.write_no_command(f),
             Refusal::RecordHead => return line_of_head(&self.texts).fmt(f),
-            Refusal::RecordSum(e) => return line_wanting(&self.texts, Wanted::Sum(e)).fmt(f),
-            Refusal::RecordCall(e) => return line_wanting(&self.texts, Wanted::Call(e)).fmt(f),
+            Refusal::RecordSum(e) => return line_wanting(&self.texts, Expected::Sum(e)).fmt(f),
+            Refusal::RecordCall(e) => return line_wanting(&self.texts, Expected::Call(e)).fmt(f),
             Refusal::RecordReply(e) => return line_wanting(&self.texts,
-                Wanted::Reply(e, Quote(line_at(self.texts.due, 1)))).fmt(f),
-            Refusal::RecordMore => return line_wanting(&self.texts, Wanted::End).fmt(f),
+                Expected::Reply(e, Quote(line_at(self.texts.due, 1)))).fmt(f),
+            Refusal::RecordMore => return line_wanting(&self.texts, Expected::End).fmt(f),
             Refusal::File | Refusal::Port(_) | Refusal::NoMemory => return Ok(()),
         };
         self.write_sent(f, sent)
@@ -118,17 +118,17 @@ impl<'a> Note<'a> {
     }
 
     /// What is known of the schedule.
-    fn known(&self) -> Known<'a> {
-        Known(self.texts.other, self.texts.validity)
+    fn known(&self) -> ScheduleNote<'a> {
+        ScheduleNote(self.texts.other, self.texts.validity)
     }
 
     /// A line of a text that lists these.
-    fn line(&self, named: Named<'a>, listing: Listing, number: usize) -> LineNote<'a> {
+    fn line(&self, named: NamedText<'a>, listing: Listing, number: usize) -> LineNote<'a> {
         LineNote {
             named,
             above: self.above,
             number,
-            wanted: Wanted::at(listing, named.text, number),
+            wanted: Expected::at(listing, named.text, number),
         }
     }
 
@@ -137,17 +137,17 @@ impl<'a> Note<'a> {
     fn write_listed<W: Write>(
         &self,
         f: &mut Formatter<W>,
-        named: Named<'a>,
+        named: NamedText<'a>,
         listing: Listing,
         number: usize,
     ) -> fmt::Result {
         let line = self.line(named, listing, number);
         let here = line_at(named.text, number);
         let is_counted = match (listing, line.wanted) {
-            (Listing::Settings, Wanted::Entry(_)) => {
+            (Listing::Settings, Expected::Entry(_)) => {
                 here.is_empty() || here.starts_with(b"busiest ")
             }
-            (Listing::Settings, Wanted::BusiestLink) => is_listed(listing, here),
+            (Listing::Settings, Expected::BusiestLink) => is_listed(listing, here),
             (Listing::Settings, _) => false,
             (Listing::Transfers | Listing::Moves | Listing::Modules, _) => true,
         };
@@ -226,12 +226,12 @@ impl<'a> Note<'a> {
     fn write_no_command<W: Write>(&self, f: &mut Formatter<W>) -> fmt::Result {
         self.write_sent(f, "isn't a line of a session")?;
         let line = line_at(self.texts.list.text, 1);
-        match Difference::of(self.texts.list.text, 1, Wanted::Sent) {
+        match Difference::of(self.texts.list.text, 1, Expected::Sent) {
             _ if line == b"help".as_slice() =>
                 f.write_str("; \"exchange talk --help\" lists them"),
             _ if line == b"quit".as_slice() => f.write_str("; \"bye\" ends it"),
             Some(Difference::Stops(1, ..)) | None =>
-                write!(f, ": {}; see \"exchange talk --help\"", Wanted::Sent),
+                write!(f, ": {}; see \"exchange talk --help\"", Expected::Sent),
             Some(difference) =>
                 write!(f, ": {difference}; \"exchange talk --help\" lists the lines"),
         }

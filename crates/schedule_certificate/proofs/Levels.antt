@@ -3,8 +3,8 @@ use Rattle.std.proofs.Common.{◌≡◌, ℕ, List, inl, inr, zero, suc, ◌+◌
 use Rattle.batch.specs.declared.transfer.Transfer.{Transfer}
 use Rattle.batch.specs.declared.limits.TheConstants.{MAX_MODULES}
 use Rattle.link_graph.specs.declared.limits.TheConstants.{LINKS}
-use Rattle.schedule_certificate.specs.declared.degree.Known.{Known}
-use Rattle.schedule_certificate.specs.declared.degree.Known.TheVariants.{Is, AtMost}
+use Rattle.schedule_certificate.specs.declared.degree.KnownDegree.{KnownDegree}
+use Rattle.schedule_certificate.specs.declared.degree.KnownDegree.TheVariants.{Is, AtMost}
 use Rattle.schedule_certificate.specs.Parts.{IsDegree, IsHalf}
 use Rattle.schedule_certificate.specs.Steps.{colouring_steps, at_most, UsesAtMost}
 
@@ -33,7 +33,7 @@ level l r d k own s t low few took =
     let n : nodes (suc k) ≡ 2 * nodes k + 2 ^ suc k + 1 = refl in
     omega (arith, low, few, took, n, closed k, closed (suc k), one_at (suc k), mul-suc (l + r) k, add-mul l r k)
 
-pub half_fits : (d k : ℕ) (half : Known) → IsHalf d half → d ≤ 2 ^ suc k → at_most half ≤ 2 ^ k
+pub half_fits : (d k : ℕ) (half : KnownDegree) → IsHalf d half → d ≤ 2 ^ suc k → at_most half ≤ 2 ^ k
 half_fits d k (Is h) is low = let p : 2 ^ suc k ≡ 2 ^ k * 2 = pow-suc 2 k in omega (arith, is, low)
 half_fits d k (AtMost h) is low = let p : 2 ^ suc k ≡ 2 ^ k * 2 = pow-suc 2 k in omega (arith, is, low)
 

@@ -27,8 +27,8 @@ use Rattle.alternating_path.proofs.Removed.{without-at}
 use Rattle.alternating_path.proofs.Singles.{nothing_if}
 use Rattle.alternating_path.proofs.MoreClasses.{some_of}
 use Rattle.schedule_certificate.specs.Reinsertions.{AreFew}
-use Rattle.schedule_certificate.specs.declared.degree.Known.{Known}
-use Rattle.schedule_certificate.specs.declared.degree.Known.TheVariants.{Is, AtMost}
+use Rattle.schedule_certificate.specs.declared.degree.KnownDegree.{KnownDegree}
+use Rattle.schedule_certificate.specs.declared.degree.KnownDegree.TheVariants.{Is, AtMost}
 use Rattle.schedule_certificate.specs.Parts.{IsPart, IsDegree, IsDegreeKnown, IsHalf, AreHalves, AreHalvesOfTwo, IsColouredPart, HasRoomFor}
 use Rattle.schedule_certificate.proofs.Bounds.{few_le, few_halves}
 use Rattle.schedule_certificate.proofs.Counting.{uses_counted, placed_few}
@@ -94,7 +94,7 @@ module _ (batch : List Transfer) (whole left right : List ℕ) (part : IsPart ba
   both_lengths = omega (arith, length-append left right, length_permutation whole (left ++ right) s.parts)
 
   -- the steps of the whole are its own, and those of its halves
-  pub both_steps : (d k : ℕ) (half : Known) (own s t : ℕ) → 1 < d → IsHalf d half → d ≤ 2 ^ k → own ≤ 32 * length whole + 7 * MAX_MODULES * (d + 1) + 2 * MAX_MODULES → ((j : ℕ) → at_most half ≤ 2 ^ j → t ≤ s + own + colouring_steps (length left) j + colouring_steps (length right) j) → t ≤ s + colouring_steps (length whole) k
+  pub both_steps : (d k : ℕ) (half : KnownDegree) (own s t : ℕ) → 1 < d → IsHalf d half → d ≤ 2 ^ k → own ≤ 32 * length whole + 7 * MAX_MODULES * (d + 1) + 2 * MAX_MODULES → ((j : ℕ) → at_most half ≤ 2 ^ j → t ≤ s + own + colouring_steps (length left) j + colouring_steps (length right) j) → t ≤ s + colouring_steps (length whole) k
   both_steps d zero half own s t high is low few took = absurd (omega arith)
   both_steps d (suc k) half own s t high is low few took = rw both_lengths at (level (length left) (length right) d k own s t low (omega (arith, few, both_lengths)) (took k (half_fits d k half is low)))
 
@@ -126,7 +126,7 @@ module _ (batch : List Transfer) (whole left right : List ℕ) (part : IsPart ba
     },
   )
 
-  pub known_halves : (d : ℕ) (half : Known) → IsDegree (members batch whole) d → IsHalf d half → IsDegreeKnown (members batch left) half × IsDegreeKnown (members batch right) half
+  pub known_halves : (d : ℕ) (half : KnownDegree) → IsDegree (members batch whole) d → IsHalf d half → IsDegreeKnown (members batch left) half × IsDegreeKnown (members batch right) half
   known_halves d (Is h) degree is = half_degrees d h degree is
   known_halves d (AtMost h) degree is = (λ link. rw is (s.left_uses link d degree), λ link. rw is (s.right_uses link d degree))
 

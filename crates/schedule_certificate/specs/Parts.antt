@@ -10,8 +10,8 @@ use Rattle.link_graph.specs.Marks.{members}
 use Rattle.euler_split.specs.Split.{uses_among}
 use Rattle.alternating_path.specs.Colouring.{Colouring, colour_at, HasColour, PlacesOnly}
 use Rattle.schedule_certificate.specs.Reinsertions.{AreFew}
-use Rattle.schedule_certificate.specs.declared.degree.Known.{Known}
-use Rattle.schedule_certificate.specs.declared.degree.Known.TheVariants.{Is, AtMost}
+use Rattle.schedule_certificate.specs.declared.degree.KnownDegree.{KnownDegree}
+use Rattle.schedule_certificate.specs.declared.degree.KnownDegree.TheVariants.{Is, AtMost}
 
 -- distinct numbers of transfers of the batch
 pub record IsPart (batch : List Transfer) (part : List ℕ) : Type 0 where
@@ -24,12 +24,12 @@ pub record IsDegree (transfers : List Transfer) (d : ℕ) : Type 0 where
   pub reached : (d ≡ 0) ⊎ ((link : Link) × (uses transfers link ≡ d))
 
 -- what is known of the degree holds of it
-abbrev pub IsDegreeKnown : List Transfer → Known → Type 0
+abbrev pub IsDegreeKnown : List Transfer → KnownDegree → Type 0
 IsDegreeKnown transfers (Is d) = IsDegree transfers d
 IsDegreeKnown transfers (AtMost d) = (link : Link) → uses transfers link ≤ d
 
 -- half of the degree, or half of an odd one, rounded up
-abbrev pub IsHalf : ℕ → Known → Type 0
+abbrev pub IsHalf : ℕ → KnownDegree → Type 0
 IsHalf degree (Is half) = half + half ≡ degree
 IsHalf degree (AtMost half) = half ≡ (degree + 1) / 2
 
@@ -39,7 +39,7 @@ pub record IsWidth (batch : List Transfer) (n : ℕ) : Type 0 where
   pub below : All (λ x. module_at at x < n) batch
 
 -- distinct transfers, with what is known of their degree
-abbrev pub IsPartBy : List Transfer → List ℕ → Known → Type 0
+abbrev pub IsPartBy : List Transfer → List ℕ → KnownDegree → Type 0
 IsPartBy batch part known = IsPart batch part × IsDegreeKnown (members batch part) known
 
 -- The two halves together are the whole in another order. In each a link has at most half of the

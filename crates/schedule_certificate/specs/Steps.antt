@@ -6,8 +6,8 @@ use Rattle.batch.specs.declared.transfer.Transfer.{Transfer}
 use Rattle.link_graph.specs.declared.limits.TheConstants.{LINKS}
 use Rattle.link_graph.specs.declared.link.Link.{Link}
 use Rattle.link_graph.specs.Counts.{uses}
-use Rattle.schedule_certificate.specs.declared.degree.Known.{Known}
-use Rattle.schedule_certificate.specs.declared.degree.Known.TheVariants.{Is, AtMost}
+use Rattle.schedule_certificate.specs.declared.degree.KnownDegree.{KnownDegree}
+use Rattle.schedule_certificate.specs.declared.degree.KnownDegree.TheVariants.{Is, AtMost}
 
 -- those of colouring n transfers of which at most 2 ^ k use a link: first of halving and putting in
 -- again on k levels, then of single parts, then of the tables' cells for each colour
@@ -23,6 +23,6 @@ abbrev pub UsesAtMost : List Transfer → ℕ → Type 0
 UsesAtMost batch most = (link : Link) → uses batch link ≤ most
 
 -- what is known to be the most that the degree may be
-abbrev pub at_most : Known → ℕ
+abbrev pub at_most : KnownDegree → ℕ
 at_most (Is d) = d
 at_most (AtMost d) = d

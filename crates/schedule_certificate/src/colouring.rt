@@ -5,7 +5,7 @@ ghost use Rattle.std.specs.Thread.{IsSync};
 ghost use Rattle.schedule_certificate.specs.Parts.{IsPartBy, IsWidth, IsColouredPart};
 ghost use Rattle.schedule_certificate.specs.Steps.{at_most, colouring_steps};
 
-use crate::degree::{Known, degree_of, half_of};
+use crate::degree::{KnownDegree, degree_of, half_of};
 use crate::gate::Gate;
 use crate::halving::{colour_alone, halve_part, join_halves};
 use crate::workers::Workers;
@@ -28,7 +28,7 @@ pub(crate) fn colour_part<'a, R: Threads + Sync, G: Gate>(
     graph: &'a LinkGraph,
     part: &mut [usize],
     scratch: &mut Scratch,
-    known: Known,
+    known: KnownDegree,
     width: usize,
     room: usize,
     steps: &mut Steps,
@@ -70,7 +70,7 @@ fn colour_both<'a, R: Threads + Sync, G: Gate>(
     graph: &'a LinkGraph,
     left: &[usize],
     right: &[usize],
-    known: Known,
+    known: KnownDegree,
     width: usize,
     room: usize,
     steps: &mut Steps,
@@ -130,7 +130,7 @@ pub(crate) fn colour_copy<'a, R: Threads + Sync, G: Gate>(
     alloc: Global,
     graph: &'a LinkGraph,
     part: &[usize],
-    known: Known,
+    known: KnownDegree,
     width: usize,
     room: usize,
     steps: &mut Steps,

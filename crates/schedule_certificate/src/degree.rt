@@ -12,7 +12,7 @@ use step_count::Steps;
 
 /// What is known of a part's degree before its transfers are counted.
 #[derive(Clone, Copy)]
-pub(crate) enum Known {
+pub(crate) enum KnownDegree {
     /// The degree.
     Is(usize),
     /// The degree is this or less.
@@ -90,7 +90,7 @@ fn count_degree(graph: &LinkGraph, part: &[usize], steps: &mut Steps) -> usize
 pub(crate) fn degree_of(
     graph: &LinkGraph,
     part: &[usize],
-    known: Known,
+    known: KnownDegree,
     width: usize,
     steps: &mut Steps,
 ) -> usize
@@ -101,8 +101,8 @@ pub(crate) fn degree_of(
     ensures cost { steps.new ≤ steps.old + length part.now }
 {
     match known {
-        Known::Is(degree) => degree,
-        Known::AtMost(most) => {
+        KnownDegree::Is(degree) => degree,
+        KnownDegree::AtMost(most) => {
             if part.len() > width.saturating_mul(most.saturating_sub(1)) {
                 return most;
             }
@@ -112,12 +112,12 @@ pub(crate) fn degree_of(
 }
 
 /// What is known of the degrees of two halves of a part of this degree.
-pub(crate) fn half_of(degree: usize) -> Known
+pub(crate) fn half_of(degree: usize) -> KnownDegree
     ensures { IsHalf degree result }
 {
     if degree % 2 == 0 {
-        Known::Is(degree / 2)
+        KnownDegree::Is(degree / 2)
     } else {
-        Known::AtMost(degree / 2 + 1)
+        KnownDegree::AtMost(degree / 2 + 1)
     }
 }

@@ -9,7 +9,7 @@ ghost use Rattle.euler_split.specs.Evenness.{CanBeHalved};
 ghost use Rattle.schedule_certificate.specs.Parts.{IsPart, IsDegree, IsPartBy, IsWidth, AreHalves, AreHalvesOfTwo, AreColouredHalves, IsColouredPart, HasRoomFor, PlacesClass};
 ghost use Rattle.schedule_certificate.specs.Steps.{at_most, colouring_steps};
 
-use crate::degree::{Known, degree_of, half_of};
+use crate::degree::{KnownDegree, degree_of, half_of};
 use alternating_path::{InsertFault, Table};
 use euler_split::{Scratch, split_evenly, split_in_place, times_even};
 use link_graph::LinkGraph;
@@ -117,13 +117,13 @@ fn halve_known(
 
 /// How many times the transfers of each pair of links of a part can be halved. Where all transfers
 /// are known to share one link, nobody asks, and it is none.
-fn times_of(graph: &LinkGraph, part: &[usize], known: Known, steps: &mut Steps) -> usize
+fn times_of(graph: &LinkGraph, part: &[usize], known: KnownDegree, steps: &mut Steps) -> usize
     requires { IsPartBy graph.now part.now known }
     ensures times { CanBeHalved graph.now part.now result }
     ensures cost { steps.new ≤ steps.old + length part.now }
 {
     match known {
-        Known::Is(degree) if degree == part.len() => 0,
+        KnownDegree::Is(degree) if degree == part.len() => 0,
         _ => times_even(graph, part, steps),
     }
 }
@@ -161,7 +161,7 @@ pub(crate) fn colour_alone<'a>(
     graph: &'a LinkGraph,
     part: &mut [usize],
     scratch: &mut Scratch,
-    known: Known,
+    known: KnownDegree,
     width: usize,
     room: usize,
     steps: &mut Steps,
@@ -187,7 +187,7 @@ fn colour_halves<'a>(
     graph: &'a LinkGraph,
     part: &mut [usize],
     scratch: &mut Scratch,
-    known: Known,
+    known: KnownDegree,
     width: usize,
     room: usize,
     times: usize,

@@ -5,7 +5,7 @@ ghost use Rattle.schedule_certificate.specs.Plans.{IsPlan, IsColoured, HasFewRei
 ghost use Rattle.schedule_certificate.specs.Sharing.{SaysOneToAllThreads};
 ghost use Rattle.schedule_certificate.specs.Steps.{UsesAtMost, most_steps};
 
-use crate::degree::{Known, width_of};
+use crate::degree::{KnownDegree, width_of};
 use crate::gate::OpenGate;
 use crate::halving::colour_alone;
 use crate::planned::Planned;
@@ -73,7 +73,7 @@ fn colour_all_alone(
 {
     let mut all = all_transfers(alloc, graph, steps)?;
     let mut scratch = Scratch::new(alloc, all.len(), steps)?;
-    let degree = Known::Is(degree_of_all(graph));
+    let degree = KnownDegree::Is(degree_of_all(graph));
     let width = width_of(graph);
     let table = colour_alone(
         alloc,

@@ -7,7 +7,7 @@ ghost use Rattle.schedule_certificate.specs.Plans.{NamesBusiest, IsPlan, IsColou
 ghost use Rattle.schedule_certificate.specs.Steps.{UsesAtMost, most_steps};
 
 use crate::colouring::colour_copy;
-use crate::degree::{Known, width_of};
+use crate::degree::{KnownDegree, width_of};
 use crate::gate::Gate;
 use crate::planned::Planned;
 use crate::workers::Workers;
@@ -56,7 +56,7 @@ fn colour_all<R: Threads + Sync, G: Gate>(
         → steps.new + 3 * length graph.now ≤ steps.old + most_steps (length graph.now) k }
 {
     let all = all_transfers(alloc, graph, steps)?;
-    let degree = Known::Is(degree_of_all(graph));
+    let degree = KnownDegree::Is(degree_of_all(graph));
     let width = width_of(graph);
     let table = colour_copy(
         rt, gate, workers, alloc, graph, &all, degree, width, 0, steps,

@@ -13,8 +13,8 @@ use Rattle.link_graph.specs.declared.link.Link.{Link}
 use Rattle.link_graph.specs.Counts.{count_below, module_at}
 use Rattle.link_graph.specs.Uses.{Uses, IsMatching}
 use Rattle.link_graph.specs.Schedules.{IsScheduleOf}
-use Rattle.schedule_picture.specs.declared.layout.TheConstants.{TOP, ROW, INSET, CELL_WIDTH, CELL_HEIGHT}
-use Rattle.schedule_picture.specs.declared.shown.Shown.{Shown}
+use Rattle.schedule_picture.specs.declared.layout.TheConstants.{ROWS_TOP, ROW_HEIGHT, INSET, CELL_WIDTH, CELL_HEIGHT}
+use Rattle.schedule_picture.specs.declared.shown.ShownSettings.{ShownSettings}
 use Rattle.schedule_picture.specs.Places.{takes_part, row_of, row_place, half_place, column_place}
 use Rattle.schedule_picture.specs.Cells.{cell_left}
 use Rattle.steady_schedule.specs.Bounds.{link_of}
@@ -24,7 +24,7 @@ same_column : (k l : ℕ) → cell_left k < cell_left l + CELL_WIDTH → cell_le
 unfolding column_place
 same_column k l one other = omega arith
 
-same_half : (r s : ℕ) (e f : End) → TOP + r * ROW + half_place e + INSET < TOP + s * ROW + half_place f + INSET + CELL_HEIGHT → TOP + s * ROW + half_place f + INSET < TOP + r * ROW + half_place e + INSET + CELL_HEIGHT → (r ≡ s) × (e ≡ f)
+same_half : (r s : ℕ) (e f : End) → ROWS_TOP + r * ROW_HEIGHT + half_place e + INSET < ROWS_TOP + s * ROW_HEIGHT + half_place f + INSET + CELL_HEIGHT → ROWS_TOP + s * ROW_HEIGHT + half_place f + INSET < ROWS_TOP + r * ROW_HEIGHT + half_place e + INSET + CELL_HEIGHT → (r ≡ s) × (e ≡ f)
 same_half r s Zero Zero one other = (omega arith, refl)
 same_half r s Zero Three one other = absurd (omega arith)
 same_half r s Three Zero one other = absurd (omega arith)
@@ -82,7 +82,7 @@ matching_at : (batch : List Transfer) (settings : List (List ℕ)) (k : ℕ) (se
 matching_at batch settings k setting here s = subst (λ (q : List ℕ). IsMatching batch q) (get_or_from_slice_get settings k setting [] here) (s.matchings k [] (slice_get_within settings k setting here))
 
 -- cells of one setting in the half of one link stand at one position
-one_cell : (batch : List Transfer) (settings : List (List ℕ)) (shown : Shown) (l i j : ℕ) (x y : Transfer) (e : End) → IsScheduleOf batch settings → IsDrawnAt batch settings shown l i x → IsDrawnAt batch settings shown l j y → module_at e x ≡ module_at e y → i ≡ j
+one_cell : (batch : List Transfer) (settings : List (List ℕ)) (shown : ShownSettings) (l i j : ℕ) (x y : Transfer) (e : End) → IsScheduleOf batch settings → IsDrawnAt batch settings shown l i x → IsDrawnAt batch settings shown l j y → module_at e x ≡ module_at e y → i ≡ j
 one_cell batch settings shown l i j x y e s here there same =
     let setting : there.setting ≡ here.setting = cc (here.in_schedule, there.in_schedule) in
     let at = subst (λ (q : List ℕ). slice_get q j ≡ Some there.number) setting there.in_setting in

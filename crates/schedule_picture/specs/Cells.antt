@@ -13,7 +13,7 @@ use Rattle.link_graph.specs.declared.link.End.TheVariants.{Zero, Three}
 use Rattle.link_graph.specs.Links.{other_end}
 use Rattle.link_graph.specs.ScheduleText.{end_number}
 use Rattle.link_graph.specs.Counts.{module_at}
-use Rattle.schedule_picture.specs.declared.layout.TheConstants.{TOP, INSET, CELL_WIDTH, CELL_HEIGHT}
+use Rattle.schedule_picture.specs.declared.layout.TheConstants.{ROWS_TOP, INSET, CELL_WIDTH, CELL_HEIGHT}
 use Rattle.schedule_picture.specs.Places.{row_place, half_place, column_place}
 use Rattle.schedule_picture.specs.Elements.{coloured_box, text_start}
 
@@ -86,5 +86,5 @@ transfer_cells batch j t =
 unfoldable pub column_text : List Transfer → ℕ → ℕ → List ℕ → List ℕ
 column_text batch j k setting =
     codes "<text class='number' x='" ++ decimal (column_place j + 16) ++ codes "' y='"
-    ++ decimal (TOP - 10) ++ codes "'>" ++ decimal k ++ codes "</text>\n"
+    ++ decimal (ROWS_TOP - 10) ++ codes "'>" ++ decimal k ++ codes "</text>\n"
     ++ flat_map (λ t. transfer_cells batch j t) setting

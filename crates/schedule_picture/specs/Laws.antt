@@ -9,13 +9,13 @@ use Rattle.link_graph.specs.Schedules.{IsScheduleOf}
 use Rattle.link_graph.specs.Certificates.{Naming, IsCertified}
 use Rattle.steady_schedule.specs.Changes.{changes}
 use Rattle.schedule_picture.specs.declared.layout.TheConstants.{CELL_WIDTH, CELL_HEIGHT}
-use Rattle.schedule_picture.specs.declared.shown.Shown.{Shown}
+use Rattle.schedule_picture.specs.declared.shown.ShownSettings.{ShownSettings}
 use Rattle.schedule_picture.specs.declared.verdict.Verdict.{Verdict}
 use Rattle.schedule_picture.specs.Verdicts.{IsVerdict}
 use Rattle.schedule_picture.specs.Cells.{cell_left, cell_top}
 
 -- the transfer stands at position i of the setting of column j
-pub record IsDrawnAt (batch : List Transfer) (settings : List (List ℕ)) (shown : Shown) (j i : ℕ)
+pub record IsDrawnAt (batch : List Transfer) (settings : List (List ℕ)) (shown : ShownSettings) (j i : ℕ)
     (x : Transfer) : Type 0 where
   pub is_shown : j < shown.count
   pub setting : List ℕ
@@ -37,7 +37,7 @@ pub record CellsOverlap (batch : List Transfer) (j : ℕ) (x : Transfer) (e : En
 -- two cells of the picture of a schedule overlap only where they are one
 abbrev pub NothingOverlaps : Type 0
 NothingOverlaps =
-    (batch : List Transfer) (settings : List (List ℕ)) (shown : Shown)
+    (batch : List Transfer) (settings : List (List ℕ)) (shown : ShownSettings)
     → IsScheduleOf batch settings
     → (j i : ℕ) (x : Transfer) (e : End) (l k : ℕ) (y : Transfer) (f : End)
     → IsDrawnAt batch settings shown j i x → IsDrawnAt batch settings shown l k y

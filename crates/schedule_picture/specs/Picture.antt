@@ -4,9 +4,9 @@ use Rattle.std.specs.Fmt.{decimal}
 use Rattle.std.specs.List.{flat_map, range_with_len}
 use Rattle.batch.specs.declared.transfer.Transfer.{Transfer}
 use Rattle.link_graph.specs.declared.link.Link.{Link}
-use Rattle.schedule_picture.specs.declared.shown.Shown.{Shown}
-use Rattle.schedule_picture.specs.declared.verdict.Standing.{Standing}
-use Rattle.schedule_picture.specs.declared.verdict.Standing.TheVariants.{Certified, Wrong, Missing}
+use Rattle.schedule_picture.specs.declared.shown.ShownSettings.{ShownSettings}
+use Rattle.schedule_picture.specs.declared.verdict.CertificateStatus.{CertificateStatus}
+use Rattle.schedule_picture.specs.declared.verdict.CertificateStatus.TheVariants.{Certified, Wrong, Missing}
 use Rattle.schedule_picture.specs.declared.verdict.Verdict.{Verdict}
 use Rattle.schedule_picture.specs.declared.style.TheConstants.{STYLE, EXPLAINED}
 use Rattle.schedule_picture.specs.Places.{rack_modules, legend_place, height_of, width_of}
@@ -47,13 +47,13 @@ busiest_words None = codes "busiest none"
 busiest_words (Some link) = codes "busiest " ++ link_label link
 
 -- how the certificate stands
-abbrev pub standing_words : Standing → List ℕ
+abbrev pub standing_words : CertificateStatus → List ℕ
 standing_words Certified = codes ", certified"
 standing_words Wrong = codes ", not certified"
 standing_words Missing = codes ", no certificate"
 
 -- which settings are shown, where these aren't all
-unfoldable pub shown_words : ℕ → Shown → List ℕ
+unfoldable pub shown_words : ℕ → ShownSettings → List ℕ
 shown_words settings shown =
     if shown.count == settings then []
     else if shown.count == 1 then codes ", setting " ++ decimal shown.first ++ codes " shown"
@@ -62,7 +62,7 @@ shown_words settings shown =
 
 -- what stands below the heading: how often the switch changes, the busiest link, how the
 -- certificate stands, and which settings are shown
-unfoldable pub note_text : ℕ → Verdict → Shown → List ℕ
+unfoldable pub note_text : ℕ → Verdict → ShownSettings → List ℕ
 note_text settings verdict shown =
     changes_words verdict.changes verdict.partners verdict.least ++ codes ", " ++ busiest_words verdict.busiest
     ++ standing_words verdict.standing ++ shown_words settings shown
@@ -89,14 +89,14 @@ ground_text width height =
     ++ codes "'/>\n<text class='heading' x='16' y='36'>"
 
 -- the size and the title
-unfoldable pub title_part : List Transfer → ℕ → Verdict → Shown → List ℕ
+unfoldable pub title_part : List Transfer → ℕ → Verdict → ShownSettings → List ℕ
 title_part batch settings verdict shown =
     size_text (width_of shown.count) (height_of batch)
     ++ heading_text (length batch) settings verdict.fewest ++ codes ", "
     ++ note_text settings verdict shown ++ codes "</title>\n"
 
 -- the ground, and on it the heading and the note below that
-unfoldable pub caption_part : List Transfer → ℕ → Verdict → Shown → List ℕ
+unfoldable pub caption_part : List Transfer → ℕ → Verdict → ShownSettings → List ℕ
 caption_part batch settings verdict shown =
     ground_text (width_of shown.count) (height_of batch)
     ++ heading_text (length batch) settings verdict.fewest
@@ -104,7 +104,7 @@ caption_part batch settings verdict shown =
     ++ codes "</text>\n"
 
 -- what stands before the rows
-unfoldable pub opening_text : List Transfer → ℕ → Verdict → Shown → List ℕ
+unfoldable pub opening_text : List Transfer → ℕ → Verdict → ShownSettings → List ℕ
 opening_text batch settings verdict shown =
     title_part batch settings verdict shown ++ style_text
     ++ caption_part batch settings verdict shown
@@ -127,18 +127,18 @@ setting_text batch settings j k =
     ++ column_text batch j k (setting_at settings k)
 
 -- the settings that are shown, in their order
-unfoldable pub columns_text : List Transfer → List (List ℕ) → Shown → List ℕ
+unfoldable pub columns_text : List Transfer → List (List ℕ) → ShownSettings → List ℕ
 columns_text batch settings shown =
     flat_map (λ j. setting_text batch settings j (shown.first + j)) (range_with_len 0 shown.count)
 
 -- the rows, the headings of the columns, rules and columns of cells over the rows, and the legend
 -- below
-abbrev pub picture_of : List Transfer → List (List ℕ) → Verdict → Shown → List ℕ
+abbrev pub picture_of : List Transfer → List (List ℕ) → Verdict → ShownSettings → List ℕ
 picture_of batch settings verdict shown =
     opening_text batch (length settings) verdict shown
     ++ rows_text batch shown.count verdict.busiest ++ headings_text shown.count
     ++ columns_text batch settings shown ++ closing_text batch
 
 -- all settings
-abbrev pub all_shown : ℕ → Shown
+abbrev pub all_shown : ℕ → ShownSettings
 all_shown settings = record { first = 0; count = settings }

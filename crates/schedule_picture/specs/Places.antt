@@ -7,7 +7,7 @@ use Rattle.batch.specs.declared.transfer.Transfer.{Transfer}
 use Rattle.link_graph.specs.declared.link.End.{End}
 use Rattle.link_graph.specs.declared.link.End.TheVariants.{Zero, Three}
 use Rattle.link_graph.specs.Counts.{count_below}
-use Rattle.schedule_picture.specs.declared.layout.TheConstants.{MARGIN, TOP, PANEL, LABELS, COLUMN, ROW, HALF, LEGEND, LEAST}
+use Rattle.schedule_picture.specs.declared.layout.TheConstants.{MARGIN, ROWS_TOP, PANEL_COLUMNS, LABEL_WIDTH, COLUMN_WIDTH, ROW_HEIGHT, HALF_HEIGHT, LEGEND_HEIGHT, MIN_WIDTH}
 
 -- ---- rows
 
@@ -22,12 +22,12 @@ row_of batch m = count_below m (takes_part batch)
 
 -- where the row of a module begins, from the top
 unfoldable pub row_place : List Transfer → ℕ → ℕ
-row_place batch m = TOP + row_of batch m * ROW
+row_place batch m = ROWS_TOP + row_of batch m * ROW_HEIGHT
 
 -- a row has two halves: that of link 0 above, and that of link 3 below it
 abbrev pub half_place : End → ℕ
 half_place Zero = 0
-half_place Three = HALF
+half_place Three = HALF_HEIGHT
 
 -- how many modules a rack may have; a name for the number, so that nothing counts up to it
 unfoldable pub rack_modules : ℕ
@@ -38,30 +38,30 @@ unfoldable pub legend_place : List Transfer → ℕ
 legend_place batch = row_place batch rack_modules
 
 abbrev pub height_of : List Transfer → ℕ
-height_of batch = legend_place batch + LEGEND
+height_of batch = legend_place batch + LEGEND_HEIGHT
 
 -- ---- columns
 
 -- The settings that are shown have columns, in their order, which are counted from 0. Before the
 -- first column, and before each further one that begins a panel, the labels of the rows stand.
 unfoldable pub column_place : ℕ → ℕ
-column_place j = MARGIN + (j / PANEL + 1) * LABELS + j * COLUMN
+column_place j = MARGIN + (j / PANEL_COLUMNS + 1) * LABEL_WIDTH + j * COLUMN_WIDTH
 
 -- how many panels so many columns fill, the last of them perhaps in part
 abbrev pub panels_of : ℕ → ℕ
-panels_of columns = (columns + PANEL - 1) / PANEL
+panels_of columns = (columns + PANEL_COLUMNS - 1) / PANEL_COLUMNS
 
 -- where the labels of a panel begin
 unfoldable pub panel_place : ℕ → ℕ
-panel_place panel = MARGIN + panel * (LABELS + PANEL * COLUMN)
+panel_place panel = MARGIN + panel * (LABEL_WIDTH + PANEL_COLUMNS * COLUMN_WIDTH)
 
 -- how wide its columns are together
 unfoldable pub panel_width : ℕ → ℕ → ℕ
-panel_width columns panel = COLUMN * min PANEL (columns - panel * PANEL)
+panel_width columns panel = COLUMN_WIDTH * min PANEL_COLUMNS (columns - panel * PANEL_COLUMNS)
 
 -- the panels, or the legend where that is wider
 unfoldable pub width_of : ℕ → ℕ
-width_of columns = max LEAST (2 * MARGIN + panels_of columns * LABELS + columns * COLUMN)
+width_of columns = max MIN_WIDTH (2 * MARGIN + panels_of columns * LABEL_WIDTH + columns * COLUMN_WIDTH)
 
 -- ---- the table of rows
 

@@ -7,7 +7,7 @@ use Rattle.batch.specs.declared.transfer.Transfer.{Transfer}
 use Rattle.link_graph.specs.declared.link.End.TheVariants.{Zero, Three}
 use Rattle.link_graph.specs.declared.link.Link.{Link}
 use Rattle.link_graph.specs.ScheduleText.{end_number}
-use Rattle.schedule_picture.specs.declared.layout.TheConstants.{TOP, LABELS, HALF}
+use Rattle.schedule_picture.specs.declared.layout.TheConstants.{ROWS_TOP, LABEL_WIDTH, HALF_HEIGHT}
 use Rattle.schedule_picture.specs.Places.{takes_part, row_place, half_place, panels_of, panel_place, panel_width}
 use Rattle.schedule_picture.specs.Elements.{box_text, coloured_box, text_start, link_label}
 use Rattle.steady_schedule.specs.Bounds.{link_of}
@@ -36,7 +36,7 @@ lane_title marked link = looks_of marked ++ link_label link ++ codes "</title><r
 -- the half of a link, whose row begins at the top: its ground, and the label `link E` before it
 unfoldable pub lane_text : Bool → Link → ℕ → ℕ → ℕ → List ℕ
 lane_text marked link left top width =
-    lane_title marked link ++ box_text (left + LABELS) (top + half_place link.end) width HALF
+    lane_title marked link ++ box_text (left + LABEL_WIDTH) (top + half_place link.end) width HALF_HEIGHT
     ++ text_start (left + 104) (top + half_place link.end + 14) ++ codes "link "
     ++ decimal (end_number link.end) ++ codes "</text></g>\n"
 
@@ -65,7 +65,7 @@ row_text batch columns busiest m =
 unfoldable pub heading_at : ℕ → List ℕ
 heading_at panel =
     codes "<text class='number' x='" ++ decimal (panel_place panel + 104) ++ codes "' y='"
-    ++ decimal (TOP - 10) ++ codes "'>setting</text>\n"
+    ++ decimal (ROWS_TOP - 10) ++ codes "'>setting</text>\n"
 
 -- the same in each panel that so many columns fill
 unfoldable pub headings_text : ℕ → List ℕ

@@ -4,7 +4,7 @@ use Rattle.std.specs.Fmt.{decimal}
 use Rattle.batch.specs.declared.transfer.Transfer.{Transfer}
 use Rattle.steady_schedule.specs.Changes.{join_same}
 use Rattle.steady_schedule.specs.Needs.{setting_at}
-use Rattle.schedule_picture.specs.declared.layout.TheConstants.{TOP, RULE_ABOVE}
+use Rattle.schedule_picture.specs.declared.layout.TheConstants.{ROWS_TOP, RULE_ABOVE}
 use Rattle.schedule_picture.specs.Places.{column_place, legend_place}
 
 -- the switch changes for setting k: it is the first, or joins other pairs of modules than the one
@@ -18,6 +18,6 @@ unfoldable pub rule_text : List Transfer → ℕ → Bool → List ℕ
 rule_text batch j changes =
     if changes
     then codes "<path class='change' d='M" ++ decimal (column_place j) ++ codes " "
-    ++ decimal (TOP - RULE_ABOVE) ++ codes "V" ++ decimal (legend_place batch - RULE_ABOVE)
+    ++ decimal (ROWS_TOP - RULE_ABOVE) ++ codes "V" ++ decimal (legend_place batch - RULE_ABOVE)
     ++ codes "'/>\n"
     else []

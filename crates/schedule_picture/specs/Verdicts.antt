@@ -9,8 +9,8 @@ use Rattle.link_graph.specs.Certificates.{Naming, IsCertificate}
 use Rattle.steady_schedule.specs.Changes.{changes}
 use Rattle.steady_schedule.specs.Partners.{partners}
 use Rattle.steady_schedule.specs.Prices.{AreNeeded}
-use Rattle.schedule_picture.specs.declared.verdict.Standing.{Standing}
-use Rattle.schedule_picture.specs.declared.verdict.Standing.TheVariants.{Certified, Wrong, Missing}
+use Rattle.schedule_picture.specs.declared.verdict.CertificateStatus.{CertificateStatus}
+use Rattle.schedule_picture.specs.declared.verdict.CertificateStatus.TheVariants.{Certified, Wrong, Missing}
 use Rattle.schedule_picture.specs.declared.verdict.Verdict.{Verdict}
 
 -- the link that most transfers use, and the first among equals; none where there is no transfer
@@ -24,18 +24,18 @@ uses_of batch None = 0
 uses_of batch (Some link) = uses batch link
 
 -- what is named shows that no schedule of the batch is shorter, or doesn't
-abbrev pub IsProofOf : List Transfer → List (List ℕ) → Naming → Standing → Type 0
+abbrev pub IsProofOf : List Transfer → List (List ℕ) → Naming → CertificateStatus → Type 0
 IsProofOf batch settings named Certified = IsCertificate batch settings named
 IsProofOf batch settings named Wrong = IsCertificate batch settings named → ⊥
 IsProofOf batch settings named Missing = ⊥
 
 -- how the certificate stands, where there is one
-abbrev pub IsStanding : List Transfer → List (List ℕ) → Option Naming → Standing → Type 0
-IsStanding batch settings None standing = standing ≡ Missing
-IsStanding batch settings (Some named) standing = IsProofOf batch settings named standing
+abbrev pub IsCertificateStatus : List Transfer → List (List ℕ) → Option Naming → CertificateStatus → Type 0
+IsCertificateStatus batch settings None standing = standing ≡ Missing
+IsCertificateStatus batch settings (Some named) standing = IsProofOf batch settings named standing
 
 -- the link of a certificate that shows it, and else this one
-abbrev pub link_named : Option Link → Standing → Option Naming → Option Link
+abbrev pub link_named : Option Link → CertificateStatus → Option Naming → Option Link
 link_named busiest Certified (Some named) = named.link
 link_named busiest Certified None = busiest
 link_named busiest Wrong certificate = busiest
@@ -60,7 +60,7 @@ pub record IsVerdict (batch : List Transfer) (settings : List (List ℕ))
   pub link : Option Link
   pub most : IsBusiestOf batch link
   pub fewest : verdict.fewest ≡ uses_of batch link
-  pub standing : IsStanding batch settings certificate verdict.standing
+  pub standing : IsCertificateStatus batch settings certificate verdict.standing
   pub busiest : verdict.busiest ≡ link_named link verdict.standing certificate
   pub counted : verdict.changes ≡ changes batch settings
   pub needed : AreMostPartners batch verdict.partners

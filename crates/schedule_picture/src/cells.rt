@@ -8,7 +8,7 @@ ghost use Rattle.schedule_picture.specs.Elements.{Adds};
 ghost use Rattle.schedule_picture.specs.Cells.{kind_label, way_of, arrow_of, end_label, title_text, cell_text, transfer_cells, column_text};
 
 use crate::elements::{push_coloured, push_text_start};
-use crate::layout::{CELL_HEIGHT, CELL_WIDTH, INSET, TOP, column_left, half_below};
+use crate::layout::{CELL_HEIGHT, CELL_WIDTH, INSET, ROWS_TOP, column_left, half_below};
 use crate::rows::Rows;
 use batch::{Kind, MAX_MODULES, Transfer};
 use link_graph::End;
@@ -136,7 +136,7 @@ pub(crate) fn push_column(
     ensures { OnOk result
         (Adds text.old text.new (column_text rows.now column setting numbers.now)) }
 {
-    let (middle, above) = (column_left(column) + 16, TOP - 10);
+    let (middle, above) = (column_left(column) + 16, ROWS_TOP - 10);
     write!(
         text,
         "<text class='number' x='{middle}' y='{above}'>{setting}</text>\n"

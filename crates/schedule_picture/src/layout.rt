@@ -12,22 +12,22 @@ use link_graph::End;
 pub const MARGIN: usize = 16;
 
 /// How far the first row stands from the top.
-pub const TOP: usize = 88;
+pub const ROWS_TOP: usize = 88;
 
 /// How many columns stand side by side before the labels of the rows come again.
-pub const PANEL: usize = 32;
+pub const PANEL_COLUMNS: usize = 32;
 
 /// The width of the labels before each panel.
-pub const LABELS: usize = 128;
+pub const LABEL_WIDTH: usize = 128;
 
 /// The width of a column.
-pub const COLUMN: usize = 32;
+pub const COLUMN_WIDTH: usize = 32;
 
 /// The height of a row, with the room below it.
-pub const ROW: usize = 48;
+pub const ROW_HEIGHT: usize = 48;
 
 /// The height of one half of a row.
-pub const HALF: usize = 20;
+pub const HALF_HEIGHT: usize = 20;
 
 /// How far a cell stands from the left side of its column, and from the top of its half of a row.
 pub const INSET: usize = 2;
@@ -42,10 +42,10 @@ pub const CELL_HEIGHT: usize = 16;
 pub const RULE_ABOVE: usize = 8;
 
 /// The height of what stands below the rows.
-pub const LEGEND: usize = 112;
+pub const LEGEND_HEIGHT: usize = 112;
 
 /// The least width of a picture: that of the legend.
-pub const LEAST: usize = 760;
+pub const MIN_WIDTH: usize = 760;
 
 /// Where a column begins, from the left.
 #[tactic(auto, unfolding(crate::specs::Places::column_place))]
@@ -54,7 +54,7 @@ pub(crate) fn column_left(column: usize) -> usize
     ensures value { result ≡ column_place column }
     ensures small { result < 2 ^ 40 }
 {
-    MARGIN + (column / PANEL + 1) * LABELS + column * COLUMN
+    MARGIN + (column / PANEL_COLUMNS + 1) * LABEL_WIDTH + column * COLUMN_WIDTH
 }
 
 /// How many panels so many columns fill, the last of them perhaps in part.
@@ -62,7 +62,7 @@ pub(crate) fn panels(columns: usize) -> usize
     requires { IsNumber columns }
     ensures value { result ≡ panels_of columns }
 {
-    columns.div_ceil(PANEL)
+    columns.div_ceil(PANEL_COLUMNS)
 }
 
 /// Where the labels of a panel begin, from the left.
@@ -72,7 +72,7 @@ pub(crate) fn panel_left(panel: usize) -> usize
     ensures value { result ≡ panel_place panel }
     ensures small { result < 2 ^ 48 }
 {
-    MARGIN + panel * (LABELS + PANEL * COLUMN)
+    MARGIN + panel * (LABEL_WIDTH + PANEL_COLUMNS * COLUMN_WIDTH)
 }
 
 /// How wide a panel's columns are together, of so many columns in all.
@@ -82,17 +82,17 @@ pub(crate) fn panel_columns(columns: usize, panel: usize) -> usize
     requires panel { panel < panels_of columns }
     ensures { result ≡ panel_width columns panel }
 {
-    COLUMN * PANEL.min(columns - panel * PANEL)
+    COLUMN_WIDTH * PANEL_COLUMNS.min(columns - panel * PANEL_COLUMNS)
 }
 
 /// How far the half of an end stands below the top of its row.
 pub(crate) fn half_below(end: End) -> usize
     ensures value { result ≡ half_place end }
-    ensures small { result ≤ HALF }
+    ensures small { result ≤ HALF_HEIGHT }
 {
     match end {
         End::Zero => 0,
-        End::Three => HALF,
+        End::Three => HALF_HEIGHT,
     }
 }
 
@@ -102,5 +102,5 @@ pub(crate) fn width(columns: usize) -> usize
     requires { IsNumber columns }
     ensures { result ≡ width_of columns }
 {
-    LEAST.max(2 * MARGIN + panels(columns) * LABELS + columns * COLUMN)
+    MIN_WIDTH.max(2 * MARGIN + panels(columns) * LABEL_WIDTH + columns * COLUMN_WIDTH)
 }

@@ -6,7 +6,7 @@
 //! the transfer's other side.
 //!
 //! [`draw`] gives one text, `picture_of` of `specs/Picture.antt`. No cell lies over another
-//! (`laws::nothing_overlaps`). [`standing_of`] tells how the certificate of a schedule stands, or of
+//! (`laws::nothing_overlaps`). [`certificate_status`] tells how the certificate of a schedule stands, or of
 //! what is no schedule of the batch the first fault of its settings. [`verdict_on`] tells how many transfers the busiest link has, how often
 //! the switch changes, the most partners of a link, and what prices show (`IsVerdict` of
 //! `specs/Verdicts.antt`). No schedule has fewer settings than there are such transfers
@@ -26,5 +26,5 @@ mod style;
 mod verdict;
 
 pub use picture::draw;
-pub use shown::Shown;
-pub use verdict::{Standing, Verdict, standing_of, verdict_on};
+pub use shown::ShownSettings;
+pub use verdict::{CertificateStatus, Verdict, certificate_status, verdict_on};

@@ -12,9 +12,9 @@ use crate::layout::width;
 use crate::rows::Rows;
 use crate::rows_text::{push_headings, push_row};
 use crate::rules::{changes_at, push_rule};
-use crate::shown::Shown;
+use crate::shown::ShownSettings;
 use crate::style::{EXPLAINED, STYLE};
-use crate::verdict::{Standing, Verdict};
+use crate::verdict::{CertificateStatus, Verdict};
 use batch::{Batch, MAX_MODULES};
 use link_graph::{Link, Schedule};
 use std::alloc::{AllocError, Global};
@@ -89,18 +89,18 @@ fn push_busiest(text: &mut String, busiest: Option<Link>) -> Result<(), AllocErr
 }
 
 /// How a certificate stands, in words.
-fn standing_word(standing: Standing) -> &'static str
+fn standing_word(standing: CertificateStatus) -> &'static str
     ensures { result.now ≡ standing_words standing }
 {
     match standing {
-        Standing::Certified => ", certified",
-        Standing::Wrong => ", not certified",
-        Standing::Missing => ", no certificate",
+        CertificateStatus::Certified => ", certified",
+        CertificateStatus::Wrong => ", not certified",
+        CertificateStatus::Missing => ", no certificate",
     }
 }
 
 /// Puts at the end of the text which settings are shown, where these aren't all.
-fn push_shown(text: &mut String, settings: usize, shown: Shown) -> Result<(), AllocError>
+fn push_shown(text: &mut String, settings: usize, shown: ShownSettings) -> Result<(), AllocError>
     requires { IsNumber (shown.first + shown.count) }
     ensures { OnOk result (Adds text.old text.new (shown_words settings shown)) }
 {
@@ -121,7 +121,7 @@ fn push_note(
     text: &mut String,
     settings: usize,
     verdict: Verdict,
-    shown: Shown,
+    shown: ShownSettings,
 ) -> Result<(), AllocError>
     requires { IsNumber (shown.first + shown.count) }
     ensures { OnOk result (Adds text.old text.new (note_text settings verdict shown)) }
@@ -161,7 +161,7 @@ fn push_title(
     rows: &Rows<'_>,
     settings: usize,
     verdict: Verdict,
-    shown: Shown,
+    shown: ShownSettings,
 ) -> Result<(), AllocError>
     requires { IsNumber (shown.first + shown.count) }
     ensures { OnOk result (Adds text.old text.new (title_part rows.now settings verdict shown)) }
@@ -179,7 +179,7 @@ fn push_caption(
     rows: &Rows<'_>,
     settings: usize,
     verdict: Verdict,
-    shown: Shown,
+    shown: ShownSettings,
 ) -> Result<(), AllocError>
     requires { IsNumber (shown.first + shown.count) }
     ensures { OnOk result (Adds text.old text.new (caption_part rows.now settings verdict shown)) }
@@ -197,7 +197,7 @@ fn push_opening(
     rows: &Rows<'_>,
     settings: usize,
     verdict: Verdict,
-    shown: Shown,
+    shown: ShownSettings,
 ) -> Result<(), AllocError>
     requires { IsNumber (shown.first + shown.count) }
     ensures { OnOk result (Adds text.old text.new (opening_text rows.now settings verdict shown)) }
@@ -251,7 +251,7 @@ fn push_columns(
     text: &mut String,
     rows: &Rows<'_>,
     schedule: &Schedule,
-    shown: Shown,
+    shown: ShownSettings,
 ) -> Result<(), AllocError>
     requires settings { IsNumber (length schedule.now) }
     requires shown { shown.first + shown.count ≤ length schedule.now }
@@ -289,7 +289,7 @@ pub fn draw(
     batch: &Batch,
     schedule: &Schedule,
     verdict: Verdict,
-    shown: Shown,
+    shown: ShownSettings,
 ) -> Result<String, AllocError>
     requires schedule { IsScheduleOf batch.now schedule.now }
     requires settings { IsNumber (length schedule.now) }

@@ -4,7 +4,7 @@ ghost use Rattle.std.specs.Prelude.{◌≡◌, ◌<◌, ◌≤◌, ◌^◌};
 ghost use Rattle.batch.specs.Batches.{IsBatch};
 ghost use Rattle.schedule_picture.specs.Places.{takes_part, row_of, row_place, legend_place, height_of, TakePart};
 
-use crate::layout::{LEGEND, ROW, TOP};
+use crate::layout::{LEGEND_HEIGHT, ROW_HEIGHT, ROWS_TOP};
 use batch::{Batch, MAX_MODULES, Transfer};
 use std::marker::Model;
 
@@ -89,7 +89,7 @@ impl<'a> Rows<'a> {
         ensures value { result ≡ row_place self.now «module» }
         ensures small { result < 2 ^ 20 }
     {
-        TOP + self.before(module) * ROW
+        ROWS_TOP + self.before(module) * ROW_HEIGHT
     }
 
     /// How far the legend, below all rows, stands from the top of the picture.
@@ -105,6 +105,6 @@ impl<'a> Rows<'a> {
     pub(crate) fn height(&self) -> usize
         ensures { result ≡ height_of self.now }
     {
-        self.below() + LEGEND
+        self.below() + LEGEND_HEIGHT
     }
 }

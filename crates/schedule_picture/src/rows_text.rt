@@ -8,7 +8,7 @@ ghost use Rattle.schedule_picture.specs.Elements.{Adds};
 ghost use Rattle.schedule_picture.specs.RowsText.{heading_at, headings_text, marks, label_text, looks_of, lane_title, lane_text, half_text, part_text, row_text};
 
 use crate::elements::{push_box, push_coloured, push_link, push_text_start};
-use crate::layout::{HALF, LABELS, TOP, half_below, panel_columns, panel_left, panels};
+use crate::layout::{HALF_HEIGHT, LABEL_WIDTH, ROWS_TOP, half_below, panel_columns, panel_left, panels};
 use crate::rows::Rows;
 use batch::MAX_MODULES;
 use link_graph::{End, Link};
@@ -73,7 +73,7 @@ fn push_lane(
     let end = link.end.number();
     let below = top + half_below(link.end);
     push_lane_title(text, marked, link)?;
-    push_box(text, left + LABELS, below, width, HALF)?;
+    push_box(text, left + LABEL_WIDTH, below, width, HALF_HEIGHT)?;
     push_text_start(text, left + 104, below + 14)?;
     write!(text, "link {end}</text></g>\n")
 }
@@ -152,7 +152,7 @@ fn push_heading(text: &mut String, panel: usize) -> Result<(), AllocError>
     requires { IsNumber panel }
     ensures { OnOk result (Adds text.old text.new (heading_at panel)) }
 {
-    let (middle, above) = (panel_left(panel) + 104, TOP - 10);
+    let (middle, above) = (panel_left(panel) + 104, ROWS_TOP - 10);
     write!(
         text,
         "<text class='number' x='{middle}' y='{above}'>setting</text>\n"

@@ -7,7 +7,7 @@ ghost use Rattle.steady_schedule.specs.Changes.{are_partners, join_within as is_
 ghost use Rattle.schedule_picture.specs.Elements.{Adds};
 ghost use Rattle.schedule_picture.specs.Rules.{changes_at as is_change, rule_text};
 
-use crate::layout::{RULE_ABOVE, TOP, column_left};
+use crate::layout::{RULE_ABOVE, ROWS_TOP, column_left};
 use crate::rows::Rows;
 use batch::Transfer;
 use link_graph::Schedule;
@@ -73,7 +73,7 @@ pub(crate) fn push_rule(
     ensures { OnOk result (Adds text.old text.new (rule_text rows.now column changes)) }
 {
     if changes {
-        let (left, above) = (column_left(column), TOP - RULE_ABOVE);
+        let (left, above) = (column_left(column), ROWS_TOP - RULE_ABOVE);
         let below = rows.below() - RULE_ABOVE;
         return write!(text, "<path class='change' d='M{left} {above}V{below}'/>\n");
     }

@@ -2,7 +2,7 @@
 
 /// The settings that have columns in a picture, one after the other.
 #[derive(Clone, Copy)]
-pub struct Shown {
+pub struct ShownSettings {
     /// The first of them, counted from 0.
     pub first: usize,
     /// How many there are.

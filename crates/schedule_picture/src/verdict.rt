@@ -8,16 +8,16 @@ ghost use Rattle.link_graph.specs.declared.link.Link.{Link};
 ghost use Rattle.link_graph.specs.Counts.{uses};
 ghost use Rattle.link_graph.specs.Schedules.{IsScheduleOf};
 ghost use Rattle.link_graph.specs.Checks.{IsSettingsFault};
-ghost use Rattle.schedule_picture.specs.Verdicts.{uses_of, link_named, IsProofOf, IsStanding, AreMostPartners, IsLeastShown, IsVerdict};
+ghost use Rattle.schedule_picture.specs.Verdicts.{uses_of, link_named, IsProofOf, IsCertificateStatus, AreMostPartners, IsLeastShown, IsVerdict};
 
 use batch::Batch;
 use link_graph::{Certificate, CheckFault, Link, LinkGraph, Schedule, check_schedule};
 use std::alloc::{AllocError, Global};
-use steady_schedule::{count_changes, most_partners, most_shown};
+use steady_schedule::{count_changes, most_partners, best_price_table};
 
 /// Whether a schedule has a certificate, and whether that shows that no schedule is shorter.
 #[derive(Clone, Copy)]
-pub enum Standing {
+pub enum CertificateStatus {
     /// It has one, which shows it.
     Certified,
     /// It has one, which doesn't.
@@ -35,7 +35,7 @@ pub struct Verdict {
     /// transfer.
     pub busiest: Option<Link>,
     /// How the certificate stands.
-    pub standing: Standing,
+    pub standing: CertificateStatus,
     /// How often the schedule changes the switch: for its first setting, and for each that doesn't
     /// join the same pairs of modules as the one before.
     pub changes: usize,
@@ -53,19 +53,19 @@ fn standing_by(
     batch: &Batch,
     schedule: &Schedule,
     certificate: &Certificate,
-) -> Result<Standing, CheckFault>
+) -> Result<CertificateStatus, CheckFault>
     ensures schedule { OnOk result (IsScheduleOf batch.now schedule.now) }
     ensures standing { IfOk result (IsProofOf batch.now schedule.now certificate.now) }
     ensures fault { IfErr result (λ fault. fault ≢ NoMemory
         → IsSettingsFault batch.now schedule.now fault) }
 {
     match check_schedule(alloc, batch, schedule, certificate) {
-        Ok(_) => Ok(Standing::Certified),
+        Ok(_) => Ok(CertificateStatus::Certified),
         Err(
             CheckFault::WrongLink(_)
             | CheckFault::CertificateRepeats(_)
             | CheckFault::NotTight(_, _),
-        ) => Ok(Standing::Wrong),
+        ) => Ok(CertificateStatus::Wrong),
         Err(fault) => Err(fault),
     }
 }
@@ -76,15 +76,15 @@ fn standing_by(
 /// A certificate that is wrong, or none, is no fault. The faults are those of [`check_schedule`],
 /// in their order. Takes time that grows with the numbers of transfers, of settings and of all that
 /// stands in the settings and in the certificate.
-pub fn standing_of(
+pub fn certificate_status(
     alloc: Global,
     batch: &Batch,
     schedule: &Schedule,
     certificate: Option<&Certificate>,
-) -> Result<Standing, CheckFault>
+) -> Result<CertificateStatus, CheckFault>
     ensures schedule { OnOk result (IsScheduleOf batch.now schedule.now) }
     ensures standing { IfOk result
-        (IsStanding batch.now schedule.now (option_copied certificate.entry)) }
+        (IsCertificateStatus batch.now schedule.now (option_copied certificate.entry)) }
     ensures fault { IfErr result (λ fault. fault ≢ NoMemory
         → IsSettingsFault batch.now schedule.now fault) }
 {
@@ -92,7 +92,7 @@ pub fn standing_of(
         Some(certificate) => standing_by(alloc, batch, schedule, certificate),
         None => {
             standing_by(alloc, batch, schedule, &Certificate::none())?;
-            Ok(Standing::Missing)
+            Ok(CertificateStatus::Missing)
         }
     }
 }
@@ -110,13 +110,13 @@ fn uses(graph: &LinkGraph, link: Option<Link>) -> usize
 /// The link of a certificate that shows that no schedule is shorter, and else the busiest one.
 fn named_or(
     busiest: Option<Link>,
-    standing: Standing,
+    standing: CertificateStatus,
     certificate: Option<&Certificate>,
 ) -> Option<Link>
     ensures { result ≡ link_named busiest standing (option_copied certificate.entry) }
 {
     match (standing, certificate) {
-        (Standing::Certified, Some(certificate)) => certificate.link(),
+        (CertificateStatus::Certified, Some(certificate)) => certificate.link(),
         _ => busiest,
     }
 }
@@ -149,7 +149,7 @@ fn least(
     if settings != fewest || changes == partners {
         return Ok(partners);
     }
-    let shown = most_shown(alloc, graph, settings, changes)?.changes;
+    let shown = best_price_table(alloc, graph, settings, changes)?.changes;
     if shown < partners {
         return Ok(partners);
     }
@@ -158,7 +158,7 @@ fn least(
 
 /// The verdict on a schedule of the batch, whose certificate, where it has one, stands so.
 ///
-/// It looks for prices as [`most_shown`] does, but where the changes are as few as a link has
+/// It looks for prices as [`best_price_table`] does, but where the changes are as few as a link has
 /// partners, or the settings more than are enough. All else takes time that grows with the numbers
 /// of transfers and of settings.
 pub fn verdict_on(
@@ -166,10 +166,10 @@ pub fn verdict_on(
     batch: &Batch,
     schedule: &Schedule,
     certificate: Option<&Certificate>,
-    standing: Standing,
+    standing: CertificateStatus,
 ) -> Result<Verdict, AllocError>
     requires schedule { IsScheduleOf batch.now schedule.now }
-    requires standing { IsStanding batch.now schedule.now (option_copied certificate) standing }
+    requires standing { IsCertificateStatus batch.now schedule.now (option_copied certificate) standing }
     ensures { IfOk result (IsVerdict batch.now schedule.now (option_copied certificate.entry)) }
 {
     let graph = LinkGraph::of(batch)?;

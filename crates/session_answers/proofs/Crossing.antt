@@ -6,7 +6,7 @@ use Rattle.std.specs.contracts.option.Option as Option
 use Rattle.std.specs.contracts.sync.OnceLock as OnceLock
 use Rattle.std.specs.contracts.sync.OnceToken as OnceToken
 use Rattle.std.specs.declared.sync.ledger.Ledger as Ledger
-use Rattle.own_lists.specs.declared.keeper.HistoryName as HistoryName
+use Rattle.session_lists.specs.declared.keeper.HistoryName as HistoryName
 use Rattle.crossbar.specs.contracts.port.MemoryPort as MemoryPort
 use Rattle.crossbar.specs.contracts.port.MemoryPortConfigPort.TheImpl as port
 use Rattle.crossbar.proofs.port.MemoryPort.TheSendSync as memory_port

@@ -9,7 +9,7 @@ use Rattle.std.proofs.lemmas.Simd.{map-map}
 use Rattle.std.specs.Io.KnownBytes.{Appends}
 use Rattle.batch_book.specs.declared.entry.Entry.{Entry}
 use Rattle.batch_book.specs.Exchanges.{Exchange, AreNew, new_seat, parts_at}
-use Rattle.batch_book.specs.History.{Account}
+use Rattle.batch_book.specs.History.{BookView}
 use Rattle.batch_book.specs.Seats.{SeatState, IsSameSeat}
 use Rattle.client_session.specs.declared.fault.ServeFault.{ServeFault}
 use Rattle.module_memory.specs.Store.{Store}
@@ -232,8 +232,8 @@ room_within g k (suc n) lt = elim (cases_lt k n) [
 -- ---- the exchange is closed
 
 -- what is printed of the sessions is what the host answers
-pub are_hosted : {C : Type 0} (loses : Bool) (opening : Store) (earlier : List Entry) (was : Account) (x : Exchange) (start : ℕ) (g : KnownClients) (received : C → Option (List ℕ))
-    (seats : List SeatState) (endings : List (Ending C)) (text : List ℕ) (failed : Bool) (printed : Printed) (left : Account)
+pub are_hosted : {C : Type 0} (loses : Bool) (opening : Store) (earlier : List Entry) (was : BookView) (x : Exchange) (start : ℕ) (g : KnownClients) (received : C → Option (List ℕ))
+    (seats : List SeatState) (endings : List (Ending C)) (text : List ℕ) (failed : Bool) (printed : Printed) (left : BookView)
     → AreAllHosted loses x start g received seats endings → begun_at loses x start ≡ beginning loses was → was.opening ≡ opening → was.history ≡ earlier
     → text ≡ ends_text g 0 endings → failed ≡ list_any has_failed endings
     → IsClosing loses opening earlier (map part_of seats) text failed printed left → AreHosted loses was g (map (seen_end received) endings) printed left

@@ -13,7 +13,7 @@ use Rattle.crossbar.specs.declared.port.ConfigPort.{Ghosts}
 use Rattle.batch_book.specs.declared.entry.Entry.{Entry}
 use Rattle.batch_book.specs.Closing.{AreClosed}
 use Rattle.batch_book.specs.Exchanges.{Exchange, AreNew, new_seat, parts_at}
-use Rattle.batch_book.specs.History.{Account, AreUnstopped, IsKeptBook, IsReplay, Starts}
+use Rattle.batch_book.specs.History.{BookView, AreUnstopped, IsSoundBook, IsReplay, IsPrefix}
 use Rattle.batch_book.specs.Machine.{opened}
 use Rattle.batch_book.specs.Replies.{NeverFail}
 use Rattle.batch_book.specs.Seats.{SeatState, IsSameSeat, own}
@@ -170,8 +170,8 @@ all_served {L} x start scripts n seats ss count new len each =
 -- ---- the exchange is closed
 
 -- the history that an exchange leaves is that of its sessions
-pub one_history : {P W : Type 0} (seen : Ghosts P) (sure : W → ℕ → Type 0) (limited loses : Bool) (opening : Store) (earlier : List Entry) (seats : List SeatState) (book : Account)
-    → AreClosed seen sure opening earlier seats book → NeverFail seen sure → IsKeptBook limited loses book → HaveOneHistory loses opening earlier (map part_of seats) book
+pub one_history : {P W : Type 0} (seen : Ghosts P) (sure : W → ℕ → Type 0) (limited loses : Bool) (opening : Store) (earlier : List Entry) (seats : List SeatState) (book : BookView)
+    → AreClosed seen sure opening earlier seats book → NeverFail seen sure → IsSoundBook limited loses book → HaveOneHistory loses opening earlier (map part_of seats) book
 one_history seen sure limited loses opening earlier seats book closed never kept = record {
   made = closed.made;
   standing = closed.standing;
@@ -182,7 +182,7 @@ one_history seen sure limited loses opening earlier seats book closed never kept
   front = kept.front;
   counted = closed.counted ∙ sym (sum_mapped (λ (p : Part). length p.asked) part_of seats);
   are_parts = All-map (λ (p : Part). p.asked ≡ own p.session closed.made) part_of seats closed.asked;
-  recorded = All-map (λ (p : Part). Starts p.log (own p.session closed.standing)) part_of seats closed.recorded;
+  recorded = All-map (λ (p : Part). IsPrefix p.log (own p.session closed.standing)) part_of seats closed.recorded;
   unstopped = closed.unstopped never;
   seen = All-map (λ (p : Part). p.seen ≤ greatest book.history) part_of seats closed.none_ahead;
   whole = closed.all;
@@ -199,7 +199,7 @@ no_entries (s ∷ seats) all =
     ∙ ap₂ (λ (m n : ℕ). m + n) (ap length (all 0 s (omega arith))) (no_entries seats (λ k d lt. all (suc k) d (omega (arith, lt))))
 
 -- where none of them asked for anything, nothing was made
-pub none_asked : (loses : Bool) (opening : Store) (earlier : List Entry) (seats : List SeatState) (book : Account)
+pub none_asked : (loses : Bool) (opening : Store) (earlier : List Entry) (seats : List SeatState) (book : BookView)
     → All (λ (s : SeatState). s.asked ≡ []) seats → HaveOneHistory loses opening earlier (map part_of seats) book → HaveOneHistory loses opening earlier [] book
 none_asked loses opening earlier seats book none one = record {
   made = one.made;
@@ -211,7 +211,7 @@ none_asked loses opening earlier seats book none one = record {
   front = one.front;
   counted = one.counted ∙ no_entries seats none;
   are_parts = none_in (λ (p : Part). p.asked ≡ own p.session one.made);
-  recorded = none_in (λ (p : Part). Starts p.log (own p.session one.standing));
+  recorded = none_in (λ (p : Part). IsPrefix p.log (own p.session one.standing));
   unstopped = one.unstopped;
   seen = none_in (λ (p : Part). p.seen ≤ greatest book.history);
   whole = one.whole;
@@ -219,7 +219,7 @@ none_asked loses opening earlier seats book none one = record {
 }
 
 -- a book that no session has seen is as they leave it that asked nothing
-pub unasked : (loses : Bool) (was : Account) → IsReplay (opened was.opening) was.history was.machine → was.whole ≡ true → was.stands ≡ was.history → AreUnstopped was.history
+pub unasked : (loses : Bool) (was : BookView) → IsReplay (opened was.opening) was.history was.machine → was.whole ≡ true → was.durable ≡ was.history → AreUnstopped was.history
     → HaveOneHistory loses was.opening was.history [] was
 unasked loses was replay whole stand unstopped =
     let h = was.history in
@@ -230,10 +230,10 @@ unasked loses was replay whole stand unstopped =
       replay = replay;
       are = sym (append-nil h);
       stand = stand ∙ sym (append-nil h);
-      front = starts_same was.stands h stand;
+      front = starts_same was.durable h stand;
       counted = refl;
       are_parts = none_in (λ (p : Part). p.asked ≡ own p.session []);
-      recorded = none_in (λ (p : Part). Starts p.log (own p.session []));
+      recorded = none_in (λ (p : Part). IsPrefix p.log (own p.session []));
       unstopped = unstopped;
       seen = none_in (λ (p : Part). p.seen ≤ greatest h);
       whole = λ is. stand;

@@ -4,7 +4,7 @@ use Rattle.std.proofs.lemmas.List.{length-append}
 use Rattle.progress_word.specs.declared.limits.TheConstants.{ALL_PARTS}
 use Rattle.module_memory.specs.Store.{Store}
 use Rattle.batch_book.specs.declared.entry.Entry.{Entry}
-use Rattle.batch_book.specs.History.{Account}
+use Rattle.batch_book.specs.History.{BookView}
 use Rattle.batch_book.specs.Exchanges.{Exchange, AreNew, new_seat, parts_at}
 use Rattle.batch_book.specs.Seats.{SeatState, IsSameSeat, parts_of}
 use Rattle.client_session.specs.declared.fault.ServeFault.{ServeFault}
@@ -55,10 +55,10 @@ all_there x start rest old new one same =
     subst (λ (ys : List SeatState). AreAllSeats x (ys ++ new ∷ [])) (sym one.nothing) (record { each = each; parts = omega (arith, parts) })
 
 -- what a session from it leaves is what was talked
-pub has_talked : (loses : Bool) (opening : Store) (earlier : List Entry) (was : Account) (x : Exchange) (start : ℕ) (rest : List SeatState) (old new : SeatState) (before after : Option (List ℕ)) (line told : List ℕ) (fault : Option ServeFault) (failed : Bool)
+pub has_talked : (loses : Bool) (opening : Store) (earlier : List Entry) (was : BookView) (x : Exchange) (start : ℕ) (rest : List SeatState) (old new : SeatState) (before after : Option (List ℕ)) (line told : List ℕ) (fault : Option ServeFault) (failed : Bool)
     → IsAlone x start rest old → IsSameSeat old new → begun_at loses x old.seen ≡ beginning loses was → was.opening ≡ opening → was.history ≡ earlier → line ≡ end_line fault → failed ≡ is_some fault
     → IsServedSession (begun_at loses x old.seen) before after (record { part = part_of new; told = told; fault = fault })
-    → (printed : Printed) (left : Account) → IsClosing loses opening earlier (map part_of (rest ++ new ∷ [])) line failed printed left → HasTalked loses was before after told printed left
+    → (printed : Printed) (left : BookView) → IsClosing loses opening earlier (map part_of (rest ++ new ∷ [])) line failed printed left → HasTalked loses was before after told printed left
 has_talked loses opening earlier was x start rest old new before after line told fault failed one same begun words entries said fails session printed left closed =
     let t : Transcript = record { part = part_of new; told = told; fault = fault } in (
       t,

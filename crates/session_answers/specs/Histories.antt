@@ -2,7 +2,7 @@
 use Rattle.std.specs.Prelude.{◌≡◌, ℕ, ◌≤◌, if◌then◌else◌, Bool, true, false, List, ◌++◌, length, All, sum_by}
 use Rattle.module_memory.specs.Store.{Store}
 use Rattle.batch_book.specs.declared.entry.Entry.{Entry}
-use Rattle.batch_book.specs.History.{Account, AreUnstopped, IsReplay, Starts}
+use Rattle.batch_book.specs.History.{BookView, AreUnstopped, IsReplay, IsPrefix}
 use Rattle.batch_book.specs.Machine.{opened}
 use Rattle.batch_book.specs.Seats.{SeatState, own}
 use Rattle.batch_book.specs.Values.{greatest}
@@ -32,7 +32,7 @@ AreParts parts made = All (λ p. p.asked ≡ own p.session made) parts
 
 -- what could be told to each part are the first entries of its session that stand where they belong
 abbrev pub AreRecorded : List Part → List Entry → Type 0
-AreRecorded parts standing = All (λ p. Starts p.log (own p.session standing)) parts
+AreRecorded parts standing = All (λ p. IsPrefix p.log (own p.session standing)) parts
 
 -- The sessions have one history, after what the book had earlier, when it was opened with this
 -- store. What they asked is in this book: just their entries, those of each session in its order.
@@ -41,20 +41,20 @@ AreRecorded parts standing = All (λ p. Starts p.log (own p.session standing)) p
 -- All of them stand there where the book is whole. It is whole unless its kind of history may lose
 -- an entry.
 pub record HaveOneHistory (loses : Bool) (opening : Store) (earlier : List Entry)
-    (parts : List Part) (book : Account) : Type 0 where
+    (parts : List Part) (book : BookView) : Type 0 where
   pub made : List Entry
   pub standing : List Entry
   pub is_opening : book.opening ≡ opening
   pub replay : IsReplay (opened opening) book.history book.machine
   pub are : book.history ≡ earlier ++ made
-  pub stand : book.stands ≡ earlier ++ standing
-  pub front : Starts book.stands book.history
+  pub stand : book.durable ≡ earlier ++ standing
+  pub front : IsPrefix book.durable book.history
   pub counted : HasAllEntries parts made
   pub are_parts : AreParts parts made
   pub recorded : AreRecorded parts standing
   pub unstopped : AreUnstopped book.history
   pub seen : All (λ p. p.seen ≤ greatest book.history) parts
-  pub whole : book.whole ≡ true → book.stands ≡ book.history
+  pub whole : book.whole ≡ true → book.durable ≡ book.history
   pub lost : book.whole ≡ false → loses ≡ true
 
 -- the status where a fault ended one of the sessions, or none
@@ -65,7 +65,7 @@ status_at failed = if failed then REFUSED else DONE
 -- had these entries, and this text is printed of them. The exchange's book is left, and its history
 -- is theirs.
 pub record IsClosing (loses : Bool) (opening : Store) (earlier : List Entry) (parts : List Part)
-    (text : List ℕ) (failed : Bool) (printed : Printed) (left : Account) : Type 0 where
+    (text : List ℕ) (failed : Bool) (printed : Printed) (left : BookView) : Type 0 where
   pub one : HaveOneHistory loses opening earlier parts left
   pub prints : printed.text ≡ text
   pub status : printed.status ≡ status_at failed

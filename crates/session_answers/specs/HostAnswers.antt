@@ -3,7 +3,7 @@ use Rattle.std.specs.Prelude.{◌≡◌, ◌⊎◌, ℕ, Bool, true, List, [], �
 use Rattle.std.specs.Fmt.{decimal}
 use Rattle.std.specs.Io.KnownBytes.{Appends}
 use Rattle.std.specs.List.{list_any, range_with_len}
-use Rattle.batch_book.specs.History.{Account}
+use Rattle.batch_book.specs.History.{BookView}
 use Rattle.client_session.specs.declared.fault.ServeFault.{ServeFault}
 use Rattle.session_answers.specs.declared.ended_session.Ending.{Ending}
 use Rattle.session_answers.specs.declared.ended_session.Ending.TheVariants.{Unopened, Served}
@@ -86,7 +86,7 @@ has_failed (Served fault receipt) = is_some fault
 
 -- the sessions of the clients, which ended so, on one exchange over a book that was so, and the
 -- book that they leave
-abbrev pub AreHosted : Bool → Account → KnownClients → List SessionEnd → Printed → Account → Type 0
+abbrev pub AreHosted : Bool → BookView → KnownClients → List SessionEnd → Printed → BookView → Type 0
 AreHosted loses was g ends printed left =
     (sessions : List HostedSession) × (map (λ v. v.end) sessions ≡ ends)
     × AreHostedSessions (beginning loses was) g sessions

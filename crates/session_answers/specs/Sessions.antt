@@ -1,8 +1,8 @@
 -- The session of a client, from a new seat to its end.
 use Rattle.std.specs.Prelude.{◌≡◌, ℕ, Bool, true, false, List, [], Option, Some}
 use Rattle.std.specs.Io.KnownBytes.{Consumes}
-use Rattle.batch.specs.Extent.{Extent}
-use Rattle.batch_book.specs.History.{Account}
+use Rattle.batch.specs.ShapeView.{ShapeView}
+use Rattle.batch_book.specs.History.{BookView}
 use Rattle.batch_book.specs.Values.{greatest}
 use Rattle.client_session.specs.declared.fault.ServeFault.TheVariants.{Record}
 use Rattle.client_session.specs.Seats.{SeatView}
@@ -12,12 +12,12 @@ use Rattle.session_answers.specs.Frames.{Transcript}
 -- what the sessions of an exchange begin with: the shape of its rack, how far its runs have come,
 -- and whether its book's kind of history may lose an entry
 pub record Beginning : Type 0 where
-  pub shape : Extent
+  pub shape : ShapeView
   pub seen : ℕ
   pub loses : Bool
 
 -- where the exchange is over this book
-abbrev pub beginning : Bool → Account → Beginning
+abbrev pub beginning : Bool → BookView → Beginning
 beginning loses was =
     record {
       shape = was.machine.store.shape;

@@ -1,6 +1,6 @@
 -- What `talk` leaves.
 use Rattle.std.specs.Prelude.{◌≡◌, ◌∷◌, ℕ, Bool, List, [], Option, is_some}
-use Rattle.batch_book.specs.History.{Account}
+use Rattle.batch_book.specs.History.{BookView}
 use Rattle.plan_answers.specs.Refusals.{Printed}
 use Rattle.session_answers.specs.Frames.{Transcript, end_line}
 use Rattle.session_answers.specs.Histories.{IsClosing}
@@ -8,8 +8,8 @@ use Rattle.session_answers.specs.Sessions.{beginning, IsServedSession}
 
 -- the one session of an exchange over a book that was so, which was told this; of its end this is
 -- printed, and it leaves this book
-abbrev pub HasTalked : Bool → Account → (before after : Option (List ℕ)) → List ℕ → Printed
-    → Account → Type 0
+abbrev pub HasTalked : Bool → BookView → (before after : Option (List ℕ)) → List ℕ → Printed
+    → BookView → Type 0
 HasTalked loses was before after told printed left =
     (t : Transcript) × (t.part.session ≡ 0) × (t.told ≡ told)
     × IsServedSession (beginning loses was) before after t

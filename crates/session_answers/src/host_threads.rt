@@ -11,7 +11,7 @@ ghost use Rattle.session_answers.specs.HostedSessions.{AreEach, IsOfSeat, IsThre
 
 use crate::client_streams::ClientStreams;
 use crate::ended_session::Ending;
-use crate::plain_exchange::{PlainExchange, Runtime, serve_client};
+use crate::plain_exchange::{PlainExchange, SessionRuntime, serve_client};
 use crate::threads_started::ThreadsStarted;
 use batch_book::{ExchangeName, History, Seat};
 use client_session::NoListener;
@@ -96,7 +96,7 @@ fn begins<'a>(
 }
 
 /// Serves the client of a seat, once it has opened its files.
-fn host_client<L: ExchangeName, R: Runtime, D: ClientStreams, K: History>(
+fn host_client<L: ExchangeName, R: SessionRuntime, D: ClientStreams, K: History>(
     context: &HostContext<'_, L, R, D, K>,
     there: ThreadsStarted,
     seat: Seat<L>,
@@ -125,7 +125,7 @@ fn host_client<L: ExchangeName, R: Runtime, D: ClientStreams, K: History>(
 
 /// Waits until it is decided whether all threads are there. Serves the client of a seat where they
 /// are, or leaves its files closed where they aren't.
-fn wait_and_host<'a, L: ExchangeName, R: Runtime, D: ClientStreams, K: History>(
+fn wait_and_host<'a, L: ExchangeName, R: SessionRuntime, D: ClientStreams, K: History>(
     context: &HostContext<'a, L, R, D, K>,
     seat: Seat<L>,
 ) -> Returned<'a, L, D::Receipt>
@@ -156,7 +156,7 @@ fn wait_and_host<'a, L: ExchangeName, R: Runtime, D: ClientStreams, K: History>(
 
 /// Gives a seat a thread, which waits for the latch. Where it can't be had no session begins, and
 /// the seat is there at once.
-fn start<'s, E, L: ExchangeName + Send + Sync, R: Runtime, D: ClientStreams, K: History + Send>(
+fn start<'s, E, L: ExchangeName + Send + Sync, R: SessionRuntime, D: ClientStreams, K: History + Send>(
     scope: &Scope<'s, E>,
     context: &'s HostContext<'s, L, R, D, K>,
     seat: Seat<L>,
@@ -188,7 +188,7 @@ fn start_rest<
     's,
     E,
     L: ExchangeName + Send + Sync,
-    R: Runtime,
+    R: SessionRuntime,
     D: ClientStreams,
     K: History + Send,
 >(
@@ -215,7 +215,7 @@ fn start_rest<
 
 /// What comes back from a seat's thread, once it has ended: its session, where this is what was
 /// decided.
-fn join<'s, L: ExchangeName, R: Runtime, D: ClientStreams, K: History>(
+fn join<'s, L: ExchangeName, R: SessionRuntime, D: ClientStreams, K: History>(
     context: &'s HostContext<'s, L, R, D, K>,
     started: SeatThread<'s, L, D, K>,
     decided: &OnceToken<'s, Option<ThreadsStarted>>,
@@ -245,7 +245,7 @@ fn join<'s, L: ExchangeName, R: Runtime, D: ClientStreams, K: History>(
 }
 
 /// What comes back from the threads of seats, once all have ended, where there is room for it.
-fn join_all<'s, L: ExchangeName, R: Runtime, D: ClientStreams, K: History>(
+fn join_all<'s, L: ExchangeName, R: SessionRuntime, D: ClientStreams, K: History>(
     context: &'s HostContext<'s, L, R, D, K>,
     threads: Vec<SeatThread<'s, L, D, K>>,
     decided: &OnceToken<'s, Option<ThreadsStarted>>,
@@ -278,7 +278,7 @@ fn join_all<'s, L: ExchangeName, R: Runtime, D: ClientStreams, K: History>(
 
 /// Serves the clients of these seats side by side, once each has a thread. Their seats come back
 /// where one of these can't be had.
-fn host_all<'s, E, L: ExchangeName + Send + Sync, R: Runtime, D: ClientStreams, K: History + Send>(
+fn host_all<'s, E, L: ExchangeName + Send + Sync, R: SessionRuntime, D: ClientStreams, K: History + Send>(
     scope: &Scope<'s, E>,
     context: &'s HostContext<'s, L, R, D, K>,
     seats: Vec<Seat<L>>,
@@ -311,7 +311,7 @@ fn host_all<'s, E, L: ExchangeName + Send + Sync, R: Runtime, D: ClientStreams, 
 pub fn host_seats<
     'a,
     L: ExchangeName + Send + Sync,
-    R: Runtime,
+    R: SessionRuntime,
     D: ClientStreams,
     K: History + Send,
 >(

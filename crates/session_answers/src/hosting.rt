@@ -10,12 +10,12 @@ ghost use Rattle.session_answers.specs.HostTexts.{ends_text, room_of, session_ro
 ghost use Rattle.session_answers.specs.HostedSessions.{IsRoomFor};
 
 use crate::client_streams::ClientStreams;
-use crate::closing::Closing;
+use crate::closed_sessions::ClosedSessions;
 use crate::ended_session::Ending;
 use crate::frames::{END_ROOM, end_line, put};
 use crate::host_threads::{Endings, host_seats};
-use crate::plain_exchange::{Runtime, close_exchange, finish, open_exchange};
-use batch_book::{Book, ExchangeBlank, ExchangeName, History, Kept};
+use crate::plain_exchange::{SessionRuntime, close_exchange, finish, open_exchange};
+use batch_book::{Book, ExchangeBlank, ExchangeName, History, MemoryHistory};
 use exchange_limits::{MAX_SESSIONS, WorkerCount};
 use line_words::Line;
 use progress_word::ALL_PARTS;
@@ -25,9 +25,9 @@ use std::marker::Brand;
 
 /// What is left of a host.
 #[derive(Drop)]
-pub struct Hosted<C, K: History = Kept> {
+pub struct Hosted<C, K: History = MemoryHistory> {
     /// What is said of the sessions' ends, and the book.
-    pub closing: Closing<K>,
+    pub closing: ClosedSessions<K>,
     /// How the session of each client ended, in their order.
     pub endings: Vec<Ending<C>>,
 }
@@ -143,7 +143,7 @@ fn room_for_endings<L: ExchangeName, C: Drop>(
 }
 
 /// What is left of the sessions of the clients on an exchange over this book.
-fn host<L: ExchangeName + Send + Sync, K: History + Send, R: Runtime, D: ClientStreams>(
+fn host<L: ExchangeName + Send + Sync, K: History + Send, R: SessionRuntime, D: ClientStreams>(
     rt: &R,
     alloc: Global,
     blank: ExchangeBlank,
@@ -200,7 +200,7 @@ fn host<L: ExchangeName + Send + Sync, K: History + Send, R: Runtime, D: ClientS
 ///
 /// Where a thread can't be had, or there is no memory, no file is opened, and the book comes back
 /// as sessions leave it that asked nothing. Nothing fails for want of memory after the sessions.
-pub fn host_on<K: History + Send, R: Runtime, D: ClientStreams>(
+pub fn host_on<K: History + Send, R: SessionRuntime, D: ClientStreams>(
     rt: &R,
     alloc: Global,
     book: Book<K>,
@@ -208,7 +208,7 @@ pub fn host_on<K: History + Send, R: Runtime, D: ClientStreams>(
     streams: &D,
 ) -> Result<Hosted<D::Receipt, K>, (Refusal, Book<K>)>
     requires whole { book.whole ≡ true }
-    requires stand { book.stands ≡ book.history }
+    requires stand { book.durable ≡ book.history }
     requires unstopped { AreUnstopped book.history }
     requires some_clients { 1 ≤ (D.known streams.now).clients }
     requires few_clients { (D.known streams.now).clients ≤ MAX_SESSIONS }

@@ -19,7 +19,7 @@
 #![tactic(auto)]
 
 mod client_streams;
-mod closing;
+mod closed_sessions;
 mod ended_session;
 mod frames;
 mod host_threads;
@@ -31,11 +31,11 @@ mod talking;
 mod threads_started;
 
 pub use client_streams::ClientStreams;
-pub use closing::Closing;
+pub use closed_sessions::ClosedSessions;
 pub use ended_session::Ending;
 pub use frames::push_end;
 pub use hosting::{Hosted, host_on};
-pub use plain_exchange::Runtime;
+pub use plain_exchange::SessionRuntime;
 pub use serving::{Served, answer_serve};
 pub use talking::talk_on;
 pub use threads_started::ThreadsStarted;

@@ -5,7 +5,7 @@ ghost use Rattle.std.specs.Prelude.{◌≡◌, ◌≤◌, List, ℕ, IfOk, IfErr
 ghost use Rattle.std.specs.Io.KnownBytes.{Appends};
 ghost use Rattle.progress_word.specs.declared.limits.TheConstants.{ALL_PARTS};
 ghost use Rattle.batch_book.specs.Exchanges.{AreNew};
-ghost use Rattle.batch_book.specs.History.{AreUnstopped, IsWithin};
+ghost use Rattle.batch_book.specs.History.{AreUnstopped, AreFewEntries};
 ghost use Rattle.batch_book.specs.Naming.{IsNamed};
 ghost use Rattle.batch_book.specs.Seats.{IsSameSeat};
 ghost use Rattle.batch_book.specs.Values.{greatest};
@@ -14,9 +14,9 @@ ghost use Rattle.session_answers.specs.Histories.{part_of, HaveOneHistory, IsClo
 ghost use Rattle.session_answers.specs.Hosting.{AreAllSeats, IsFresh, begun_at};
 ghost use Rattle.session_answers.specs.Sessions.{IsServedSession};
 
-use crate::closing::Closing;
+use crate::closed_sessions::ClosedSessions;
 use batch_book::{
-    Book, Closed, ExchangeBlank, ExchangeName, History, Kept, Seat, SeatMissing, Shared,
+    Book, Closed, ExchangeBlank, ExchangeName, History, MemoryHistory, Seat, SeatMissing, Shared,
 };
 use client_session::{Listener, ServeFault, serve};
 use crossbar::MemoryPort;
@@ -33,12 +33,12 @@ use std::thread::Threads;
 use std::time::Clock;
 
 /// What sessions run on: threads, locks that wait, and a clock.
-pub trait Runtime: Clock + Threads + Wait + Sync {}
+pub trait SessionRuntime: Clock + Threads + Wait + Sync {}
 
-impl<R: Clock + Threads + Wait + Sync> Runtime for R {}
+impl<R: Clock + Threads + Wait + Sync> SessionRuntime for R {}
 
 /// An exchange whose port and wires never fail.
-pub type PlainExchange<L, K = Kept> = Shared<L, MemoryPort, PlainWires, OpenGate, K>;
+pub type PlainExchange<L, K = MemoryHistory> = Shared<L, MemoryPort, PlainWires, OpenGate, K>;
 
 /// An exchange over this book, and a seat for each of so many sessions. Where there is no memory
 /// for it the book comes back as it was.
@@ -73,7 +73,7 @@ pub fn open_exchange<L: ExchangeName, K: History>(
 /// Serves a client from a seat that has done nothing yet, to the session's end: gives the seat
 /// back, and the fault that ended the session, where one did. The listener hears each command, and
 /// each refusal.
-pub fn serve_client<L: ExchangeName, K: History, R: Runtime, I: Read, O: Write, H: Listener>(
+pub fn serve_client<L: ExchangeName, K: History, R: SessionRuntime, I: Read, O: Write, H: Listener>(
     rt: &R,
     alloc: Global,
     exchange: &PlainExchange<L, K>,
@@ -106,7 +106,7 @@ pub fn close_exchange<L: ExchangeName, K: History>(
     requires parts { L.parts ≡ ALL_PARTS }
     requires seats { AreAllSeats exchange seats.items }
     ensures one { HaveOneHistory K.loses L.opening L.earlier (map part_of seats.items) result }
-    ensures few { IsWithin K.limited (length result.history) }
+    ensures few { AreFewEntries K.limited (length result.history) }
 {
     match exchange.close(seats) {
         Ok(Closed { book, plant: _ }) => {
@@ -131,18 +131,18 @@ pub fn finish<L: ExchangeName, K: History>(
     seats: Vec<Seat<L>>,
     text: Vec<u8>,
     failed: bool,
-) -> Closing<K>
+) -> ClosedSessions<K>
     requires parts { L.parts ≡ ALL_PARTS }
     requires seats { AreAllSeats exchange seats.items }
     ensures closing { IsClosing K.loses L.opening L.earlier (map part_of seats.items) text.items
         failed result.answer result.book }
-    ensures few { IsWithin K.limited (length result.book.history) }
+    ensures few { AreFewEntries K.limited (length result.book.history) }
 {
     let book = close_exchange(exchange, seats);
     if failed {
         let answer = Answer::failed(text);
-        return Closing { answer, book };
+        return ClosedSessions { answer, book };
     }
     let answer = Answer::done(text);
-    Closing { answer, book }
+    ClosedSessions { answer, book }
 }

@@ -2,7 +2,7 @@
 
 ghost use Rattle.std.specs.Prelude.{◌≡◌, ◌≤◌, false, IfOk, None, Some, length, map};
 ghost use Rattle.batch_book.specs.Exchanges.{AreNew};
-ghost use Rattle.batch_book.specs.History.{new_account};
+ghost use Rattle.batch_book.specs.History.{new_book_view};
 ghost use Rattle.batch_book.specs.Naming.{IsNamed};
 ghost use Rattle.batch_book.specs.Seats.{IsSameSeat};
 ghost use Rattle.batch_book.specs.Values.{greatest};
@@ -11,11 +11,11 @@ ghost use Rattle.plan_answers.specs.Lent.{bytes_of};
 ghost use Rattle.plan_answers.specs.Refusals.{Refuses};
 ghost use Rattle.session_answers.specs.Serving.{HasItsScript, AreServed, IsServeAnswer};
 
-use crate::closing::Closing;
+use crate::closed_sessions::ClosedSessions;
 use crate::frames::{frame, has_fault};
-use crate::plain_exchange::{PlainExchange, Runtime, finish, open_exchange, serve_client};
+use crate::plain_exchange::{PlainExchange, SessionRuntime, finish, open_exchange, serve_client};
 use crate::session::Session;
-use batch_book::{Book, ExchangeBlank, ExchangeName, Kept, Seat};
+use batch_book::{Book, ExchangeBlank, ExchangeName, MemoryHistory, Seat};
 use client_session::NoListener;
 use exchange_limits::{MAX_SESSIONS, WorkerCount};
 use plan_answers::Answer;
@@ -49,7 +49,7 @@ impl Served {
 }
 
 /// Serves the script at the place of the seat's session, to the session's end.
-fn serve_script<L: ExchangeName, R: Runtime>(
+fn serve_script<L: ExchangeName, R: SessionRuntime>(
     rt: &R,
     alloc: Global,
     exchange: &PlainExchange<L>,
@@ -79,7 +79,7 @@ fn serve_script<L: ExchangeName, R: Runtime>(
 
 /// Serves the scripts side by side, one thread for each where it can be had. The sessions come in
 /// the order of the scripts.
-fn serve_all<L: ExchangeName + Send + Sync, R: Runtime>(
+fn serve_all<L: ExchangeName + Send + Sync, R: SessionRuntime>(
     rt: &R,
     alloc: Global,
     exchange: &PlainExchange<L>,
@@ -115,22 +115,22 @@ fn seats_of<L: ExchangeName>(
 }
 
 /// What is left of the scripts' sessions on one exchange over this book, which is new.
-fn serve_scripts<L: ExchangeName + Send + Sync, R: Runtime>(
+fn serve_scripts<L: ExchangeName + Send + Sync, R: SessionRuntime>(
     rt: &R,
     alloc: Global,
     blank: ExchangeBlank,
     book: Book,
     workers: WorkerCount,
     scripts: &[Vec<u8>],
-) -> Result<Closing, AllocError>
+) -> Result<ClosedSessions, AllocError>
     requires named { IsNamed L.name L.parts L.table L.opening L.earlier blank book }
-    requires new { book ≡ new_account book.opening }
+    requires new { book ≡ new_book_view book.opening }
     requires some_scripts { 1 ≤ length scripts.now }
     requires few_scripts { length scripts.now ≤ MAX_SESSIONS }
     ensures { IfOk result (λ closing. AreServed book.opening (map (λ s. s.items) scripts.now)
         closing.answer (Some closing.book)) }
 {
-    let opened = open_exchange::<L, Kept>(alloc, blank, book, workers, scripts.len());
+    let opened = open_exchange::<L, MemoryHistory>(alloc, blank, book, workers, scripts.len());
     let Ok((exchange, seats)) = opened else {
         return Err(AllocError);
     };
@@ -152,7 +152,7 @@ fn serve_scripts<L: ExchangeName + Send + Sync, R: Runtime>(
 /// `session I`, and then what the session was told; where a fault ended it, a line `ended ..` says
 /// so, and the status is [`REFUSED`](plan_answers::REFUSED). When all have ended the exchange is
 /// closed.
-pub fn answer_serve<R: Runtime>(
+pub fn answer_serve<R: SessionRuntime>(
     rt: &R,
     alloc: Global,
     shape: &[u8],
@@ -173,7 +173,7 @@ pub fn answer_serve<R: Runtime>(
     let Ok(book) = Book::new(alloc, rack) else {
         return Err(AllocError);
     };
-    let Closing { answer, book } = serve_scripts::<Brand, R>(
+    let ClosedSessions { answer, book } = serve_scripts::<Brand, R>(
         rt, alloc, blank, book, workers, scripts,
     )?;
     Ok(Served {

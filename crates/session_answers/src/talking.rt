@@ -7,9 +7,9 @@ ghost use Rattle.batch_book.specs.Naming.{IsNamed};
 ghost use Rattle.client_session.specs.Listening.{TellsOfRefusals};
 ghost use Rattle.session_answers.specs.Talking.{HasTalked, IsUntouched};
 
-use crate::closing::Closing;
+use crate::closed_sessions::ClosedSessions;
 use crate::frames::{END_ROOM, end_line, put};
-use crate::plain_exchange::{Runtime, finish, open_exchange, serve_client};
+use crate::plain_exchange::{SessionRuntime, finish, open_exchange, serve_client};
 use batch_book::{Book, ExchangeBlank, ExchangeName, History};
 use client_session::Listener;
 use exchange_limits::WorkerCount;
@@ -19,7 +19,7 @@ use std::io::{Read, Write};
 use std::marker::Brand;
 
 /// What is left of the session of this reader and this writer, on an exchange over this book.
-fn talk<L: ExchangeName, K: History, R: Runtime, I: Read, O: Write, H: Listener>(
+fn talk<L: ExchangeName, K: History, R: SessionRuntime, I: Read, O: Write, H: Listener>(
     rt: &R,
     alloc: Global,
     blank: ExchangeBlank,
@@ -27,7 +27,7 @@ fn talk<L: ExchangeName, K: History, R: Runtime, I: Read, O: Write, H: Listener>
     reader: &mut I,
     writer: &mut O,
     listener: &mut H,
-) -> Result<Closing<K>, (AllocError, Book<K>)>
+) -> Result<ClosedSessions<K>, (AllocError, Book<K>)>
     requires named { IsNamed L.name L.parts L.table L.opening L.earlier blank book }
     requires unstopped { AreUnstopped book.history }
     ensures session { (told : List ℕ)
@@ -67,16 +67,16 @@ fn talk<L: ExchangeName, K: History, R: Runtime, I: Read, O: Write, H: Listener>
 /// ended it a line `ended ..` says so, under the status [`REFUSED`](plan_answers::REFUSED). Want of
 /// memory comes before the session alone: then nothing is read or told, and the book comes back as
 /// it was.
-pub fn talk_on<K: History, R: Runtime, I: Read, O: Write, H: Listener>(
+pub fn talk_on<K: History, R: SessionRuntime, I: Read, O: Write, H: Listener>(
     rt: &R,
     alloc: Global,
     book: Book<K>,
     reader: &mut I,
     writer: &mut O,
     listener: &mut H,
-) -> Result<Closing<K>, (AllocError, Book<K>)>
+) -> Result<ClosedSessions<K>, (AllocError, Book<K>)>
     requires whole { book.whole ≡ true }
-    requires stand { book.stands ≡ book.history }
+    requires stand { book.durable ≡ book.history }
     requires unstopped { AreUnstopped book.history }
     ensures session { (told : List ℕ)
         × Appends (O.contents writer.old) (O.contents writer.new) told

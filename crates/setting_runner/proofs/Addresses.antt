@@ -1,6 +1,6 @@
 -- Words by their addresses in a block.
 use Rattle.std.proofs.Common.{List, [], ◌∷◌, arith, ◌%◌, ℕ, ◌≡◌, ◌<◌, length, get_or, refl, sym, ap, ◌∙◌, Result, Ok}
-use Rattle.batch.specs.Extent.{Extent}
+use Rattle.batch.specs.ShapeView.{ShapeView}
 use Rattle.batch.specs.declared.transfer.Place.{Place}
 use Rattle.module_memory.specs.Lending.{BlockAt, RestView, copy_of, found_in, with_word}
 use Rattle.module_memory.specs.Store.{block_of}
@@ -28,10 +28,10 @@ ok_number m n e = cc
 pub ok_word : (m n : ℕ) (r : Result ℕ StoreFault) → r ≡ Ok m → r ≡ Ok n → m ≡ n
 ok_word m n r e f = ok_number m n (sym e ∙ f)
 
-pub write_lands : WordsAreWritten → (start : ℕ) (s : Extent) (b : BlockAt) (n a j w : ℕ) → start % WORD_BYTES ≡ 0 → length b.words ≡ s.words → j < s.words → n ≡ b.place.block → a ≡ address_from start s n j → block_write start b a w ≡ Ok (with_word b j w)
+pub write_lands : WordsAreWritten → (start : ℕ) (s : ShapeView) (b : BlockAt) (n a j w : ℕ) → start % WORD_BYTES ≡ 0 → length b.words ≡ s.words → j < s.words → n ≡ b.place.block → a ≡ address_from start s n j → block_write start b a w ≡ Ok (with_word b j w)
 write_lands law start s b n a j w four e h f g = ap (λ (x : ℕ). block_write start b x w) (g ∙ ap (λ (x : ℕ). address_from start s x j) f) ∙ law start s b j w four e h
 
-pub written_is : WordsAreWritten → (start : ℕ) (s : Extent) (b t : BlockAt) (n a j w : ℕ) → start % WORD_BYTES ≡ 0 → length b.words ≡ s.words → j < s.words → n ≡ b.place.block → a ≡ address_from start s n j → block_write start b a w ≡ Ok t → t ≡ with_word b j w
+pub written_is : WordsAreWritten → (start : ℕ) (s : ShapeView) (b t : BlockAt) (n a j w : ℕ) → start % WORD_BYTES ≡ 0 → length b.words ≡ s.words → j < s.words → n ≡ b.place.block → a ≡ address_from start s n j → block_write start b a w ≡ Ok t → t ≡ with_word b j w
 written_is law start s b t n a j w four e h f g k = ok_same t (with_word b j w) (sym k ∙ write_lands law start s b n a j w four e h f g)
 
 -- ---- what a transfer finds

@@ -1,7 +1,7 @@
 -- How a setting ends.
 use Rattle.std.proofs.Common.{◌≡◌, ℕ, List, Result, Ok, Err, sym, subst}
 use Rattle.std.specs.Prelude.{All, OnOk, IfErr, MatchResult}
-use Rattle.batch.specs.Extent.{Extent}
+use Rattle.batch.specs.ShapeView.{ShapeView}
 use Rattle.batch.specs.declared.transfer.Transfer.{Transfer}
 use Rattle.module_memory.specs.Lending.{RestView, BlockAt}
 use Rattle.setting_runner.specs.declared.outcome.StopCause.{StopCause}
@@ -31,4 +31,4 @@ pub ended_cause : {T : Type 0} (result : Result T Stop) (given : RunConditions) 
 ended_cause (Ok x) given rest batch ts os ns ms e moves same short unfailed = tt
 ended_cause (Err stop) given rest batch ts os ns ms e moves same short unfailed =
     subst (λ (m : List (ℕ × ℕ)). IsStopCause given stop.cause m) (sym same)
-    (short_stops given stop.cause ms (subst (λ (x : Extent). All (λ (m : ℕ × ℕ). given.sure m.0 → m.1 ≡ x.words) ms) e (sure_moved given.sure rest batch ts os ns ms moves)) (subst (λ (x : Extent). IsShortfall x.words ms stop.cause) e short) unfailed)
+    (short_stops given stop.cause ms (subst (λ (x : ShapeView). All (λ (m : ℕ × ℕ). given.sure m.0 → m.1 ≡ x.words) ms) e (sure_moved given.sure rest batch ts os ns ms moves)) (subst (λ (x : ShapeView). IsShortfall x.words ms stop.cause) e short) unfailed)

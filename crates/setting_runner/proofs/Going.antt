@@ -4,7 +4,7 @@ use Rattle.std.specs.Prelude.{slice_index, All}
 use Rattle.std.specs.List.{concat}
 use Rattle.std.proofs.lemmas.Bool.{cases_lt}
 use Rattle.std.proofs.lemmas.List.{take_more, take_all, get_or-map, length-map, length-take, length-drop}
-use Rattle.batch.specs.Extent.{Extent}
+use Rattle.batch.specs.ShapeView.{ShapeView}
 use Rattle.batch.specs.Places.{HasPlace, source_of, destination_of}
 use Rattle.batch.specs.Overlap.{transfer_at, source_at, destination_at}
 use Rattle.batch.specs.declared.transfer.Transfer.{Transfer}
@@ -52,7 +52,7 @@ ready_now rest first bays batch settings k b g h = record {
   whole = g.rejoins.whole;
   same_shape = shape-joined rest.store bays ∙ sym (shape-joined rest.store first);
   agrees = g.agrees;
-  places = subst (λ (x : Extent). FitsIn x batch) (shape-joined rest.store first ∙ sym (shape-joined rest.store bays)) b.ready.places;
+  places = subst (λ (x : ShapeView). FitsIn x batch) (shape-joined rest.store first ∙ sym (shape-joined rest.store bays)) b.ready.places;
   apart = b.ready.apart;
   setting = (are_settings batch settings k b.schedule h).own;
 }
@@ -60,7 +60,7 @@ ready_now rest first bays batch settings k b g h = record {
 -- what a transfer finds has all words of a block
 found_wide : (rest : RestView) (first : List BlockAt) (batch : List Transfer) (settings : List (List ℕ)) (t : ℕ) → IsPrepared rest first batch settings → t < length batch → length (found_in rest (source_at batch t)) ≡ rest.store.shape.words
 found_wide rest first batch settings t b h =
-    ap (λ (x : List ℕ). length x) (b.found t h) ∙ block_length (store_rejoined rest.store first) (source_at batch t) b.ready.whole (b.ready.places t h).0 ∙ ap (λ (x : Extent). x.words) (shape-joined rest.store first)
+    ap (λ (x : List ℕ). length x) (b.found t h) ∙ block_length (store_rejoined rest.store first) (source_at batch t) b.ready.whole (b.ready.places t h).0 ∙ ap (λ (x : ShapeView). x.words) (shape-joined rest.store first)
 
 pub part_within : (rest : RestView) (first bays : List BlockAt) (batch : List Transfer) (settings : List (List ℕ)) (k a n : ℕ) → IsPrepared rest first batch settings → Going rest first bays batch settings k → k < length settings → a ≡ length (concat (take k settings)) → n ≡ length (numbers_in settings k) → a + n ≤ length bays
 part_within rest first bays batch settings k a n b g h ea en =
@@ -84,7 +84,7 @@ part_movable rest first bays batch settings k a n b g h ea en =
     let bay = part_at bays a n i (omega arith) in
     record {
       known = setting.known i 0 l;
-      source_exists = subst (λ (x : Extent). HasPlace x (source_at batch (get_or numbers i 0))) (shape-joined rest.store first) (b.ready.places (get_or numbers i 0) (setting.known i 0 l)).0;
+      source_exists = subst (λ (x : ShapeView). HasPlace x (source_at batch (get_or numbers i 0))) (shape-joined rest.store first) (b.ready.places (get_or numbers i 0) (setting.known i 0 l)).0;
       source_here = found_wide rest first batch settings (get_or numbers i 0) b (setting.known i 0 l);
       place = ap (λ (x : BlockAt). x.place) bay ∙ own.destinations i below ∙ destination;
       bay_exists = subst (λ (x : BlockAt). HasPlace rest.store.shape x.place) (sym bay) (g.rejoins.exist (a + i) no_bay (omega (arith, own.within)));
@@ -170,7 +170,7 @@ agrees_after : (rest : RestView) (first bays new : List BlockAt) (batch : List T
 agrees_after rest first bays new batch settings k ms b g h w i l none =
     let p = source_at batch i in
     let own = (are_settings batch settings k b.schedule h).own in
-    w.moved.others p (subst (λ (x : Extent). HasPlace x p) (shape-joined rest.store first ∙ sym (shape-joined rest.store bays)) (b.ready.places i l).0) (unwritten_by_setting batch (numbers_in settings k) p own none)
+    w.moved.others p (subst (λ (x : ShapeView). HasPlace x p) (shape-joined rest.store first ∙ sym (shape-joined rest.store bays)) (b.ready.places i l).0) (unwritten_by_setting batch (numbers_in settings k) p own none)
     ∙ g.agrees i l none
 
 -- one setting more
@@ -184,7 +184,7 @@ going_next rest first bays part batch settings k a n b g h ea en moves =
     let new = take a bays ++ (part ++ drop n (drop a bays)) in
     let w = worked rest first bays part batch settings k a n ms b g h ea en moves in
     let shape = shape-joined rest.store bays in
-    let words : mid.shape.words ≡ rest.store.shape.words = ap (λ (x : Extent). x.words) shape in
+    let words : mid.shape.words ≡ rest.store.shape.words = ap (λ (x : ShapeView). x.words) shape in
     let all = all_at numbers rest.store.shape.words in
     let ready = ready_now rest first bays batch settings k b g h in
     let reach = counts_are_reached (store_rejoined rest.store first) mid (store_rejoined rest.store new) batch numbers (slice_index (words_of ms)) ready (λ i l. omega (arith, all i l)) w.moved in
@@ -209,8 +209,8 @@ going_stops rest first bays part batch settings k a n ms b g h ea en moves =
     let mid = store_rejoined rest.store bays in
     let new = take a bays ++ (part ++ drop n (drop a bays)) in
     let w = worked rest first bays part batch settings k a n ms b g h ea en moves in
-    let words : mid.shape.words ≡ rest.store.shape.words = ap (λ (x : Extent). x.words) (shape-joined rest.store bays) in
-    let same : s.shape.words ≡ rest.store.shape.words = ap (λ (x : Extent). x.words) (shape-joined rest.store first) in
+    let words : mid.shape.words ≡ rest.store.shape.words = ap (λ (x : ShapeView). x.words) (shape-joined rest.store bays) in
+    let same : s.shape.words ≡ rest.store.shape.words = ap (λ (x : ShapeView). x.words) (shape-joined rest.store first) in
     let ready = ready_now rest first bays batch settings k b g h in
     let reach = counts_are_reached (store_rejoined rest.store first) mid (store_rejoined rest.store new) batch numbers (slice_index (words_of ms)) ready (λ i l. omega (arith, few_words rest batch numbers (take n (drop a bays)) part ms i moves)) w.moved in
     let many = HaveMoved-length none_sure rest batch numbers (take n (drop a bays)) part ms moves in
@@ -233,13 +233,13 @@ going_stops rest first bays part batch settings k a n ms b g h ea en moves =
 -- the rack has the modules of the batch
 pub rack_has : (rest : RestView) (first : List BlockAt) (batch : List Transfer) (settings : List (List ℕ)) → IsPrepared rest first batch settings → HasModulesOf rest.store.shape.modules batch
 rack_has rest first batch settings b =
-    has_modules rest.store.shape batch (subst (λ (x : Extent). FitsIn x batch) (shape-joined rest.store first) b.ready.places)
+    has_modules rest.store.shape batch (subst (λ (x : ShapeView). FitsIn x batch) (shape-joined rest.store first) b.ready.places)
 
 -- switches that are set to pairs which join what those of a setting do are the setting's
 pub setting_switches : (rest : RestView) (first : List BlockAt) (batch : List Transfer) (settings : List (List ℕ)) (k : ℕ) (numbers : List ℕ) (pairs : List Pair) (s : Switches) → IsPrepared rest first batch settings → numbers ≡ numbers_in settings k
     → ((w : Wiring) → rest.store.shape.modules ≤ room_of w → switch_of w pairs ≡ switch_of w (setting_pairs batch numbers)) → AreSwitchesOf rest.store.shape.modules pairs s → AreSettingSwitches rest.store.shape batch settings k s
 setting_switches rest first batch settings k numbers pairs s b en joins is =
-    let modules : (store_rejoined rest.store first).shape.modules ≡ rest.store.shape.modules = ap (λ (x : Extent). x.modules) (shape-joined rest.store first) in
+    let modules : (store_rejoined rest.store first).shape.modules ≡ rest.store.shape.modules = ap (λ (x : ShapeView). x.modules) (shape-joined rest.store first) in
     subst (λ (x : List ℕ). AreSwitchesOf rest.store.shape.modules (setting_pairs batch x) s) en
     (same_switches rest.store.shape.modules pairs (setting_pairs batch numbers) s (omega (arith, modules, b.ready.whole.within.few_modules)) joins is)
 
@@ -251,7 +251,7 @@ going_completes rest first bays batch settings k b g h words e =
     let all = take_all k settings h in
     let run = subst (λ (x : List (List ℕ)). IsRun s s batch x (store_rejoined rest.store bays)) all g.machine in
     let placed = run_is_placed s s (store_rejoined rest.store bays) batch settings b.ready run in
-    let same : rest.store.shape.words ≡ s.shape.words = sym (ap (λ (x : Extent). x.words) (shape-joined rest.store first)) in
+    let same : rest.store.shape.words ≡ s.shape.words = sym (ap (λ (x : ShapeView). x.words) (shape-joined rest.store first)) in
     record {
       all_settings = refl;
       all_moved = e ∙ ap (λ (x : List (List ℕ)). length (concat x) * rest.store.shape.words) all ∙ ap (λ (x : ℕ). x * rest.store.shape.words) (numbers_are_counted batch settings b.schedule) ∙ ap (λ (x : ℕ). length batch * x) same;

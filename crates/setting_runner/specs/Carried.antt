@@ -1,7 +1,7 @@
 -- What goes over the wire of a transfer. Source of the messages: INMOS IMS T414 data sheet.
 use Rattle.std.specs.Prelude.{◌≡◌, ◌<◌, ◌++◌, ℕ, List, [], ◌∷◌, slice_index}
 use Rattle.std.specs.List.{flat_map, range_with_len}
-use Rattle.batch.specs.Extent.{Extent}
+use Rattle.batch.specs.ShapeView.{ShapeView}
 use Rattle.batch.specs.declared.transfer.Kind.{Kind}
 use Rattle.batch.specs.declared.transfer.Kind.TheVariants.{Push, Pull}
 use Rattle.batch.specs.declared.transfer.Place.{Place}
@@ -13,7 +13,7 @@ use Rattle.peek_poke.specs.Messages.{spell, word_bytes}
 use Rattle.peek_poke.specs.Sending.{IsCut}
 
 -- a word of a block goes as a poke to its address in the block that is written
-abbrev pub pushed : Extent → ℕ → List ℕ → ℕ → List ℕ
+abbrev pub pushed : ShapeView → ℕ → List ℕ → ℕ → List ℕ
 pushed shape block words j = spell (Poke (address_of shape block j) (slice_index words j))
 
 -- where the window begins in which a block is peeked that has this copy: a held block is peeked in
@@ -28,12 +28,12 @@ window_of rest p = window_for (copy_of rest p)
 
 -- or as a peek of its address in the block that is read, in that window, and the bytes of the word
 -- that come back
-abbrev pub pulled : ℕ → Extent → ℕ → List ℕ → ℕ → List ℕ
+abbrev pub pulled : ℕ → ShapeView → ℕ → List ℕ → ℕ → List ℕ
 pulled window shape block words j =
     spell (Peek (address_from window shape block j)) ++ word_bytes (slice_index words j)
 
 -- a word of a transfer goes as its kind says
-abbrev pub sent : Kind → ℕ → Extent → ℕ → ℕ → List ℕ → ℕ → List ℕ
+abbrev pub sent : Kind → ℕ → ShapeView → ℕ → ℕ → List ℕ → ℕ → List ℕ
 sent Push window shape written read words j = pushed shape written words j
 sent Pull window shape written read words j = pulled window shape read words j
 

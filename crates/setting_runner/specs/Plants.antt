@@ -1,6 +1,6 @@
 -- What a run leaves of the plant that it worked with.
 use Rattle.std.specs.Prelude.{◌≡◌, ℕ, ◌≤◌, List, [], IsTrue, Option, IfSome}
-use Rattle.batch.specs.Extent.{Extent}
+use Rattle.batch.specs.ShapeView.{ShapeView}
 use Rattle.batch.specs.declared.transfer.Transfer.{Transfer}
 use Rattle.crossbar.specs.declared.port.ConfigPort.{Ghosts}
 use Rattle.setting_runner.specs.declared.outcome.Outcome.{Outcome}
@@ -14,7 +14,7 @@ Scheduled = List Transfer × List (List ℕ)
 
 -- What a run of this schedule, if there is one, leaves of its plant on a rack of this shape, where
 -- it ends so. The first two say what is seen of the port, and which wires never fail.
-pub record LeavesPlant {P W G : Type 0} (seen : Ghosts P) (sure : W → ℕ → Type 0) (shape : Extent)
+pub record LeavesPlant {P W G : Type 0} (seen : Ghosts P) (sure : W → ℕ → Type 0) (shape : ShapeView)
     (ran : Option Scheduled) (outcome : Outcome) (old new : Plant P W G) : Type 0 where
   -- a run that stopped has a cause, and the port has failed in no other
   pub cause :

@@ -2,7 +2,7 @@
 -- choice.
 use Rattle.std.specs.Prelude.{◌≡◌, ℕ, ◌<◌, ◌≤◌, ◌+◌, ◌*◌, Bool, false, List, ◌++◌, zero, suc, length, map, take, slice_index, All, Contains}
 use Rattle.std.specs.List.{concat}
-use Rattle.batch.specs.Extent.{Extent}
+use Rattle.batch.specs.ShapeView.{ShapeView}
 use Rattle.batch.specs.declared.transfer.Transfer.{Transfer}
 use Rattle.batch.specs.declared.transfer.Place.{Place}
 use Rattle.batch.specs.Overlap.{IsApart}
@@ -28,7 +28,7 @@ HasOwnBays rest bays batch settings k =
     (length (concat (take k settings))) (setting_of batch (numbers_in settings k))
 
 -- the switches of a setting, in a rack of this shape
-abbrev pub AreSettingSwitches : Extent → List Transfer → List (List ℕ) → ℕ → Switches → Type 0
+abbrev pub AreSettingSwitches : ShapeView → List Transfer → List (List ℕ) → ℕ → Switches → Type 0
 AreSettingSwitches shape batch settings k switches =
     AreSwitchesOf shape.modules (setting_pairs batch (numbers_in settings k)) switches
 
@@ -115,7 +115,7 @@ pub record RunConditions : Type 1 where
   -- the transfers whose wires never fail
   pub sure : ℕ → Type 0
   -- the shape of the rack
-  pub shape : Extent
+  pub shape : ShapeView
   -- how often the port had failed before the run, and how often it has after it
   pub before : ℕ
   pub after : ℕ
@@ -155,7 +155,7 @@ HasCause given (Refused refusal) = given.after ≡ given.before
 -- ---- the refusals
 
 -- a transfer names a module or a block that the rack hasn't
-abbrev pub IsMisfit : Extent → List Transfer → Type 0
+abbrev pub IsMisfit : ShapeView → List Transfer → Type 0
 IsMisfit shape batch = FitsIn shape batch → ⊥
 
 -- the run is refused
@@ -165,12 +165,12 @@ IsRefusedRun (Completed settings words) = ⊥
 IsRefusedRun (Stopped setting cause moved) = ⊥
 
 -- the transfers can be moved on a rack of this shape: no two overlap, and the rack has their blocks
-pub record CanMove (shape : Extent) (batch : List Transfer) : Type 0 where
+pub record CanMove (shape : ShapeView) (batch : List Transfer) : Type 0 where
   pub apart : IsApart batch
   pub fits : FitsIn shape batch
 
 -- no cause to refuse the run, but there is something to move
-pub record RunNeedsMemory (shape : Extent) (batch : List Transfer) : Type 0 where
+pub record RunNeedsMemory (shape : ShapeView) (batch : List Transfer) : Type 0 where
   pub apart : IsApart batch
   pub fits : FitsIn shape batch
   pub some : 0 < length batch
@@ -178,7 +178,7 @@ pub record RunNeedsMemory (shape : Extent) (batch : List Transfer) : Type 0 wher
 -- ---- the switches
 
 -- the switches of the rack are those of the last setting, or of the setting in which a wire failed
-abbrev pub LeavesSwitches : Extent → List Transfer → List (List ℕ) → Outcome → Switches → Type 0
+abbrev pub LeavesSwitches : ShapeView → List Transfer → List (List ℕ) → Outcome → Switches → Type 0
 LeavesSwitches shape batch settings (Completed done words) switches =
     (k : ℕ) → k + 1 ≡ length settings → AreSettingSwitches shape batch settings k switches
 LeavesSwitches shape batch settings (Refused refusal) switches = Unit {0}

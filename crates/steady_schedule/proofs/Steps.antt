@@ -11,7 +11,7 @@ use Rattle.link_graph.specs.declared.link.End.TheVariants.{Zero, Three}
 use Rattle.link_graph.specs.Masks.{has_pair}
 use Rattle.steady_schedule.specs.Matchings.{partner, AreMatched, AreBelow}
 use Rattle.steady_schedule.specs.Searches.{AreNear}
-use Rattle.steady_schedule.specs.Waiting.{pair_index, count_at, waiting, AreTold, HaveMost, NoneWait}
+use Rattle.steady_schedule.specs.Waiting.{pair_index, count_at, waiting, AreSummaries, HaveMost, NoneWait}
 use Rattle.steady_schedule.specs.Steps.{CanHoldAt, CanHold, is_partner, AreTaken, IsTight}
 use Rattle.steady_schedule.specs.Steps.IsTight.{all, by_pair, by_zero, by_three}
 use Rattle.steady_schedule.proofs.Matchings.{has_low, partner_low}
@@ -21,7 +21,7 @@ use Rattle.link_graph.specs.declared.link.End.{End}
 
 -- ---- pairs that have transfers
 
-module _ (counts zn zu tn tu : List ℕ) (t : AreTold counts zn zu tn tu) where
+module _ (counts zn zu tn tu : List ℕ) (t : AreSummaries counts zn zu tn tu) where
   module _ (zero three : List (Option ℕ)) (m : AreMatched zero three) where
     pub near_counts : (x y : ℕ) → AreNear zn zero → partner zero x ≡ Some y → 0 < count_at counts x y
     near_counts x y near joined = ltb-true 0 (count_at counts x y) (sym (t.near_zero x y (has_low zero x y m.sized joined) (partner_low zero three x y m joined)) ∙ near x y joined)

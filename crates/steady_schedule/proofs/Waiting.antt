@@ -17,7 +17,7 @@ use Rattle.link_graph.specs.Counts.{uses}
 use Rattle.link_graph.proofs.Users.{made, use_of, uses_few}
 use Rattle.link_graph.specs.Masks.{has_bit, has_pair}
 use Rattle.link_graph.proofs.Masks.{bit, no_pair}
-use Rattle.steady_schedule.specs.Waiting.{sum_below, pair_count, pair_index, count_at, waiting, ArePairCounts, AreTold}
+use Rattle.steady_schedule.specs.Waiting.{sum_below, pair_count, pair_index, count_at, waiting, ArePairCounts, AreSummaries}
 use Rattle.steady_schedule.proofs.Sums.{sum_same, sum_none, sum_both, sum_changed, at_most_sum}
 
 -- ---- places
@@ -77,7 +77,7 @@ module _ (counts : List ℕ) (a b k : ℕ) (places : length counts ≡ MAX_MODUL
     | inr p ↦ get_or-set_other uses (end_of a b end) m w 0 (λ e. p.1 (sym e)) ∙ (told m m_in ∙ sym (waiting_other end m m_in p.1))
   ]
 
-  pub told_now : (zn zu tn tu : List ℕ) (wz uz wt ut : ℕ) → AreTold counts zn zu tn tu → ((m : ℕ) → m < MAX_MODULES → has_bit wz m ≡ cond (b == m) (nat_lt 0 k) (has_pair zn a m)) → ((m : ℕ) → m < MAX_MODULES → has_bit wt m ≡ cond (a == m) (nat_lt 0 k) (has_pair tn b m)) → uz + count_at counts a b ≡ get_or zu a 0 + k → ut + count_at counts a b ≡ get_or tu b 0 + k → AreTold now (set zn a wz) (set zu a uz) (set tn b wt) (set tu b ut)
+  pub told_now : (zn zu tn tu : List ℕ) (wz uz wt ut : ℕ) → AreSummaries counts zn zu tn tu → ((m : ℕ) → m < MAX_MODULES → has_bit wz m ≡ cond (b == m) (nat_lt 0 k) (has_pair zn a m)) → ((m : ℕ) → m < MAX_MODULES → has_bit wt m ≡ cond (a == m) (nat_lt 0 k) (has_pair tn b m)) → uz + count_at counts a b ≡ get_or zu a 0 + k → ut + count_at counts a b ≡ get_or tu b 0 + k → AreSummaries now (set zn a wz) (set zu a uz) (set tn b wt) (set tu b ut)
   told_now zn zu tn tu wz uz wt ut t bits_z bits_t uz_is ut_is = record {
     places = length-set counts (pair_index a b) k ∙ places;
     near_zero_sized = length-set zn a wz ∙ t.near_zero_sized;
@@ -98,7 +98,7 @@ none_at n i = grind (arith, elements, get_or_past {X = ℕ} (replicate n 0) i 0)
 none_waits : (n : ℕ) (f : ℕ → ℕ) → ((i : ℕ) → f i ≡ 0) → sum_below n f ≡ 0
 none_waits n f none = sum_same n f (λ i. 0) (λ i lt. none i) ∙ sum_none n
 
-pub none_told : AreTold (replicate (MAX_MODULES * MAX_MODULES) 0) (replicate MAX_MODULES 0) (replicate MAX_MODULES 0) (replicate MAX_MODULES 0) (replicate MAX_MODULES 0)
+pub none_told : AreSummaries (replicate (MAX_MODULES * MAX_MODULES) 0) (replicate MAX_MODULES 0) (replicate MAX_MODULES 0) (replicate MAX_MODULES 0) (replicate MAX_MODULES 0)
 none_told =
     let n : ℕ = MAX_MODULES * MAX_MODULES in
     record {
@@ -210,7 +210,7 @@ kept_bits old b k some has m m_in = elim (eqb_tells b m) [
   | inr p ↦ rw p.0 refl
 ]
 
-module _ (counts zn zu tn tu : List ℕ) (a b : ℕ) (t : AreTold counts zn zu tn tu) (a_in : a < MAX_MODULES) (b_in : b < MAX_MODULES) where
+module _ (counts zn zu tn tu : List ℕ) (a b : ℕ) (t : AreSummaries counts zn zu tn tu) (a_in : a < MAX_MODULES) (b_in : b < MAX_MODULES) where
   pub zero_waits : count_at counts a b ≤ get_or zu a 0
   zero_waits = omega (arith, t.uses_zero a a_in, at_most_sum MAX_MODULES b (λ v. count_at counts a v) b_in)
 
@@ -221,7 +221,7 @@ module _ (counts zn zu tn tu : List ℕ) (a b : ℕ) (t : AreTold counts zn zu t
   has_near some = (t.near_zero a b a_in b_in ∙ lt-ltb 0 (count_at counts a b) some, t.near_three a b a_in b_in ∙ lt-ltb 0 (count_at counts a b) some)
 
   -- some of the pair's transfers are left
-  pub told_some : (k uz ut : ℕ) → 0 < k → 0 < count_at counts a b → uz + count_at counts a b ≡ get_or zu a 0 + k → ut + count_at counts a b ≡ get_or tu b 0 + k → AreTold (set counts (pair_index a b) k) zn (set zu a uz) tn (set tu b ut)
+  pub told_some : (k uz ut : ℕ) → 0 < k → 0 < count_at counts a b → uz + count_at counts a b ≡ get_or zu a 0 + k → ut + count_at counts a b ≡ get_or tu b 0 + k → AreSummaries (set counts (pair_index a b) k) zn (set zu a uz) tn (set tu b ut)
   told_some k uz ut some had uz_is ut_is =
       let near = has_near had in
       let told = told_now counts a b k t.places a_in b_in zn zu tn tu (get_or zn a 0) uz (get_or tn b 0) ut t (kept_bits (get_or zn a 0) b k some near.0) (kept_bits (get_or tn b 0) a k some near.1) uz_is ut_is in

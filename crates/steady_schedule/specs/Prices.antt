@@ -9,7 +9,7 @@ use Rattle.link_graph.specs.declared.link.Link.{Link}
 use Rattle.link_graph.specs.Schedules.{IsScheduleOf}
 use Rattle.steady_schedule.specs.Changes.{changes}
 use Rattle.steady_schedule.specs.Waiting.{sum_below, count_at, count_between, waiting, ArePairCounts}
-use Rattle.steady_schedule.specs.declared.priced.Priced.{Priced}
+use Rattle.steady_schedule.specs.declared.priced.PriceTable.{PriceTable}
 
 -- each schedule of the batch with so many settings changes the switch at least so often
 abbrev pub AreNeeded : List Transfer → ℕ → ℕ → Type 0
@@ -86,7 +86,7 @@ ShowChanges batch settings prices top count =
 -- A table has a price of each link for each length up to the top one, and for 0, which none asks
 -- for. It shows so many changes of each schedule of the batch with so many settings. Where it shows
 -- none, it has no prices but those for 0.
-pub record IsPriceTable (batch : List Transfer) (settings : ℕ) (table : Priced) : Type 0 where
+pub record IsPriceTable (batch : List Transfer) (settings : ℕ) (table : PriceTable) : Type 0 where
   pub sized : length table.prices.items ≡ (table.top + 1) * LINKS
   pub show : ShowChanges batch settings table.prices.items table.top table.changes
   pub none : table.changes ≡ 0 → table.top ≡ 0

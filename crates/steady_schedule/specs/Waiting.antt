@@ -42,7 +42,7 @@ pub record ArePairCounts (batch : List Transfer) (counts : List ℕ) : Type 0 wh
 
 -- What stands beside the counts: masks of the links near each link, those with which it has
 -- transfers that wait, and how many wait of each link.
-pub record AreTold (counts zero_near zero_uses three_near three_uses : List ℕ) : Type 0 where
+pub record AreSummaries (counts zero_near zero_uses three_near three_uses : List ℕ) : Type 0 where
   pub places : length counts ≡ MAX_MODULES * MAX_MODULES
   pub near_zero_sized : length zero_near ≡ MAX_MODULES
   pub near_three_sized : length three_near ≡ MAX_MODULES

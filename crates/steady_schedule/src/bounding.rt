@@ -9,18 +9,18 @@ ghost use Rattle.steady_schedule.specs.Prices.{AreNeeded, ShowChanges, IsPriceTa
 
 use crate::choosing::most_with;
 use crate::partners::link_at;
-use crate::priced::Priced;
-use crate::pricing::{Needs, SCALE, Ways};
+use crate::priced::PriceTable;
+use crate::pricing::{Needs, SCALE, CoverCosts};
 use crate::remaining::Remaining;
 use batch::{MAX_MODULES, MAX_TRANSFERS};
 use link_graph::{LINKS, Link, LinkGraph};
 use std::alloc::{AllocError, Global};
 
 /// How many tables of prices are tried at most.
-const MOST_ROUNDS: usize = 100;
+const MAX_ROUNDS: usize = 100;
 
 /// How many sums of two costs all of them may take together, at two or three instructions each.
-const MOST_SUMS: usize = 10_000_000;
+const MAX_SUMS: usize = 10_000_000;
 
 /// A link with a transfer in each of so many settings, and the most that it has with any partner:
 /// that of several for which this is least.
@@ -148,11 +148,11 @@ impl Needs<'_> {
         requires best { length best.old ≡ length prices.old }
         ensures { ShowChanges self.now.graph.now self.now.settings best.new self.now.top result }
     {
-        let mut ways = Ways::none(MOST_SUMS);
+        let mut ways = CoverCosts::none(MAX_SUMS);
         let mut most = 0;
         let links = self.links_in_use();
         self.price_all(prices, links);
-        for round in 0..MOST_ROUNDS {
+        for round in 0..MAX_ROUNDS {
             if most >= enough {
                 return most;
             }
@@ -165,7 +165,7 @@ impl Needs<'_> {
             // To move the prices of a length takes as long as a thousand
             ways.left = ways.left.saturating_sub(1000 * self.top);
             let each = before.saturating_sub(ways.left).max(1);
-            let rounds = (ways.left / each).min(MOST_ROUNDS - 1 - round);
+            let rounds = (ways.left / each).min(MAX_ROUNDS - 1 - round);
             if rounds == 0 {
                 return most;
             }
@@ -186,7 +186,7 @@ fn shown_prices(
     graph: &LinkGraph,
     settings: usize,
     enough: usize,
-) -> Result<Priced, AllocError>
+) -> Result<PriceTable, AllocError>
     requires most { (link : Link) → uses graph.now link ≤ settings }
     requires few { settings ≤ MAX_TRANSFERS }
     ensures { IfOk result (IsPriceTable graph.now settings) }
@@ -195,10 +195,10 @@ fn shown_prices(
     let mut remaining = Remaining::none();
     remaining.add_all(graph);
     let Some((busiest, top)) = longest(&remaining, settings) else {
-        return Priced::none(alloc);
+        return PriceTable::none(alloc);
     };
     if top == 0 || top > MAX_TRANSFERS {
-        return Priced::none(alloc);
+        return PriceTable::none(alloc);
     }
     let needs = Needs {
         graph,
@@ -213,9 +213,9 @@ fn shown_prices(
     let mut best = vec![in alloc; 0u32; room]?;
     let changes = needs.search(enough, &mut best, &mut prices, &mut slopes, &mut pieces);
     if changes == 0 {
-        return Priced::none(alloc);
+        return PriceTable::none(alloc);
     }
-    Ok(Priced {
+    Ok(PriceTable {
         changes,
         top,
         prices: best,
@@ -234,13 +234,13 @@ fn shown_prices(
 /// partner throughout a step, so no step is longer than its greatest count.
 ///
 /// Whatever prices are tried, what they show holds. The search ends where they show `enough`. It
-/// takes memory that grows with the greatest count of a pair, and time as [`MOST_SUMS`] allows.
-pub fn most_shown(
+/// takes memory that grows with the greatest count of a pair, and time as [`MAX_SUMS`] allows.
+pub fn best_price_table(
     alloc: Global,
     graph: &LinkGraph,
     settings: usize,
     enough: usize,
-) -> Result<Priced, AllocError>
+) -> Result<PriceTable, AllocError>
     requires most { (link : Link) → uses graph.now link ≤ settings }
     requires few { settings ≤ MAX_TRANSFERS }
     ensures shown { IfOk result (IsPriceTable graph.now settings) }

@@ -9,9 +9,9 @@ ghost use Rattle.steady_schedule.specs.Reaches.{AreHeld, HaveHeld, HaveEach, IsO
 ghost use Rattle.steady_schedule.specs.Searches.{JoinsNear};
 ghost use Rattle.steady_schedule.specs.Waiting.{HaveMost, NoneWait};
 
-use crate::masks::{Order, Orders, first, has, lowest, without_module};
+use crate::masks::{TrialOrder, TrialOrders, first, has, lowest, without_module};
 use crate::matching::{Matching, Partners, augment};
-use crate::reach::{Held, Reach};
+use crate::reach::{Holdable, Reach};
 use crate::remaining::Remaining;
 use batch::MAX_MODULES;
 use link_graph::End;
@@ -19,7 +19,7 @@ use link_graph::End;
 /// A link that has to be joined, and found no partner; and the links of the other end that the
 /// search didn't see.
 #[derive(Clone, Copy)]
-struct InVain {
+struct Unmatched {
     link: usize,
     unseen: u32,
 }
@@ -35,12 +35,12 @@ pub(crate) struct Choice {
 }
 
 /// Of links 0, the pairs that can be held just so long. All of them have to be joined.
-fn just_pairs(reach: &Reach, modules: usize) -> Held
+fn just_pairs(reach: &Reach, modules: usize) -> Holdable
     requires { modules ≤ MAX_MODULES }
     ensures { (u v : ℕ) → has_pair result.near u v ≡ true
         → has_pair reach.now.zero.near u v ≡ true }
 {
-    let mut pairs = Held::none(u32::MAX, reach.zero.order);
+    let mut pairs = Holdable::none(u32::MAX, reach.zero.order);
     for module in 0..modules {
         pairs.near[module] = reach.zero.near[module] & reach.zero.just[module];
     }
@@ -50,7 +50,7 @@ fn just_pairs(reach: &Reach, modules: usize) -> Held
 /// Finds a partner for a link 0, where it has none, by one of these pairs. Where that is in vain, it
 /// takes the links 3 that it saw out of those that are open: each search from there is in vain too.
 /// No contract says so.
-fn join_open(pairs: &Held, open: &mut u32, matching: &mut Matching, zero: usize)
+fn join_open(pairs: &Holdable, open: &mut u32, matching: &mut Matching, zero: usize)
     requires { zero < MAX_MODULES }
     ensures { JoinsNear pairs.now.near matching.old.zero matching.new.zero }
 {
@@ -79,7 +79,7 @@ fn join_just(reach: &Reach, matching: &mut Matching, modules: usize)
 
 /// Finds a partner for a link, where it has none. Where that is in vain, gives the links that
 /// weren't seen.
-fn join_needed_one(held: &Held, x: usize, of: &mut Partners, back: &mut Partners) -> Option<u32>
+fn join_needed_one(held: &Holdable, x: usize, of: &mut Partners, back: &mut Partners) -> Option<u32>
     requires low { x < MAX_MODULES }
     requires matched { AreMatched of.old back.old }
     ensures matched { AreMatched of.new back.new }
@@ -103,7 +103,7 @@ fn join_needed_one(held: &Held, x: usize, of: &mut Partners, back: &mut Partners
 
 /// Finds a partner for each link that has to be joined, in this order, or tells the first for which
 /// it can't.
-fn join_needed(held: &Held, order: Order, of: &mut Partners, back: &mut Partners) -> Option<InVain>
+fn join_needed(held: &Holdable, order: TrialOrder, of: &mut Partners, back: &mut Partners) -> Option<Unmatched>
     requires matched { AreMatched of.old back.old }
     ensures matched { AreMatched of.new back.new }
     ensures near { JoinsNear held.now.near of.old of.new }
@@ -119,7 +119,7 @@ fn join_needed(held: &Held, order: Order, of: &mut Partners, back: &mut Partners
         let link = first(rest, order);
         rest = without_module(rest, link);
         if let Some(unseen) = join_needed_one(held, link, of, back) {
-            return Some(InVain { link, unseen });
+            return Some(Unmatched { link, unseen });
         }
     }
     None
@@ -161,7 +161,7 @@ fn is_seen(partner: Option<u8>, unseen: u32) -> bool
 fn shorter(
     remaining: &Remaining,
     end: End,
-    vain: InVain,
+    vain: Unmatched,
     of: &Partners,
     most: usize,
     modules: usize,
@@ -248,7 +248,7 @@ impl Choice {
         most: usize,
         modules: usize,
         settings: usize,
-        orders: Orders,
+        orders: TrialOrders,
     ) -> Choice
         requires within { modules ≤ MAX_MODULES }
         requires none { NoneWait remaining.now.counts modules }
@@ -283,7 +283,7 @@ pub(crate) fn choose(
     most: usize,
     modules: usize,
     longest: usize,
-    orders: Orders,
+    orders: TrialOrders,
 ) -> Choice
     requires within { modules ≤ MAX_MODULES }
     requires none { NoneWait remaining.now.counts modules }

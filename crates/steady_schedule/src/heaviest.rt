@@ -16,7 +16,7 @@ use batch::MAX_MODULES;
 
 /// What each pair is worth: that of link 0 of module u and link 3 of module v is at the place
 /// `u * MAX_MODULES + v`.
-pub(crate) type Worths = [u32; PAIRS];
+pub(crate) type Weights = [u32; PAIRS];
 
 /// The prices of the links of both ends.
 #[derive(Drop)]
@@ -27,7 +27,7 @@ struct Prices {
 
 /// The ways from a link 0 to links 3 that are known.
 #[derive(Drop)]
-struct Ways {
+struct AlternatingPaths {
     /// By how much prices exceed worths on the best way to each link 3.
     excess: [u32; MAX_MODULES],
     /// The link 0 before it on that way.
@@ -46,7 +46,7 @@ fn first_modules(modules: usize) -> u32
 }
 
 /// What the pair of a link 0 is worth that is worth the most.
-fn most_worth(worths: &Worths, zero: usize, modules: usize) -> u32
+fn most_worth(worths: &Weights, zero: usize, modules: usize) -> u32
     requires zero { zero < MAX_MODULES }
     requires within { modules ≤ MAX_MODULES }
 {
@@ -59,7 +59,7 @@ fn most_worth(worths: &Worths, zero: usize, modules: usize) -> u32
 
 impl Prices {
     /// Prices that no pair is worth more than.
-    fn of(worths: &Worths, modules: usize) -> Prices
+    fn of(worths: &Weights, modules: usize) -> Prices
         requires { modules ≤ MAX_MODULES }
     {
         let mut prices = Prices {
@@ -73,7 +73,7 @@ impl Prices {
     }
 
     /// Changes them so that they exceed no worth on the way from a link 0 whose excess is so much.
-    fn settle(&mut self, ways: &Ways, three_partners: &Partners, root: usize, far: u32)
+    fn update_prices(&mut self, ways: &AlternatingPaths, three_partners: &Partners, root: usize, far: u32)
         requires root { root < MAX_MODULES }
         requires partners { (x y : ℕ) → partner three_partners.now x ≡ Some y → y < MAX_MODULES }
     {
@@ -88,10 +88,10 @@ impl Prices {
     }
 }
 
-impl Ways {
+impl AlternatingPaths {
     /// None.
-    fn none() -> Ways {
-        Ways {
+    fn none() -> AlternatingPaths {
+        AlternatingPaths {
             excess: [u32::MAX; MAX_MODULES],
             before: [0; MAX_MODULES],
         }
@@ -101,7 +101,7 @@ impl Ways {
     /// has the least, where that isn't beyond all numbers.
     fn go_on(
         &mut self,
-        worths: &Worths,
+        worths: &Weights,
         prices: &Prices,
         zero: usize,
         far: u32,
@@ -135,7 +135,7 @@ impl Ways {
     /// Looks from a link 0 for the nearest link 3 that is free, as long as there are looks left.
     fn nearest_free(
         &mut self,
-        worths: &Worths,
+        worths: &Weights,
         prices: &Prices,
         matching: &Matching,
         root: usize,
@@ -184,7 +184,7 @@ fn join_instead(matching: &mut Matching, zero: usize, three: usize) -> Option<us
 }
 
 /// Joins the links on the way to a link 3 that is free.
-fn join_way(matching: &mut Matching, ways: &Ways, last: usize)
+fn join_way(matching: &mut Matching, ways: &AlternatingPaths, last: usize)
     requires low { last < MAX_MODULES }
     requires free { partner matching.old.three last ≡ None }
 {
@@ -199,15 +199,15 @@ fn join_way(matching: &mut Matching, ways: &Ways, last: usize)
 
 /// A matching of the first modules that is worth as much as any, with pairs of no worth, where it finds that before so many
 /// looks from a link at the others are over.
-pub(crate) fn heaviest(worths: &Worths, modules: usize, looks: &mut usize) -> Option<Matching>
+pub(crate) fn heaviest_matching(worths: &Weights, modules: usize, looks: &mut usize) -> Option<Matching>
     requires { modules ≤ MAX_MODULES }
 {
     let mut prices = Prices::of(worths, modules);
     let mut matching = Matching::none();
     for zero in 0..modules {
-        let mut ways = Ways::none();
+        let mut ways = AlternatingPaths::none();
         let last = ways.nearest_free(worths, &prices, &matching, zero, modules, looks)?;
-        prices.settle(&ways, &matching.three, zero, ways.excess[last]);
+        prices.update_prices(&ways, &matching.three, zero, ways.excess[last]);
         join_way(&mut matching, &ways, last);
     }
     Some(matching)

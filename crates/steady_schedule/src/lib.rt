@@ -21,7 +21,7 @@
 //! Some counts serve any schedule of a batch: how often it changes the switch ([`count_changes`]);
 //! how many partners a link has at most ([`most_partners`]), since no schedule changes the switch
 //! less often than that (`laws::partners_need_changes`); and as many changes as prices of the links
-//! show that each schedule with as many settings has to have ([`most_shown`]). Whatever prices show
+//! show that each schedule with as many settings has to have ([`best_price_table`]). Whatever prices show
 //! is so, whoever found them (`laws::prices_need_changes`).
 #![tactic(auto)]
 
@@ -44,9 +44,9 @@ mod remaining;
 mod stepping;
 mod weighing;
 
-pub use bounding::most_shown;
+pub use bounding::best_price_table;
 pub use changing::count_changes;
 pub use partners::most_partners;
 pub use plan::Steady;
 pub use planning::steady;
-pub use priced::Priced;
+pub use priced::PriceTable;

@@ -19,66 +19,66 @@ pub(crate) fn lowest(mask: u32) -> usize
 
 /// In which order modules are tried.
 #[derive(Clone, Copy)]
-pub(crate) enum Order {
+pub(crate) enum TrialOrder {
     Rising,
     Falling,
 }
 
 /// How the steps of a plan are made.
 #[derive(Clone, Copy)]
-pub(crate) struct Orders {
+pub(crate) struct TrialOrders {
     /// In which order the modules of each end are tried.
-    pub(crate) zero: Order,
-    pub(crate) three: Order,
+    pub(crate) zero: TrialOrder,
+    pub(crate) three: TrialOrder,
     /// How many links are looked at for each transfer, at most, while steps are sought that use up as
     /// many pairs as they can. So that takes no more time than some plans.
     pub(crate) looks: usize,
 }
 
 /// Those of all plans.
-pub(crate) const ORDERS: [Orders; 5] = [
-    Orders {
-        zero: Order::Rising,
-        three: Order::Rising,
+pub(crate) const TRIAL_ORDERS: [TrialOrders; 5] = [
+    TrialOrders {
+        zero: TrialOrder::Rising,
+        three: TrialOrder::Rising,
         looks: 0,
     },
-    Orders {
-        zero: Order::Falling,
-        three: Order::Rising,
+    TrialOrders {
+        zero: TrialOrder::Falling,
+        three: TrialOrder::Rising,
         looks: 0,
     },
-    Orders {
-        zero: Order::Rising,
-        three: Order::Falling,
+    TrialOrders {
+        zero: TrialOrder::Rising,
+        three: TrialOrder::Falling,
         looks: 0,
     },
-    Orders {
-        zero: Order::Falling,
-        three: Order::Falling,
+    TrialOrders {
+        zero: TrialOrder::Falling,
+        three: TrialOrder::Falling,
         looks: 0,
     },
-    Orders {
-        zero: Order::Rising,
-        three: Order::Rising,
+    TrialOrders {
+        zero: TrialOrder::Rising,
+        three: TrialOrder::Rising,
         looks: 24,
     },
 ];
 
 /// The first module of a mask that has any.
-pub(crate) fn first(mask: u32, order: Order) -> usize
+pub(crate) fn first(mask: u32, order: TrialOrder) -> usize
     requires { 0 < mask }
     ensures within { result < MAX_MODULES }
     ensures has { has_bit mask result ≡ true }
 {
     match order {
-        Order::Rising => lowest(mask),
-        Order::Falling => MAX_MODULES - 1 - mask.leading_zeros() as usize,
+        TrialOrder::Rising => lowest(mask),
+        TrialOrder::Falling => MAX_MODULES - 1 - mask.leading_zeros() as usize,
     }
 }
 
 /// The first module of a mask that has any, among those that are preferred where it has some of
 /// them; no contract says so.
-pub(crate) fn first_of(mask: u32, preferred: u32, order: Order) -> usize
+pub(crate) fn first_of(mask: u32, preferred: u32, order: TrialOrder) -> usize
     requires { 0 < mask }
     ensures within { result < MAX_MODULES }
     ensures has { has_bit mask result ≡ true }

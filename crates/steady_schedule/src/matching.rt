@@ -8,7 +8,7 @@ ghost use Rattle.steady_schedule.specs.Matchings.{partner, AreMatched, AreBelow}
 ghost use Rattle.steady_schedule.specs.Searches.{AllSeen, IsStuck, IsInVain, IsFound, IsFreed};
 
 use crate::masks::{first_of, has, with_module, without_module};
-use crate::reach::Held;
+use crate::reach::Holdable;
 use batch::MAX_MODULES;
 
 /// For each module the one that its link is joined to, where it is joined. Bytes, since each choice
@@ -82,7 +82,7 @@ pub(crate) fn part(of: &mut Partners, back: &mut Partners, x: usize, y: usize)
 #[cycle(augment)]
 fn make_room(
     y: usize,
-    held: &Held,
+    held: &Holdable,
     of: &mut Partners,
     back: &mut Partners,
     unseen: &mut u32,
@@ -119,7 +119,7 @@ fn make_room(
 #[cycle(augment)]
 pub(crate) fn augment(
     x: usize,
-    held: &Held,
+    held: &Holdable,
     of: &mut Partners,
     back: &mut Partners,
     unseen: &mut u32,

@@ -13,7 +13,7 @@ ghost use Rattle.steady_schedule.specs.Steps.{AreTaken, CanHold};
 ghost use Rattle.steady_schedule.specs.Waiting.{sum_below, pair_index, count_at, ArePairCounts, HaveMost, NoneWait};
 
 use crate::gathering::{empty_lists, push_into};
-use crate::masks::{ORDERS, Orders};
+use crate::masks::{TRIAL_ORDERS, TrialOrders};
 use crate::matching::{Matching, part};
 use crate::remaining::{PAIRS, Remaining};
 use crate::stepping::next_step;
@@ -24,7 +24,7 @@ use std::alloc::{AllocError, Global};
 
 /// Where the slots of each pair of links begin. There is one for each of its transfers.
 #[derive(Drop)]
-struct Places<'a> {
+struct SlotTable<'a> {
     totals: &'a [u32; PAIRS],
     starts: &'a [u32; PAIRS],
     /// How many slots there are.
@@ -32,9 +32,9 @@ struct Places<'a> {
     ghost placed: { AreFirstSlots totals.now starts.now room },
 }
 
-impl<'a> Places<'a> {
+impl<'a> SlotTable<'a> {
     /// Places for so many transfers of each pair, which are kept in `starts`.
-    fn of(totals: &'a [u32; PAIRS], starts: &'a mut [u32; PAIRS]) -> Places<'a>
+    fn of(totals: &'a [u32; PAIRS], starts: &'a mut [u32; PAIRS]) -> SlotTable<'a>
         requires { All (λ total. total ≤ MAX_TRANSFERS) totals.now }
         ensures { result.totals.now ≡ totals.now }
     {
@@ -43,7 +43,7 @@ impl<'a> Places<'a> {
             starts[place] = room;
             room += totals[place];
         }
-        Places {
+        SlotTable {
             totals,
             starts,
             room: room as usize,
@@ -79,7 +79,7 @@ fn write_pair(slots: &mut [usize], at: usize, first: usize, settings: usize)
 fn hold_one(
     remaining: &mut Remaining,
     matching: &mut Matching,
-    places: &Places<'_>,
+    places: &SlotTable<'_>,
     slots: &mut [usize],
     zero: usize,
     first: usize,
@@ -119,7 +119,7 @@ fn hold_one(
 fn hold(
     remaining: &mut Remaining,
     matching: &mut Matching,
-    places: &Places<'_>,
+    places: &SlotTable<'_>,
     slots: &mut [usize],
     first: usize,
     settings: usize,
@@ -155,7 +155,7 @@ fn any_step(
     modules: usize,
     longest: &mut usize,
     looks: &mut usize,
-    orders: Orders,
+    orders: TrialOrders,
 ) -> usize
     requires some { 0 < most }
     requires few { most ≤ MAX_TRANSFERS }
@@ -181,12 +181,12 @@ fn any_step(
 /// too.
 fn fill(
     remaining: &Remaining,
-    places: &Places<'_>,
+    places: &SlotTable<'_>,
     slots: &mut [usize],
     settings: usize,
     enough: usize,
     longest: usize,
-    orders: Orders,
+    orders: TrialOrders,
 ) -> (usize, usize)
     requires whole { remaining.now.counts ≡ places.now.totals.now }
     requires most { HaveMost remaining.now.counts settings }
@@ -242,7 +242,7 @@ fn fill(
 /// can be by what one link has. No contract says so. The slots of others are written into `spare`.
 fn fill_best(
     remaining: &Remaining,
-    places: &Places<'_>,
+    places: &SlotTable<'_>,
     slots: &mut [usize],
     spare: &mut [usize],
     settings: usize,
@@ -262,9 +262,9 @@ fn fill_best(
         settings,
         settings + 1,
         MAX_TRANSFERS,
-        ORDERS[0],
+        TRIAL_ORDERS[0],
     );
-    for place in 1..ORDERS.len() {
+    for place in 1..TRIAL_ORDERS.len() {
         if best <= remaining.least_steps(settings) {
             return;
         }
@@ -275,7 +275,7 @@ fn fill_best(
             settings,
             best,
             longest,
-            ORDERS[place],
+            TRIAL_ORDERS[place],
         );
         if steps < best {
             best = steps;
@@ -287,7 +287,7 @@ fn fill_best(
 /// The number of a pair's next transfer: that of its last slot that is left.
 fn next_number(
     remaining: &mut [u32; PAIRS],
-    places: &Places<'_>,
+    places: &SlotTable<'_>,
     slots: &[usize],
     zero: usize,
     three: usize,
@@ -312,7 +312,7 @@ fn next_number(
 fn read_all(
     alloc: Global,
     graph: &LinkGraph,
-    places: &Places<'_>,
+    places: &SlotTable<'_>,
     slots: &[usize],
     settings: usize,
 ) -> Result<Vec<Vec<usize>>, AllocError>
@@ -341,7 +341,7 @@ fn settings_by(
     graph: &LinkGraph,
     settings: usize,
     remaining: &Remaining,
-    places: &Places<'_>,
+    places: &SlotTable<'_>,
     slots: &mut [usize],
     spare: &mut [usize],
 ) -> Result<Vec<Vec<usize>>, AllocError>
@@ -375,7 +375,7 @@ pub(crate) fn settings_of(
     remaining.add_all(graph);
     // Each place is written over, and a copy costs less than zeros
     let mut starts = remaining.counts;
-    let places = Places::of(&remaining.counts, &mut starts);
+    let places = SlotTable::of(&remaining.counts, &mut starts);
     let mut slots = vec![in alloc; 0; places.room]?;
     let mut spare = vec![in alloc; 0; places.room]?;
     settings_by(

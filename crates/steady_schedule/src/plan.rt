@@ -83,8 +83,8 @@ impl Steady {
     /// the batch changes the switch at least so often, by
     /// [`partners_need_changes`](crate::laws::partners_need_changes). An empty batch has none. Each
     /// call looks for it, in time that grows with the number of transfers.
-    pub fn demanding(&self) -> Option<(Link, usize)>
-        ensures demanding { IsDemanding self.now.batch result }
+    pub fn most_partnered(&self) -> Option<(Link, usize)>
+        ensures most_partnered { IsDemanding self.now.batch result }
         ensures steady { IsSteady self.now }
     {
         most_partners(&self.graph)

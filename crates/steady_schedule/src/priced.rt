@@ -10,7 +10,7 @@ use std::alloc::{AllocError, Global};
 /// A table of prices, and how many changes it shows of each schedule of a batch with so many
 /// settings.
 #[derive(Drop)]
-pub struct Priced {
+pub struct PriceTable {
     /// How many changes the prices show. Where this is 0, they show nothing.
     pub changes: usize,
     /// The length that no step exceeds, where they show something; else 0.
@@ -21,13 +21,13 @@ pub struct Priced {
     pub prices: Vec<u32>,
 }
 
-impl Priced {
+impl PriceTable {
     /// No prices for any length, which show nothing.
-    pub fn none(alloc: Global) -> Result<Priced, AllocError>
+    pub fn none(alloc: Global) -> Result<PriceTable, AllocError>
         ensures { IfOk result (λ priced.
             (batch : List Transfer) (settings : ℕ) → IsPriceTable batch settings priced) }
     {
-        Ok(Priced {
+        Ok(PriceTable {
             changes: 0,
             top: 0,
             prices: vec![in alloc; 0u32; LINKS]?,

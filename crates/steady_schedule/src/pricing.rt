@@ -58,7 +58,7 @@ impl Needs<'_> {
     }
 
     /// What it costs at least to make up each number of a link 0, or of those links 3 that are idle.
-    fn costs_of(&self, prices: &[u32], zero: usize, ways: &mut Ways, pieces: &mut [u32]) -> u64
+    fn costs_of(&self, prices: &[u32], zero: usize, ways: &mut CoverCosts, pieces: &mut [u32]) -> u64
         requires fair { AreFair prices.now self.now.top }
         requires zero { zero ≤ MAX_MODULES }
         requires pieces { length pieces.old ≡ length prices.now }
@@ -76,7 +76,7 @@ impl Needs<'_> {
     }
 
     /// How many changes these prices show. Counts the pieces of the cheapest ways.
-    pub(crate) fn shown_by(&self, prices: &[u32], ways: &mut Ways, pieces: &mut [u32]) -> usize
+    pub(crate) fn shown_by(&self, prices: &[u32], ways: &mut CoverCosts, pieces: &mut [u32]) -> usize
         requires sized { length prices.now ≡ (self.now.top + 1) * LINKS }
         requires pieces { length pieces.old ≡ length prices.now }
         ensures { ShowChanges self.now.graph.now self.now.settings prices.now self.now.top result }
@@ -94,16 +94,16 @@ impl Needs<'_> {
 
 /// A price for each length of a step, and what it costs at least to make up each number of these.
 #[derive(Drop)]
-pub(crate) struct Ways {
+pub(crate) struct CoverCosts {
     price: [u32; LENGTHS],
     costs: [u32; LENGTHS],
     /// How many sums of two costs may still be made.
     pub(crate) left: usize,
 }
 
-impl Ways {
-    pub(crate) fn none(left: usize) -> Ways {
-        Ways {
+impl CoverCosts {
+    pub(crate) fn none(left: usize) -> CoverCosts {
+        CoverCosts {
             price: [0; LENGTHS],
             costs: [0; LENGTHS],
             left,

@@ -5,13 +5,13 @@ ghost use Rattle.batch.specs.declared.limits.TheConstants.{MAX_MODULES, MAX_TRAN
 ghost use Rattle.link_graph.specs.Masks.{has_pair};
 ghost use Rattle.steady_schedule.specs.Reaches.{AreHeld, HaveHeld, IsOverMask};
 
-use crate::masks::{Masks, Order, Orders, lowest, with_module, without_module};
+use crate::masks::{Masks, TrialOrder, TrialOrders, lowest, with_module, without_module};
 use crate::remaining::Remaining;
 use batch::MAX_MODULES;
 
 /// Of the links of one end, what can be held for some settings.
 #[derive(Drop)]
-pub(crate) struct Held {
+pub(crate) struct Holdable {
     /// For each link those of the other end with which it has so many transfers.
     pub(crate) near: Masks,
     /// Those of them with which it has just so many: such a pair is used up then. No contract says
@@ -20,7 +20,7 @@ pub(crate) struct Held {
     /// The links that have more transfers than there are settings left then.
     pub(crate) needed: u32,
     /// In which order links of the other end are tried as partners. No contract says so.
-    pub(crate) order: Order,
+    pub(crate) order: TrialOrder,
 }
 
 /// What can be held for some settings.
@@ -28,17 +28,17 @@ pub(crate) struct Held {
 pub(crate) struct Reach {
     /// For how many.
     pub(crate) settings: usize,
-    pub(crate) zero: Held,
-    pub(crate) three: Held,
+    pub(crate) zero: Holdable,
+    pub(crate) three: Holdable,
 }
 
-impl Held {
+impl Holdable {
     /// No pairs.
-    pub(crate) fn none(needed: u32, order: Order) -> Held
+    pub(crate) fn none(needed: u32, order: TrialOrder) -> Holdable
         ensures near { (u v : ℕ) → has_pair result.near u v ≡ false }
         ensures needed { result.needed ≡ needed }
     {
-        Held {
+        Holdable {
             near: [0; MAX_MODULES],
             just: [0; MAX_MODULES],
             needed,
@@ -111,7 +111,7 @@ impl Reach {
         most: usize,
         modules: usize,
         settings: usize,
-        orders: Orders,
+        orders: TrialOrders,
     ) -> Reach
         requires some { 0 < settings }
         requires few { most ≤ MAX_TRANSFERS }
@@ -128,11 +128,11 @@ impl Reach {
     {
         let mut reach = Reach {
             settings,
-            zero: Held::none(
+            zero: Holdable::none(
                 over(&remaining.zero.uses, most - settings, modules),
                 orders.three,
             ),
-            three: Held::none(
+            three: Holdable::none(
                 over(&remaining.three.uses, most - settings, modules),
                 orders.zero,
             ),

@@ -5,7 +5,7 @@ ghost use Rattle.batch.specs.Batches.{IsBatch};
 ghost use Rattle.batch.specs.declared.limits.TheConstants.{MAX_MODULES, MAX_TRANSFERS};
 ghost use Rattle.link_graph.specs.declared.link.End.{End};
 ghost use Rattle.link_graph.specs.Masks.{has_pair};
-ghost use Rattle.steady_schedule.specs.Waiting.{pair_index, count_at, count_between, waiting, ArePairCounts, AreTold, NoneWait};
+ghost use Rattle.steady_schedule.specs.Waiting.{pair_index, count_at, count_between, waiting, ArePairCounts, AreSummaries, NoneWait};
 
 use crate::masks::{Masks, with_module, without_module};
 use batch::MAX_MODULES;
@@ -16,14 +16,14 @@ pub(crate) const PAIRS: usize = MAX_MODULES * MAX_MODULES;
 
 /// The links of one end.
 #[derive(Clone, Copy)]
-pub(crate) struct Side {
+pub(crate) struct EndCounts {
     /// For each link those of the other end with which it has transfers that wait.
     pub(crate) near: Masks,
     /// How many transfers of each link wait.
     pub(crate) uses: [u32; MAX_MODULES],
 }
 
-impl Side {
+impl EndCounts {
     /// How many steps so many settings have at least, by the links of this end: those in which a
     /// link is joined to each of its partners, and one where it is idle. No contract says so.
     fn least_steps(&self, settings: usize) -> usize {
@@ -41,9 +41,9 @@ impl Side {
 pub(crate) struct Remaining {
     /// Those of link 0 of module u and link 3 of module v are at the place `u * MAX_MODULES + v`.
     pub(crate) counts: [u32; PAIRS],
-    pub(crate) zero: Side,
-    pub(crate) three: Side,
-    ghost told: { AreTold counts zero.near zero.uses three.near three.uses },
+    pub(crate) zero: EndCounts,
+    pub(crate) three: EndCounts,
+    ghost told: { AreSummaries counts zero.near zero.uses three.near three.uses },
 }
 
 impl Remaining {
@@ -53,11 +53,11 @@ impl Remaining {
     {
         Remaining {
             counts: [0; PAIRS],
-            zero: Side {
+            zero: EndCounts {
                 near: [0; MAX_MODULES],
                 uses: [0; MAX_MODULES],
             },
-            three: Side {
+            three: EndCounts {
                 near: [0; MAX_MODULES],
                 uses: [0; MAX_MODULES],
             },
@@ -100,7 +100,7 @@ impl Remaining {
     }
 
     /// The links of an end.
-    pub(crate) fn side(&self, end: End) -> &Side
+    pub(crate) fn side(&self, end: End) -> &EndCounts
         ensures uses { (m : ℕ) → m < MAX_MODULES
             → slice_index result.now.uses m ≡ waiting self.now.counts end m }
         ensures near { (x y : ℕ) → x < MAX_MODULES → y < MAX_MODULES

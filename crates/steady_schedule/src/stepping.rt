@@ -10,7 +10,7 @@ ghost use Rattle.steady_schedule.specs.Steps.{CanHold};
 ghost use Rattle.steady_schedule.specs.Waiting.{count_at, waiting, HaveMost, NoneWait};
 
 use crate::choosing::{Choice, choose};
-use crate::masks::{Masks, Orders, lowest, without_module};
+use crate::masks::{Masks, TrialOrders, lowest, without_module};
 use crate::matching::{Matching, free, join};
 use crate::remaining::Remaining;
 use batch::MAX_MODULES;
@@ -84,7 +84,7 @@ fn three_room(remaining: &Remaining, matching: &Matching, most: usize, module: u
 }
 
 /// For how many settings the matching can be held at most.
-pub(crate) fn how_long(
+pub(crate) fn longest_hold(
     remaining: &Remaining,
     matching: &Matching,
     most: usize,
@@ -117,7 +117,7 @@ pub(crate) fn next_step(
     most: usize,
     modules: usize,
     longest: usize,
-    orders: Orders,
+    orders: TrialOrders,
 ) -> usize
     requires some { 0 < most }
     requires few { most ≤ MAX_TRANSFERS }
@@ -135,5 +135,5 @@ pub(crate) fn next_step(
     } = choose(remaining, most, modules, longest, orders);
     *matching = chosen;
     join_free(&reach.zero.near, matching, modules);
-    how_long(remaining, matching, most, modules)
+    longest_hold(remaining, matching, most, modules)
 }

@@ -9,12 +9,12 @@ ghost use Rattle.steady_schedule.specs.Searches.{AreNear};
 ghost use Rattle.steady_schedule.specs.Steps.{CanHold};
 ghost use Rattle.steady_schedule.specs.Waiting.{HaveMost, NoneWait};
 
-use crate::heaviest::{Worths, heaviest};
-use crate::masks::{ORDERS, has, lowest, with_module, without_module};
+use crate::heaviest::{Weights, heaviest_matching};
+use crate::masks::{TRIAL_ORDERS, has, lowest, with_module, without_module};
 use crate::matching::{Matching, Partners, part};
 use crate::reach::Reach;
-use crate::remaining::{PAIRS, Remaining, Side};
-use crate::stepping::how_long;
+use crate::remaining::{PAIRS, Remaining, EndCounts};
+use crate::stepping::longest_hold;
 use batch::{MAX_MODULES, MAX_TRANSFERS};
 
 /// How many pairs, and links that may be idle, a step of each length would use up.
@@ -51,7 +51,7 @@ fn count_pairs(lengths: &mut Lengths, remaining: &Remaining, zero: usize)
 }
 
 /// Counts for how many settings a link in use may be idle.
-fn count_rest(lengths: &mut Lengths, side: &Side, module: usize, most: usize)
+fn count_rest(lengths: &mut Lengths, side: &EndCounts, module: usize, most: usize)
     requires low { «module» < MAX_MODULES }
     requires few { most ≤ MAX_TRANSFERS }
 {
@@ -116,7 +116,7 @@ fn worth(reach: &Reach, full: (u32, u32), zero: usize, three: usize) -> u32
 }
 
 /// Puts in what the pairs of a link 0 are worth.
-fn add_worths(worths: &mut Worths, reach: &Reach, full: (u32, u32), zero: usize)
+fn add_worths(worths: &mut Weights, reach: &Reach, full: (u32, u32), zero: usize)
     requires { zero < MAX_MODULES }
 {
     let mut rest = reach.zero.near[zero];
@@ -128,7 +128,7 @@ fn add_worths(worths: &mut Worths, reach: &Reach, full: (u32, u32), zero: usize)
 }
 
 /// What each pair is worth that can be held for some of the settings.
-fn worths_of(remaining: &Remaining, reach: &Reach, left: usize, modules: usize) -> Worths
+fn worths_of(remaining: &Remaining, reach: &Reach, left: usize, modules: usize) -> Weights
     requires { modules ≤ MAX_MODULES }
 {
     let full = (
@@ -144,7 +144,7 @@ fn worths_of(remaining: &Remaining, reach: &Reach, left: usize, modules: usize) 
 
 /// Parts a link 0, where its pair can't be held so long, or has no worth.
 #[tactic(auto, using(crate::proofs::Matchings::partner_low))]
-fn part_pair(worths: &Worths, reach: &Reach, matching: &mut Matching, zero: usize)
+fn part_pair(worths: &Weights, reach: &Reach, matching: &mut Matching, zero: usize)
     requires { zero < MAX_MODULES }
     ensures near { (y : ℕ) → partner matching.new.zero zero ≡ Some y
         → has_pair reach.now.zero.near zero y ≡ true }
@@ -161,7 +161,7 @@ fn part_pair(worths: &Worths, reach: &Reach, matching: &mut Matching, zero: usiz
 }
 
 /// Parts all such links.
-fn part_some(worths: &Worths, reach: &Reach, matching: &mut Matching)
+fn part_some(worths: &Weights, reach: &Reach, matching: &mut Matching)
     ensures { AreNear reach.now.zero.near matching.new.zero }
 {
     for zero in 0..MAX_MODULES {
@@ -201,9 +201,9 @@ fn weighed(
     ensures joined { IfSome result (λ m.
         JoinsNeeded remaining.now.counts m.zero m.three most settings) }
 {
-    let reach = Reach::of(remaining, most, modules, settings, ORDERS[0]);
+    let reach = Reach::of(remaining, most, modules, settings, TRIAL_ORDERS[0]);
     let worths = worths_of(remaining, &reach, most - settings, modules);
-    let mut matching = heaviest(&worths, modules, looks)?;
+    let mut matching = heaviest_matching(&worths, modules, looks)?;
     part_some(&worths, &reach, &mut matching);
     if !are_joined(&matching.zero, reach.zero.needed)
         || !are_joined(&matching.three, reach.three.needed)
@@ -248,7 +248,7 @@ pub(crate) fn weighed_step(
         lengths[settings] = 0;
         if let Some(made) = weighed(remaining, most, modules, settings, looks) {
             *matching = made;
-            return Some(how_long(remaining, matching, most, modules));
+            return Some(longest_hold(remaining, matching, most, modules));
         }
     }
     None

@@ -7,10 +7,10 @@ use Rattle.crossbar.specs.declared.traffic.Passing.{Passing}
 use Rattle.switch_settings.specs.declared.rack_wiring.RackWiring.{RackWiring}
 use Rattle.switch_driver.specs.Driving.{HaveStood, IsDriven}
 use Rattle.switch_driver.specs.Hearings.{Hearing}
-use Rattle.switch_driver.specs.Lines.{stage_line, HasToldLine, TellsLine}
-use Rattle.switch_driver.specs.declared.driving.Driven.{Driven}
-use Rattle.switch_driver.specs.declared.driving.Driven.TheVariants.{Completed, Stopped, Halted}
-use Rattle.switch_driver.specs.declared.lines.Lines.{Lines}
+use Rattle.switch_driver.specs.Lines.{driven_line, HasToldLine, TellsLine}
+use Rattle.switch_driver.specs.declared.driving.DriveOutcome.{DriveOutcome}
+use Rattle.switch_driver.specs.declared.driving.DriveOutcome.TheVariants.{Completed, Stopped, Halted}
+use Rattle.switch_driver.specs.declared.lines.LineObserver.{LineObserver}
 use Rattle.switch_driver.specs.declared.drive_observer.Halt.{Halt}
 use Rattle.switch_driver.specs.declared.drive_observer.Halt.TheVariants.{Left, Unheard, Untold}
 
@@ -21,26 +21,26 @@ same_left : {I : Type 0} (remaining : I → Option (List ℕ)) (a b : MutBor I) 
 same_left {I} remaining a b e = ap (λ (m : MutBor I). remaining m.now) e
 
 -- what a line appended over the same loan, and what holds of the text and of what is left
-pub record LineText {I O : Type 0} (remaining : I → Option (List ℕ)) (contents : O → Option (List ℕ)) (waits : Bool) (setting : ℕ) (numbers : List ℕ) (said : Result (Unit {0}) Halt) (old new : Lines I O) : Type 0 where
+pub record LineText {I O : Type 0} (remaining : I → Option (List ℕ)) (contents : O → Option (List ℕ)) (waits : Bool) (setting : ℕ) (numbers : List ℕ) (said : Result (Unit {0}) Halt) (old new : LineObserver I O) : Type 0 where
   pub text : List ℕ
   pub appended : Appends (contents old.out.now) (contents new.out.now) text
   pub loan : new.out.ghost_name ≡ old.out.ghost_name
   pub kept : new.waits ≡ old.waits
   pub is : (front : List ℕ) → TellsLine waits (record { told = front; left = remaining old.input.now }) setting numbers said (record { told = front ++ text; left = remaining new.input.now })
 
-pub line_text : {I O : Type 0} (remaining : I → Option (List ℕ)) (contents : O → Option (List ℕ)) (waits : Bool) (setting : ℕ) (numbers : List ℕ) (said : Result (Unit {0}) Halt) (old new : Lines I O) → old.waits ≡ waits → HasToldLine remaining contents setting numbers said old new
+pub line_text : {I O : Type 0} (remaining : I → Option (List ℕ)) (contents : O → Option (List ℕ)) (waits : Bool) (setting : ℕ) (numbers : List ℕ) (said : Result (Unit {0}) Halt) (old new : LineObserver I O) → old.waits ≡ waits → HasToldLine remaining contents setting numbers said old new
     → LineText remaining contents waits setting numbers said old new
 line_text {I} {O} remaining contents waits setting numbers (Ok done) old new e h = record {
-  text = stage_line setting numbers;
+  text = driven_line setting numbers;
   appended = h.0;
   loan = h.1;
   kept = h.4;
   is = λ front. (refl, λ w. h.2 (waits_so e w), λ off. same_left remaining old.input new.input (h.3 (e ∙ off)));
 }
 line_text {I} {O} remaining contents waits setting numbers (Err Left) old new e h =
-    record { text = stage_line setting numbers; appended = h.0; loan = h.1; kept = h.4; is = λ front. (refl, waits_so (sym e) h.2, h.3) }
+    record { text = driven_line setting numbers; appended = h.0; loan = h.1; kept = h.4; is = λ front. (refl, waits_so (sym e) h.2, h.3) }
 line_text {I} {O} remaining contents waits setting numbers (Err Unheard) old new e h =
-    record { text = stage_line setting numbers; appended = h.0; loan = h.1; kept = h.4; is = λ front. (refl, waits_so (sym e) h.2, h.3) }
+    record { text = driven_line setting numbers; appended = h.0; loan = h.1; kept = h.4; is = λ front. (refl, waits_so (sym e) h.2, h.3) }
 line_text {I} {O} remaining contents waits setting numbers (Err Untold) old new e h =
     let cut = h.0 in
     record { text = cut.front; appended = cut.appended; loan = h.1; kept = h.3; is = λ front. (cut.front, cut.missing, cut.bytes_are, refl, same_left remaining old.input new.input h.2) }
@@ -57,7 +57,7 @@ module _ {S T X : Type 0} (hears : Hearing S) (overhears : Hearing T) (sees : S 
       (here.0, (mid, sees telling so.0, so.1, stood, here.1), here.2)
 
   -- so it is of all that is driven
-  pub driven_so : (how : Driven) (new : Option (List Passing)) (tells : S) → IsDriven hears rack batch settings first how old told new tells → (y : X) × IsDriven overhears rack batch settings first how old (sees told x) new (sees tells y) × Is tells y
+  pub driven_so : (how : DriveOutcome) (new : Option (List Passing)) (tells : S) → IsDriven hears rack batch settings first how old told new tells → (y : X) × IsDriven overhears rack batch settings first how old (sees told x) new (sees tells y) × Is tells y
   driven_so (Completed all) new tells h = let so = stood_so h.1.0 new tells h.1.2 in (so.0, (h.0, (h.1.0, h.1.1, so.1)), so.2)
   driven_so (Stopped k fault) new tells h =
       let so = stood_so h.count h.mid tells h.before in

@@ -13,8 +13,8 @@ use Rattle.switch_settings.specs.Settings.{numbers_in}
 use Rattle.switch_settings.specs.declared.rack_wiring.RackWiring.{RackWiring}
 use Rattle.switch_driver.specs.Hearings.{Hearing}
 use Rattle.switch_driver.specs.Steps.{HasStopped, Stands}
-use Rattle.switch_driver.specs.declared.driving.Driven.{Driven}
-use Rattle.switch_driver.specs.declared.driving.Driven.TheVariants.{Completed, Stopped, Halted}
+use Rattle.switch_driver.specs.declared.driving.DriveOutcome.{DriveOutcome}
+use Rattle.switch_driver.specs.declared.driving.DriveOutcome.TheVariants.{Completed, Stopped, Halted}
 use Rattle.switch_settings.specs.declared.fault.SettingFault.{SettingFault}
 use Rattle.switch_driver.specs.declared.drive_observer.Halt.{Halt}
 
@@ -77,7 +77,7 @@ pub record StopsDriving {S : Type 0} (hears : Hearing S)
 
 -- what passed and what was told, from the first setting that is driven to this end
 abbrev pub IsDriven : {S : Type 0} → Hearing S → RackWiring
-    → List Transfer → List (List ℕ) → ℕ → Driven → Option (List Passing) → S
+    → List Transfer → List (List ℕ) → ℕ → DriveOutcome → Option (List Passing) → S
     → Option (List Passing) → S → Type 0
 IsDriven {S} hears rack batch settings first (Completed all) old told new tells =
     (all ≡ length settings)
@@ -99,7 +99,7 @@ AreOfSetting {P} seen rack batch settings k old new =
 -- The port failed just where that is the cause, and an honest port has the switches of the setting
 -- that stood last.
 abbrev pub HasDriveCause : {P : Type 0} → Ghosts P → RackWiring → List Transfer → List (List ℕ)
-    → ℕ → Driven → P → P → Type 0
+    → ℕ → DriveOutcome → P → P → Type 0
 HasDriveCause {P} seen rack batch settings first (Completed all) old new =
     (seen.failures new ≡ seen.failures old)
     × ((k : ℕ) → first ≤ k → k + 1 ≡ all → AreOfSetting seen rack batch settings k old new)

@@ -5,7 +5,7 @@ use Rattle.std.specs.Fmt.{decimal}
 use Rattle.std.specs.List.{flat_map}
 use Rattle.std.specs.Io.KnownBytes.{Appends, Consumes, IsAtEnd}
 use Rattle.byte_streams.specs.Writing.{IsCutShort}
-use Rattle.switch_driver.specs.declared.lines.Lines.{Lines}
+use Rattle.switch_driver.specs.declared.lines.LineObserver.{LineObserver}
 use Rattle.switch_driver.specs.declared.drive_observer.Halt.{Halt}
 use Rattle.switch_driver.specs.declared.drive_observer.Halt.TheVariants.{Left, Unheard, Untold}
 
@@ -14,8 +14,8 @@ abbrev pub number_word : ℕ → List ℕ
 number_word t = codes " " ++ decimal t
 
 -- `setting K`, and after it the numbers of its transfers
-abbrev pub stage_line : ℕ → List ℕ → List ℕ
-stage_line setting numbers =
+abbrev pub driven_line : ℕ → List ℕ → List ℕ
+driven_line setting numbers =
     codes "setting " ++ decimal setting ++ flat_map number_word numbers ++ codes "\n"
 
 -- Bytes were read: where it went well, one line with its line feed, and nothing after it; else all
@@ -37,27 +37,27 @@ pub record HasWaitedInVain (input_before input_after : Option (List ℕ)) : Type
 -- ended, or couldn't be read; or not all of the line could be told, and nothing was read. It is told
 -- over the same loan.
 abbrev pub HasToldLine : {I O : Type 0} → (I → Option (List ℕ)) → (O → Option (List ℕ)) → ℕ → List ℕ
-    → Result (Unit {0}) Halt → Lines I O → Lines I O → Type 0
+    → Result (Unit {0}) Halt → LineObserver I O → LineObserver I O → Type 0
 HasToldLine {I} {O} remaining contents setting numbers (Ok done) old new =
-    Appends (contents old.out.now) (contents new.out.now) (stage_line setting numbers)
+    Appends (contents old.out.now) (contents new.out.now) (driven_line setting numbers)
     × (new.out.ghost_name ≡ old.out.ghost_name)
     × (IsTrue old.waits → HasWaited (remaining old.input.now) (remaining new.input.now) true)
     × (old.waits ≡ false → new.input ≡ old.input)
     × (new.waits ≡ old.waits)
 HasToldLine {I} {O} remaining contents setting numbers (Err Left) old new =
-    Appends (contents old.out.now) (contents new.out.now) (stage_line setting numbers)
+    Appends (contents old.out.now) (contents new.out.now) (driven_line setting numbers)
     × (new.out.ghost_name ≡ old.out.ghost_name)
     × IsTrue old.waits
     × HasWaited (remaining old.input.now) (remaining new.input.now) false
     × (new.waits ≡ old.waits)
 HasToldLine {I} {O} remaining contents setting numbers (Err Unheard) old new =
-    Appends (contents old.out.now) (contents new.out.now) (stage_line setting numbers)
+    Appends (contents old.out.now) (contents new.out.now) (driven_line setting numbers)
     × (new.out.ghost_name ≡ old.out.ghost_name)
     × IsTrue old.waits
     × HasWaitedInVain (remaining old.input.now) (remaining new.input.now)
     × (new.waits ≡ old.waits)
 HasToldLine {I} {O} remaining contents setting numbers (Err Untold) old new =
-    IsCutShort (contents old.out.now) (contents new.out.now) (stage_line setting numbers)
+    IsCutShort (contents old.out.now) (contents new.out.now) (driven_line setting numbers)
     × (new.out.ghost_name ≡ old.out.ghost_name)
     × (new.input ≡ old.input)
     × (new.waits ≡ old.waits)
@@ -72,18 +72,18 @@ pub record Dialogue : Type 0 where
 -- be told, a front of it stands there, and nothing was read.
 abbrev pub TellsLine : Bool → Dialogue → ℕ → List ℕ → Result (Unit {0}) Halt → Dialogue → Type 0
 TellsLine waits old setting numbers (Ok done) new =
-    (new.told ≡ old.told ++ stage_line setting numbers)
+    (new.told ≡ old.told ++ driven_line setting numbers)
     × (IsTrue waits → HasWaited old.left new.left true)
     × (waits ≡ false → new.left ≡ old.left)
 TellsLine waits old setting numbers (Err Left) new =
-    (new.told ≡ old.told ++ stage_line setting numbers)
+    (new.told ≡ old.told ++ driven_line setting numbers)
     × IsTrue waits
     × HasWaited old.left new.left false
 TellsLine waits old setting numbers (Err Unheard) new =
-    (new.told ≡ old.told ++ stage_line setting numbers)
+    (new.told ≡ old.told ++ driven_line setting numbers)
     × IsTrue waits
     × HasWaitedInVain old.left new.left
 TellsLine waits old setting numbers (Err Untold) new =
-    (front missing : List ℕ) × (stage_line setting numbers ≡ front ++ missing)
+    (front missing : List ℕ) × (driven_line setting numbers ≡ front ++ missing)
     × (new.told ≡ old.told ++ front)
     × (new.left ≡ old.left)

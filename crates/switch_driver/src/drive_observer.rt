@@ -22,7 +22,7 @@ pub trait DriveObserver {
 
     /// The setting of this number, of these transfers, stands. It may wait until the next one may
     /// come, or says why none is to.
-    fn stands(&mut self, setting: usize, numbers: &[usize]) -> Result<(), Halt>
+    fn on_setting(&mut self, setting: usize, numbers: &[usize]) -> Result<(), Halt>
         requires { length numbers.now ≤ MAX_MODULES }
         ensures { hears self.old setting numbers.now result self.new };
 }

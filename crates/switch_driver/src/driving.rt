@@ -16,7 +16,7 @@ use switch_settings::{PairList, RackWiring, SettingFault, numbers_of_setting};
 
 /// How the settings of a schedule were put on the switches. Settings are counted from 0.
 #[derive(Clone, Copy)]
-pub enum Driven {
+pub enum DriveOutcome {
     /// All settings stood, one after another.
     Completed { settings: usize },
     /// The switches couldn't be set to this setting.
@@ -39,7 +39,7 @@ pub fn drive<P: ConfigPort, S: DriveObserver>(
     schedule: &Schedule,
     first: usize,
     stage: &mut S,
-) -> Driven
+) -> DriveOutcome
     requires few { wired_in rack ≤ PORTS }
     requires modules { HasModulesOf (wired_in rack) batch.now }
     requires schedule { IsScheduleOf batch.now schedule.now }
@@ -58,12 +58,12 @@ pub fn drive<P: ConfigPort, S: DriveObserver>(
         let numbers = numbers_of_setting(batch, schedule, setting);
         let pairs = PairList::of_setting(batch, numbers);
         if let Err(fault) = set_rack(port, rack, &standing, pairs.as_slice()) {
-            return Driven::Stopped { setting, fault };
+            return DriveOutcome::Stopped { setting, fault };
         }
-        if let Err(halt) = stage.stands(setting, numbers) {
-            return Driven::Halted { setting, halt };
+        if let Err(halt) = stage.on_setting(setting, numbers) {
+            return DriveOutcome::Halted { setting, halt };
         }
         standing = Some(pairs);
     }
-    Driven::Completed { settings }
+    DriveOutcome::Completed { settings }
 }

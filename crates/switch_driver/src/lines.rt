@@ -2,7 +2,7 @@
 
 ghost use Rattle.std.specs.Prelude.{◌≡◌, ◌≤◌, length, IfOk, OnErr};
 ghost use Rattle.batch.specs.declared.limits.TheConstants.{MAX_MODULES};
-ghost use Rattle.switch_driver.specs.Lines.{stage_line, HasWaited, HasWaitedInVain};
+ghost use Rattle.switch_driver.specs.Lines.{driven_line, HasWaited, HasWaitedInVain};
 
 use crate::drive_observer::{DriveObserver, Halt};
 use byte_streams::{read_byte, write_bytes};
@@ -13,22 +13,22 @@ use std::io::{ErrorKind, Read, Write};
 /// A stage that tells each setting that stands by a line `setting K T T ..`, flushed, and then
 /// waits for a line, if it is to. Where the input has ended, no setting is wanted any more.
 #[derive(Drop)]
-pub struct Lines<'a, I, O> {
+pub struct LineObserver<'a, I, O> {
     input: &'a mut I,
     out: &'a mut O,
     waits: bool,
     reason: Option<io::Error>,
 }
 
-impl<'a, I, O> Lines<'a, I, O> {
+impl<'a, I, O> LineObserver<'a, I, O> {
     /// Settings are told on `out`, and a line of `input` is waited for after each, if it `waits`.
-    pub fn new(input: &'a mut I, out: &'a mut O, waits: bool) -> Lines<'a, I, O>
+    pub fn new(input: &'a mut I, out: &'a mut O, waits: bool) -> LineObserver<'a, I, O>
         ensures input { (result.input.ghost_name ≡ input.entry.ghost_name)
             × (result.input.now ≡ input.old) }
         ensures out { (result.out.ghost_name ≡ out.entry.ghost_name) × (result.out.now ≡ out.old) }
         ensures waits { result.waits ≡ waits }
     {
-        Lines {
+        LineObserver {
             input,
             out,
             waits,
@@ -57,7 +57,7 @@ impl<'a, I, O> Lines<'a, I, O> {
 /// The line of a setting of these transfers.
 fn line_of(setting: usize, numbers: &[usize]) -> Line
     requires { length numbers.now ≤ MAX_MODULES }
-    ensures { result ≡ stage_line setting numbers.now }
+    ensures { result ≡ driven_line setting numbers.now }
 {
     let mut line = Line::new();
     line.put(b"setting ");
@@ -89,13 +89,13 @@ fn wait_line<I: Read>(reader: &mut I) -> io::Result<bool>
     Err(io::Error::from(ErrorKind::TimedOut))
 }
 
-impl<I: Read, O: Write> DriveObserver for Lines<'_, I, O> {
+impl<I: Read, O: Write> DriveObserver for LineObserver<'_, I, O> {
     ghost use Rattle.switch_driver.specs.Lines.{HasToldLine};
 
     ghost hears = { λ old setting numbers said new.
         HasToldLine I.remaining O.contents setting numbers said old new };
 
-    fn stands(&mut self, setting: usize, numbers: &[usize]) -> Result<(), Halt> {
+    fn on_setting(&mut self, setting: usize, numbers: &[usize]) -> Result<(), Halt> {
         let line = line_of(setting, numbers);
         if let Err(why) = write_bytes(self.out, line.as_bytes()) {
             self.reason = Some(why);

@@ -6,7 +6,7 @@ ghost use Rattle.crossbar.specs.Traffic.{HaveConversed, BreaksOff};
 ghost use Rattle.switch_driver.specs.Ports.{PortCameUp, HasTried, IsUpOnce, LineCarries, fresh_port};
 ghost use Rattle.switch_driver.specs.Streams.{HasPassed};
 
-use crate::coming_up::come_up;
+use crate::switch_start::start_switch;
 use crate::stream::{StreamFault, SwitchStream, converse};
 use byte_streams::FailureCount;
 use crossbar::{Chip, ConfigPort, PortFault, Traffic};
@@ -45,7 +45,7 @@ impl<I: Read, O: Write> SwitchLine<I, O> {
         if self.is_up {
             return Ok(());
         }
-        come_up(chip, &mut self.stream, came_up)?;
+        start_switch(chip, &mut self.stream, came_up)?;
         self.is_up = true;
         Ok(())
     }

@@ -18,7 +18,7 @@ ghost use Rattle.switch_driver.specs.Steps.{HasStopped, Stands, settled_steps};
 
 use c004_commands::{Command, LONGEST_COMMAND, PORTS, PortNo, write};
 use crossbar::{Chip, ConfigPort, JOINED_MODULES, Pair, PortFault, Wiring};
-use switch_settings::{PairList, RackWiring, SettingFault, judge, port_of, turn, wanted_switch};
+use switch_settings::{PairList, RackWiring, SettingFault, judge, port_of, send_setting, wanted_switch};
 
 /// Sets the switches of a rack to the pairs, from the pairs that stand if they are known, and asks
 /// all outputs whether they are so set. Each reply is judged as it comes. Then the switches are
@@ -91,7 +91,7 @@ fn set_one<P: ConfigPort>(
         BreakOff fault standing.now pairs.now (settled_steps ((A, wiring) ∷ []))
         (P.passed port.old) (P.passed port.new)) }
 {
-    turn(port, Chip::A, wiring, standing, pairs)?;
+    send_setting(port, Chip::A, wiring, standing, pairs)?;
     ask_all(port, Chip::A, wiring, pairs)?;
     send(port, Chip::A, Command::Settle, &mut [])?;
     Ok(())
@@ -118,8 +118,8 @@ fn set_both<P: ConfigPort>(
         BreakOff fault standing.now pairs.now (settled_steps (wirings true))
         (P.passed port.old) (P.passed port.new)) }
 {
-    turn(port, Chip::A, Wiring::Forth, standing, pairs)?;
-    turn(port, Chip::B, Wiring::Back, standing, pairs)?;
+    send_setting(port, Chip::A, Wiring::Forth, standing, pairs)?;
+    send_setting(port, Chip::B, Wiring::Back, standing, pairs)?;
     ask_all(port, Chip::A, Wiring::Forth, pairs)?;
     ask_all(port, Chip::B, Wiring::Back, pairs)?;
     send(port, Chip::A, Command::Settle, &mut [])?;

@@ -21,7 +21,7 @@ use Rattle.std.proofs.lemmas.List.Elements.{All-head, All-tail, All-cons}
 use Rattle.std.proofs.lemmas.Option.{same_Some, none-some}
 use Rattle.batch.specs.declared.transfer.Transfer.{Transfer}
 use Rattle.batch.specs.Overlap.{transfer_at}
-use Rattle.batch.specs.Extent.{widest}
+use Rattle.batch.specs.ShapeView.{widest}
 use Rattle.batch.specs.Batches.{IsBatch}
 use Rattle.batch.specs.Text.{IsWithin}
 use Rattle.crossbar.specs.declared.switch.TheConstants.{JOINED_MODULES}

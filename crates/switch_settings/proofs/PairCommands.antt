@@ -21,8 +21,8 @@ use Rattle.switch_settings.specs.Pairs.{command_of, longest_setting, longest_cha
 use Rattle.switch_settings.specs.Sending.{turning}
 use Rattle.crossbar.specs.declared.pair.Pair.{Pair}
 use Rattle.crossbar.proofs.Changes.{without_none}
-use Rattle.switch_settings.specs.declared.bytes.Way.{Way}
-use Rattle.switch_settings.specs.declared.bytes.Way.TheVariants.{Join, Cut}
+use Rattle.switch_settings.specs.declared.bytes.PairChange.{PairChange}
+use Rattle.switch_settings.specs.declared.bytes.PairChange.TheVariants.{Join, Cut}
 
 pub pair_at : (m : ℕ) (ps : List Pair) (i : ℕ) (d : Pair) → ArePairs m ps → i < length ps → ((get_or ps i d).initiator < m) × ((get_or ps i d).responder < m)
 pair_at m [] i d a h = absurd (omega arith)
@@ -45,7 +45,7 @@ link0_had w m lt = (had (links_of w) m unwired w.own lt).0
 link3_had : (w : BoardWiring) (m : ℕ) → m < length (links_of w) → link3_on w m < PORTS
 link3_had w m lt = (had (links_of w) m unwired w.own lt).1
 
-one_command : (way : Way) (w : Wiring) (p : Pair) → p.initiator < room_of w → p.responder < room_of w → AreCommands (command_of way w p ∷ [])
+one_command : (way : PairChange) (w : Wiring) (p : Pair) → p.initiator < room_of w → p.responder < room_of w → AreCommands (command_of way w p ∷ [])
 one_command Join Both p a b = ((omega arith, (omega arith, tt)), tt)
 one_command Cut Both p a b = ((omega arith, (omega arith, tt)), tt)
 one_command Join Forth p a b = ((a, (b, tt)), tt)
@@ -55,15 +55,15 @@ one_command Cut Back p a b = ((a, tt), tt)
 one_command Join (Board w) p a b = (((link0_had w p.initiator a), (link3_had w p.responder b, tt)), tt)
 one_command Cut (Board w) p a b = (((link0_had w p.initiator a), (link3_had w p.responder b, tt)), tt)
 
-kept : (b : Bool) (way : Way) (w : Wiring) (p : Pair) (ps : List Pair) → p.initiator < room_of w → p.responder < room_of w → AreCommands (map (command_of way w) ps) → AreCommands (map (command_of way w) (cond b (p ∷ ps) ps))
+kept : (b : Bool) (way : PairChange) (w : Wiring) (p : Pair) (ps : List Pair) → p.initiator < room_of w → p.responder < room_of w → AreCommands (map (command_of way w) ps) → AreCommands (map (command_of way w) (cond b (p ∷ ps) ps))
 kept true way w p ps a b r = ((one_command way w p a b).0, r)
 kept false way w p ps a b r = r
 
-way_commands : (way : Way) (w : Wiring) (others ps : List Pair) → ArePairs (room_of w) ps → AreCommands (map (command_of way w) (without others ps))
+way_commands : (way : PairChange) (w : Wiring) (others ps : List Pair) → ArePairs (room_of w) ps → AreCommands (map (command_of way w) (without others ps))
 way_commands way w others [] a = tt
 way_commands way w others (p ∷ ps) a = kept (not (list_any (is_pair p) others)) way w p (without others ps) a.0 a.1 (way_commands way w others ps a.4)
 
-quiet_before : (way : Way) (w : Wiring) (ps : List Pair) (ds : List Command) → enquiries ds ≡ 0 → enquiries (map (command_of way w) ps ++ ds) ≡ 0
+quiet_before : (way : PairChange) (w : Wiring) (ps : List Pair) (ds : List Command) → enquiries ds ≡ 0 → enquiries (map (command_of way w) ps ++ ds) ≡ 0
 quiet_before way w [] ds h = h
 quiet_before Join Both (p ∷ ps) ds h = quiet_before Join Both ps ds h
 quiet_before Cut Both (p ∷ ps) ds h = quiet_before Cut Both ps ds h

@@ -12,26 +12,26 @@ use Rattle.crossbar.specs.Pairs.{room_of, join, cut, without}
 use Rattle.crossbar.specs.declared.chip.Wiring.{Wiring}
 use Rattle.crossbar.specs.declared.chip.Wiring.TheVariants.{Both, Forth, Back, Board}
 use Rattle.crossbar.specs.declared.pair.Pair.{Pair}
-use Rattle.switch_settings.specs.declared.bytes.Way.{Way}
-use Rattle.switch_settings.specs.declared.bytes.Way.TheVariants.{Join, Cut}
+use Rattle.switch_settings.specs.declared.bytes.PairChange.{PairChange}
+use Rattle.switch_settings.specs.declared.bytes.PairChange.TheVariants.{Join, Cut}
 
 -- the command that joins or parts a pair
-abbrev pub command_of : Way → Wiring → Pair → Command
+abbrev pub command_of : PairChange → Wiring → Pair → Command
 command_of Join wiring pair = join wiring pair
 command_of Cut wiring pair = cut wiring pair
 
 -- the command that joins two links, or parts them
-abbrev pub both_ways_command : Way → ℕ → ℕ → Command
+abbrev pub both_ways_command : PairChange → ℕ → ℕ → Command
 both_ways_command Join link1 link2 = JoinLinks link1 link2
 both_ways_command Cut link1 link2 = CutPair link1 link2
 
 -- the command that connects an output to an input, or disconnects it
-abbrev pub one_way_command : Way → ℕ → ℕ → Command
+abbrev pub one_way_command : PairChange → ℕ → ℕ → Command
 one_way_command Join input output = Connect input output
 one_way_command Cut input output = CutOutput output
 
 -- the commands that join or cut those pairs that aren't among others
-abbrev pub commands_of : Way → Wiring → List Pair → List Pair → List Command
+abbrev pub commands_of : PairChange → Wiring → List Pair → List Pair → List Command
 commands_of way wiring others pairs = map (command_of way wiring) (without others pairs)
 
 -- how many bytes the command has that parts a pair

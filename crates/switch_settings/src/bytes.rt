@@ -20,7 +20,7 @@ pub const ENQUIRY_BYTES: usize = 2 * (PORTS as usize);
 
 /// What becomes of a pair.
 #[derive(Clone, Copy)]
-enum Way {
+enum PairChange {
     Join,
     Cut,
 }
@@ -43,7 +43,7 @@ pub fn put_setting(wiring: Wiring, pairs: &[Pair], out: &mut [u8]) -> usize
 {
     laws::setting();
     let begun = put(out, 0, Command::Reset);
-    let joined = put_pairs(out, begun, Way::Join, wiring, pairs, &[]);
+    let joined = put_pairs(out, begun, PairChange::Join, wiring, pairs, &[]);
     put(out, joined, Command::Settle)
 }
 
@@ -62,8 +62,8 @@ pub fn put_change(wiring: Wiring, old: &[Pair], new: &[Pair], out: &mut [u8]) ->
     ensures room { result ≤ longest_change wiring }
 {
     laws::change();
-    let cut = put_pairs(out, 0, Way::Cut, wiring, old, new);
-    let changed = put_pairs(out, cut, Way::Join, wiring, new, old);
+    let cut = put_pairs(out, 0, PairChange::Cut, wiring, old, new);
+    let changed = put_pairs(out, cut, PairChange::Join, wiring, new, old);
     put(out, changed, Command::Settle)
 }
 
@@ -86,7 +86,7 @@ pub fn enquiry_bytes() -> [u8; ENQUIRY_BYTES]
 fn put_pairs(
     out: &mut [u8],
     stand: usize,
-    way: Way,
+    way: PairChange,
     wiring: Wiring,
     pairs: &[Pair],
     others: &[Pair],
@@ -120,7 +120,7 @@ fn is_among(pair: Pair, others: &[Pair]) -> bool
 }
 
 /// The command that joins or parts a pair.
-fn to_command(way: Way, wiring: Wiring, pair: Pair) -> Command
+fn to_command(way: PairChange, wiring: Wiring, pair: Pair) -> Command
     requires { Fits wiring pair }
     ensures { result ≡ command_of way wiring pair }
 {
@@ -133,7 +133,7 @@ fn to_command(way: Way, wiring: Wiring, pair: Pair) -> Command
 }
 
 /// The command that joins or parts both ends of a pair where a board has them.
-fn on_board(way: Way, board: &BoardWiring, pair: Pair) -> Command
+fn on_board(way: PairChange, board: &BoardWiring, pair: Pair) -> Command
     requires { Fits (Board board.now) pair }
     ensures { result ≡ command_of way (Board board.now) pair }
 {
@@ -143,26 +143,26 @@ fn on_board(way: Way, board: &BoardWiring, pair: Pair) -> Command
 }
 
 /// The command that joins two links, or parts them.
-fn both_ways(way: Way, link1: u8, link2: u8) -> Command
+fn both_ways(way: PairChange, link1: u8, link2: u8) -> Command
     requires { (link1 < PORTS) × (link2 < PORTS) }
     ensures { result ≡ both_ways_command way link1 link2 }
 {
     let (link1, link2) = (port_of(link1), port_of(link2));
     match way {
-        Way::Join => Command::Join { link1, link2 },
-        Way::Cut => Command::CutPair { link1, link2 },
+        PairChange::Join => Command::Join { link1, link2 },
+        PairChange::Cut => Command::CutPair { link1, link2 },
     }
 }
 
 /// The command that connects an output to an input, or disconnects it.
-fn one_way(way: Way, input: u8, output: u8) -> Command
+fn one_way(way: PairChange, input: u8, output: u8) -> Command
     requires { (input < PORTS) × (output < PORTS) }
     ensures { result ≡ one_way_command way input output }
 {
     let (input, output) = (port_of(input), port_of(output));
     match way {
-        Way::Join => Command::Connect { input, output },
-        Way::Cut => Command::Cut { output },
+        PairChange::Join => Command::Connect { input, output },
+        PairChange::Cut => Command::Cut { output },
     }
 }
 

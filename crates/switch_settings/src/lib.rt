@@ -1,7 +1,7 @@
 //! What a setting of a batch's schedule is to the switches of a rack: the pairs of modules that its
 //! transfers want joined, the bytes that set the switches to them, and the conversation in which
 //! a run sets them and asks whether they stand so. What a drive shares with it stands here too:
-//! [`turn`] sends, and [`judge`] judges one reply by the [`wanted_switch`].
+//! [`send_setting`] sends, and [`judge`] judges one reply by the [`wanted_switch`].
 //!
 //! [`PairList::of_setting`] gives the pairs by ascending initiators. [`bytes_for`] writes what a
 //! switch is sent, `turning` of `specs/Sending.antt`: a setting where no pairs are known to stand,
@@ -39,6 +39,6 @@ pub use numbers::{numbers_of_setting, transfer_of};
 pub use pair_list::PairList;
 pub use rack::is_wide;
 pub use rack_wiring::RackWiring;
-pub use sending::{bytes_for, turn};
+pub use sending::{bytes_for, send_setting};
 pub use short_list::{Blank, ShortList};
 pub use switching::configure_switches;

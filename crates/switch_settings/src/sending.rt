@@ -15,7 +15,7 @@ use crate::bytes::{WIDE_CHANGE_BYTES, put_change, put_setting};
 use crate::pair_list::PairList;
 use crossbar::{Chip, ConfigPort, Pair, PortFault, Wiring};
 
-/// Writes the bytes that [`turn`] sends to a switch of this wiring to set it to the pairs, and
+/// Writes the bytes that [`send_setting`] sends to a switch of this wiring to set it to the pairs, and
 /// gives their number: the change from the pairs that stand if they are known ([`put_change`]),
 /// else the setting of any switch ([`put_setting`]). What stands in `out` after them isn't said.
 ///
@@ -46,7 +46,7 @@ pub fn bytes_for(
 
 /// Sends a switch of this wiring the bytes that set it to the pairs, from the pairs that stand if
 /// they are known. Both are as [`bytes_for`] wants them.
-pub fn turn<P: ConfigPort>(
+pub fn send_setting<P: ConfigPort>(
     port: &mut P,
     chip: Chip,
     wiring: Wiring,

@@ -15,7 +15,7 @@ use crate::bytes::{enquiry_bytes, port_of};
 use crate::fault::SettingFault;
 use crate::judging::{judge, wanted_switch};
 use crate::pair_list::PairList;
-use crate::sending::turn;
+use crate::sending::send_setting;
 use c004_commands::PORTS;
 use crossbar::{Chip, ConfigPort, JOINED_MODULES, Pair, PortFault, Wiring};
 
@@ -77,7 +77,7 @@ fn configure_one<P: ConfigPort>(
     ensures vain { IfErr result (λ fault. HasPassedFor false fault standing.now pairs.now
         (P.passed port.old) (P.passed port.new)) }
 {
-    turn(port, Chip::A, Wiring::Both, standing, pairs)?;
+    send_setting(port, Chip::A, Wiring::Both, standing, pairs)?;
     let replies = enquire(port, Chip::A)?;
     judge_all(Chip::A, Wiring::Both, pairs, &replies)
 }
@@ -101,8 +101,8 @@ fn configure_both<P: ConfigPort>(
     ensures vain { IfErr result (λ fault. HasPassedFor true fault standing.now pairs.now
         (P.passed port.old) (P.passed port.new)) }
 {
-    turn(port, Chip::A, Wiring::Forth, standing, pairs)?;
-    turn(port, Chip::B, Wiring::Back, standing, pairs)?;
+    send_setting(port, Chip::A, Wiring::Forth, standing, pairs)?;
+    send_setting(port, Chip::B, Wiring::Back, standing, pairs)?;
     let of_a = enquire(port, Chip::A)?;
     let of_b = enquire(port, Chip::B)?;
     judge_all(Chip::A, Wiring::Forth, pairs, &of_a)?;

@@ -3,7 +3,7 @@
 ghost use Rattle.std.specs.Prelude.{◌≡◌, [], true, IfSome};
 
 use batch::Shape;
-use batch_book::{Book, History, Silent};
+use batch_book::{Book, History, NullHistory};
 use module_memory::Rack;
 use std::alloc::{AllocError, Global};
 use std::io;
@@ -11,10 +11,10 @@ use std::io::Write;
 use std::thread::yield_now;
 
 /// A book of a rack of one module with two words.
-pub fn small_book(alloc: Global) -> Option<Book<Silent>>
+pub fn small_book(alloc: Global) -> Option<Book<NullHistory>>
     ensures whole { IfSome result (λ book. book.whole ≡ true) }
     ensures empty { IfSome result (λ book. book.history ≡ []) }
-    ensures stands { IfSome result (λ book. book.stands ≡ []) }
+    ensures durable { IfSome result (λ book. book.durable ≡ []) }
 {
     let Ok(shape) = Shape::new(1, 1, 2) else {
         return None;
@@ -22,7 +22,7 @@ pub fn small_book(alloc: Global) -> Option<Book<Silent>>
     let Ok(rack) = Rack::new(alloc, shape) else {
         return None;
     };
-    match Book::with(alloc, rack, Silent::new()) {
+    match Book::with(alloc, rack, NullHistory::new()) {
         Ok(book) => Some(book),
         Err(_) => None,
     }

@@ -6,7 +6,7 @@ ghost use Rattle.std.specs.Prelude.{⊤};
 
 use drive_answers::{DriveEnd, DriveFault, PortFailure, PortNames, PortTrace, Ports, answer_drive};
 use exchange_limits::WorkerCount;
-use plan_answers::{DONE, REFUSED, Source};
+use plan_answers::{DONE, REFUSED, ScheduleSource};
 use refusals::{PortName, Refusal};
 use std::alloc::{AllocError, Global};
 use std::io;
@@ -328,7 +328,7 @@ impl DriveObserver for DeskStage<'_> {
 
     ghost hears = { λ _ _ _ _ _. ⊤ };
 
-    fn stands(&mut self, setting: usize, numbers: &[usize]) -> Result<(), Halt> {
+    fn on_setting(&mut self, setting: usize, numbers: &[usize]) -> Result<(), Halt> {
         if numbers != [setting].as_slice() || !self.desk.make(Step::Told(setting)) {
             return Err(Halt::Left);
         }
@@ -355,7 +355,7 @@ fn answer_from<R: AllocGlobal + Threads + Sync>(
         port_b: None,
     };
     let mut stage = DeskStage { desk, says };
-    let source = Source::Text(SCHEDULE);
+    let source = ScheduleSource::Text(SCHEDULE);
     let (alloc, one) = (rt.alloc(), WorkerCount::ONE);
     answer_drive(
         rt, alloc, wiring, BATCH, source, one, first, names, &mut ports, &mut stage,

@@ -8,12 +8,12 @@ ghost use Rattle.answers_tests.specs.Known.{known_clients};
 
 use crate::tests::books::{FailsOnce, is_left, small_book};
 use batch_book::{Book, EntryLog, History};
-use book_record::stream_on;
+use book_record::attach_stream;
 use client_session::ServeFault;
 use exchange_limits::WorkerCount;
 use plan_answers::Answer;
 use refusals::Refusal;
-use session_answers::{ClientStreams, Closing, Ending, Hosted, ThreadsStarted, host_on};
+use session_answers::{ClientStreams, ClosedSessions, Ending, Hosted, ThreadsStarted, host_on};
 use std::alloc::Global;
 use std::io;
 use std::io::ErrorKind;
@@ -71,7 +71,7 @@ fn host_known<K: History + Send, R: Clock + Threads + Wait + Sync>(
     said: &[&[u8]],
 ) -> Result<Hosted<Vec<u8>, K>, (Refusal, Book<K>)>
     requires whole { book.whole ≡ true }
-    requires stand { book.stands ≡ book.history }
+    requires stand { book.durable ≡ book.history }
     requires unstopped { AreUnstopped book.history }
     requires some { 1 ≤ length said.now }
     requires few { length said.now ≤ MAX_SESSIONS }
@@ -179,10 +179,10 @@ fn host_recorded<R: Clock + Threads + Wait + Sync>(
     requires few { length said.now ≤ MAX_SESSIONS }
 {
     let book = small_book(alloc)?;
-    let book = stream_on::<FailsOnce, Brand>(alloc, book, 0, FailsOnce { good }, false);
+    let book = attach_stream::<FailsOnce, Brand>(alloc, book, 0, FailsOnce { good }, false);
     match host_known(rt, alloc, book, said) {
         Ok(Hosted { closing, endings }) => {
-            let Closing { answer, book } = closing;
+            let ClosedSessions { answer, book } = closing;
             Some((endings, answer, book.log().is_whole()))
         }
         Err(_) => None,

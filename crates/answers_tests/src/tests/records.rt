@@ -3,12 +3,12 @@
 //! was cut.
 
 use crate::tests::books::small_book;
-use book_record::{session_limit, stream_off, stream_on};
+use book_record::{session_limit, detach_stream, attach_stream};
 use client_session::NoListener;
 use exchange_limits::WorkerCount;
 use record_replay::{RecordFault, replay};
 use runs_tests::common::zeros;
-use session_answers::{Closing, talk_on};
+use session_answers::{ClosedSessions, talk_on};
 use std::alloc::Global;
 use std::io;
 use std::io::{Read, Write};
@@ -112,7 +112,7 @@ fn stops_at<R: Clock + Threads + Wait + Sync>(
         room,
         once,
     };
-    let book = stream_on::<Sheet<'_>, Brand>(alloc, book, 0, sheet, false);
+    let book = attach_stream::<Sheet<'_>, Brand>(alloc, book, 0, sheet, false);
     let mut said = b"peek 0 80000800\n"
         .as_slice()
         .chain(b"poke 0 80000800 00000005\n".as_slice())
@@ -122,10 +122,10 @@ fn stops_at<R: Clock + Threads + Wait + Sync>(
         told: 0,
     };
     let ended = talk_on(rt, alloc, book, &mut said, &mut hearer, &mut NoListener);
-    let Ok(Closing { answer: _, book }) = ended else {
+    let Ok(ClosedSessions { answer: _, book }) = ended else {
         return false;
     };
-    let (_, sheet, _) = stream_off(book);
+    let (_, sheet, _) = detach_stream(book);
     Some(sheet.taken.as_slice()) == RECORD.get(..room) && hearer.told == whole_in(room)
 }
 

@@ -2,9 +2,9 @@
 
 use crate::tests::books::{FailsOnce, small_book};
 use batch_book::EntryLog;
-use book_record::stream_on;
+use book_record::attach_stream;
 use client_session::NoListener;
-use session_answers::{Closing, talk_on};
+use session_answers::{ClosedSessions, talk_on};
 use std::alloc::Global;
 use std::io::Read;
 use std::marker::Brand;
@@ -25,9 +25,9 @@ fn breaks_off<R: Clock + Threads + Wait + Sync, I: Read>(
     let Some(book) = small_book(alloc) else {
         return false;
     };
-    let book = stream_on::<FailsOnce, Brand>(alloc, book, 0, FailsOnce { good }, false);
+    let book = attach_stream::<FailsOnce, Brand>(alloc, book, 0, FailsOnce { good }, false);
     match talk_on(rt, alloc, book, said, &mut told, &mut NoListener) {
-        Ok(Closing { answer, book }) => {
+        Ok(ClosedSessions { answer, book }) => {
             let is_told = told.as_slice() == hears.as_bytes();
             let is_answer = answer.text() == b"ended record\n".as_slice();
             let is_whole = book.log().is_whole();

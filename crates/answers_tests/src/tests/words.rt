@@ -2,7 +2,7 @@
 
 use command_words::{Job, PortJob, SessionJob, Text, TextJob, read_arguments};
 use exchange_limits::WorkerCount;
-use plan_answers::{Planning, Source};
+use plan_answers::{Planning, ScheduleSource};
 use std::alloc::{AllocError, Global};
 
 /// What words say of how their schedule is made.
@@ -23,11 +23,11 @@ fn push_words(alloc: Global, words: &mut Vec<String>, line: &str) -> Result<(), 
 }
 
 /// What a source of a schedule says of it, where so many workers may plan.
-fn said_of(source: &Source<Text>, workers: WorkerCount) -> Said<'_> {
+fn said_of(source: &ScheduleSource<Text>, workers: WorkerCount) -> Said<'_> {
     match source {
-        Source::Plan(Planning::Plain) => Said::Workers(workers.get()),
-        Source::Plan(Planning::Steady) => Said::Steady,
-        Source::Text(file) => Said::File(file.as_str()),
+        ScheduleSource::Plan(Planning::Plain) => Said::Workers(workers.get()),
+        ScheduleSource::Plan(Planning::Steady) => Said::Steady,
+        ScheduleSource::Text(file) => Said::File(file.as_str()),
     }
 }
 

@@ -1,4 +1,4 @@
-use Rattle.batch.specs.Extent.{widest}
+use Rattle.batch.specs.ShapeView.{widest}
 use Rattle.plan_answers.specs.Counting.{IsCounted}
 use Rattle.exchange_c.proofs.Writing.{left}
 use Rattle.exchange_c.proofs.exchange_changes.Goals as goal

@@ -1,5 +1,5 @@
 use Rattle.std.proofs.Common.{None}
-use Rattle.batch.specs.Extent.{widest}
+use Rattle.batch.specs.ShapeView.{widest}
 use Rattle.plan_answers.specs.Drawings.{IsDrawn}
 use Rattle.exchange_c.proofs.Writing.{left}
 use Rattle.exchange_c.proofs.exchange_draw.Goals as goal

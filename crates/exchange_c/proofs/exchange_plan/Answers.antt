@@ -1,4 +1,4 @@
-use Rattle.batch.specs.Extent.{widest}
+use Rattle.batch.specs.ShapeView.{widest}
 use Rattle.plan_answers.specs.Answers.{IsPlanned}
 use Rattle.plan_answers.specs.declared.source.Planning.TheVariants.{Plain}
 use Rattle.exchange_c.proofs.Writing.{left}

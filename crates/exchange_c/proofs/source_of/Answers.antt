@@ -1,7 +1,7 @@
 use Rattle.std.proofs.Common.{◌≡◌, [], ◌∷◌, ℕ, List, length, refl, arith}
 use Rattle.std.proofs.lemmas.Grind.{common_steps}
 use Rattle.plan_answers.specs.declared.source.Planning.TheVariants.{Plain}
-use Rattle.plan_answers.specs.declared.source.Source.TheVariants.{Plan, Text}
+use Rattle.plan_answers.specs.declared.source.ScheduleSource.TheVariants.{Plan, Text}
 use Rattle.exchange_c.specs.Switching.{source_for}
 use Rattle.exchange_c.proofs.source_of.Goals as goal
 

@@ -4,6 +4,6 @@
 mod days;
 mod exchange;
 mod readings;
-mod settles;
+mod syncs;
 mod sizes;
 mod ways;

@@ -1,6 +1,6 @@
 //! An exchange with two seats, what they ask, and what they are answered as plain values.
 
-ghost use Rattle.batch_book.specs.History.{new_account};
+ghost use Rattle.batch_book.specs.History.{new_book_view};
 ghost use Rattle.batch_book.specs.Naming.{IsNamed};
 ghost use Rattle.std.specs.Prelude.{◌≡◌, All, IfSome, Some};
 ghost use Rattle.progress_word.specs.declared.limits.TheConstants.{ALL_PARTS};
@@ -137,7 +137,7 @@ pub fn open_pair<L: ExchangeName, W: WireMaker + Drop, G: Drop>(
     rack: Rack,
     plant: Plant<MemoryPort, W, G>,
 ) -> Option<Pair<L, W, G>>
-    requires named { IsNamed L.name L.parts L.table L.opening L.earlier blank (new_account rack) }
+    requires named { IsNamed L.name L.parts L.table L.opening L.earlier blank (new_book_view rack) }
     ensures first { IfSome result (λ pair. pair.first.log ≡ pair.first.asked) }
     ensures second { IfSome result (λ pair. pair.second.log ≡ pair.second.asked) }
 {

@@ -1,6 +1,6 @@
 ghost use Rattle.std.specs.Prelude.{◌≡◌, [], ◌∷◌, codes};
 ghost use Rattle.batch.specs.Text.{batch_text};
-ghost use Rattle.batch.specs.Extent.{extent, widest};
+ghost use Rattle.batch.specs.ShapeView.{extent, widest};
 ghost use Rattle.batch.specs.ShapeText.{shape_text};
 ghost use Rattle.batch.specs.Rows.{pull, three_transfers, three_transfers_text};
 

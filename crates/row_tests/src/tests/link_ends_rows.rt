@@ -4,7 +4,7 @@
 use super::prints::prints;
 use super::streams::{Sender, Taker};
 use c004_commands::CommandFault;
-use link_ends::{EndFault, SwitchEnd, answer_commands};
+use link_devices::{EndFault, SwitchEnd, answer_commands};
 use std::alloc::Global;
 use std::io::{Error, ErrorKind};
 use std::sync::atomic::{AtomicUsize, Ordering};

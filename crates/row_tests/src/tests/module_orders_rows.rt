@@ -9,7 +9,7 @@ use super::texts::read;
 use batch::Batch;
 use link_graph::{Certificate, End, Schedule};
 use module_orders::{Act, Order, RackOrders};
-use schedule_picture::standing_of;
+use schedule_picture::certificate_status;
 use std::alloc::Global;
 
 /// Two modules that swap their blocks 0.
@@ -35,7 +35,7 @@ fn orders_by(
     schedule: &Schedule,
     certificate: Option<&Certificate>,
 ) -> Option<RackOrders> {
-    standing_of(alloc, batch, schedule, certificate).ok()?;
+    certificate_status(alloc, batch, schedule, certificate).ok()?;
     RackOrders::of(alloc, batch, schedule).ok()
 }
 

@@ -11,7 +11,7 @@ ghost use Rattle.row_tests.specs.Rows.{of_three_transfers, of_empty_batch};
 use super::texts::{THREE_TRANSFERS, read};
 use batch::Batch;
 use link_graph::{Certificate, Schedule};
-use schedule_picture::{standing_of, verdict_on};
+use schedule_picture::{certificate_status, verdict_on};
 use std::alloc::Global;
 
 /// Modules 0 to 2 of the row take part, and 3 does not. Where modules 3 and 31 alone take part,
@@ -57,7 +57,7 @@ fn changes_by(
     schedule: &Schedule,
     certificate: Option<&Certificate>,
 ) -> Option<(usize, usize)> {
-    let standing = standing_of(alloc, batch, schedule, certificate).ok()?;
+    let standing = certificate_status(alloc, batch, schedule, certificate).ok()?;
     let verdict = verdict_on(alloc, batch, schedule, certificate, standing).ok()?;
     Some((verdict.changes, verdict.partners))
 }

@@ -62,7 +62,7 @@ fn counts_of(alloc: Global, sent: &[Sent]) -> Option<Counts> {
     let text = text_of(alloc, sent).ok()?;
     let batch = read(alloc, text.as_str())?;
     let plan = steady(alloc, &batch).ok()?;
-    let needed = match plan.demanding() {
+    let needed = match plan.most_partnered() {
         Some((_, partners)) => partners,
         None => 0,
     };

@@ -1,13 +1,13 @@
 use Rattle.std.proofs.Common.{◌∙◌, true, arith, length-set, rules}
-use Rattle.batch.specs.declared.overlap.TheConstants.{MAX_PLACES}
-use Rattle.batch.specs.Extent.{widest}
+use Rattle.batch.specs.declared.overlap.TheConstants.{MAX_RACK_BLOCKS}
+use Rattle.batch.specs.ShapeView.{widest}
 use Rattle.batch.specs.Places.{HasPlace}
 use Rattle.batch.proofs.Flags.{up_none, up_more}
 use Rattle.batch.proofs.HeldSources.{flags_all}
 use Rattle.batch.proofs.written.flags_of.Goals as goal
 
 pub loop-transfer-init : goal.loop-transfer-init
-loop-transfer-init c = record { size = search rules; up = up_none c.args.transfers.now MAX_PLACES }
+loop-transfer-init c = record { size = search rules; up = up_none c.args.transfers.now MAX_RACK_BLOCKS }
 
 pub loop-transfer-preserved : goal.loop-transfer-preserved
 loop-transfer-preserved c =

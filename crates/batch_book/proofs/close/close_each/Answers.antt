@@ -1,6 +1,6 @@
 use Rattle.std.proofs.Common.{◌≡◌, ◌≤◌, ◌+◌, ◌∙◌, ◌++◌, All, length, List, ap, append_assoc, max, sym, subst, take, slice_index_or, arith}
 use Rattle.batch_book.specs.declared.entry.Entry.{Entry}
-use Rattle.batch_book.specs.History.{AreUnstopped, Starts}
+use Rattle.batch_book.specs.History.{AreUnstopped, IsPrefix}
 use Rattle.batch_book.specs.Places.{last_place, notes_of}
 use Rattle.batch_book.specs.Recording.{made_in, marked_in}
 use Rattle.batch_book.specs.Seats.{AskedAgrees, own}
@@ -11,8 +11,8 @@ use Rattle.batch_book.proofs.Noting.{greatest_append, recorded_more}
 use Rattle.batch_book.proofs.Sides.{standing}
 use Rattle.batch_book.proofs.close.close_each.Goals as goal
 
-pub take_back-book-requires-clause-stands : goal.take_back-book-requires-clause-stands
-take_back-book-requires-clause-stands g c _ _ = let r = c.args.record in subst (Starts _) (sym r.tried) r.first
+pub take_back-book-requires-clause-durable : goal.take_back-book-requires-clause-durable
+take_back-book-requires-clause-durable g c _ _ = let r = c.args.record in subst (IsPrefix _) (sym r.tried) r.first
 
 pub take_back-book-requires-clause-first : goal.take_back-book-requires-clause-first
 take_back-book-requires-clause-first g c _ _ =
@@ -22,10 +22,10 @@ take_back-book-requires-clause-first g c _ _ =
     let its = rw c.in-Some.is at c.args.book.its in
     let lists = rw c.in-Some.is at c.args.book.lists in
     let own = c.compare.ensures.list ∙ ap (λ s. notes_of s notes) its in
-    let handed = sym (ap (λ x. x.1) lists) ∙ ap (λ l. (side_lists g.L.ExchangeName.earlier l).1) own ∙ ap (λ x. x.1) w.known in
+    let queued = sym (ap (λ x. x.1) lists) ∙ ap (λ l. (side_lists g.L.ExchangeName.earlier l).1) own ∙ ap (λ x. x.1) w.known in
     let theirs = c.compare-2.ensures.list ∙ (λ i. notes_of ((rw c.in-Some-its.is at r.its) i) ((ap (λ k. k.history) c.compare.ensures.same.0) i)) in
     let taken = ap (λ l. (side_lists g.L.ExchangeName.earlier l).0) (sym theirs) ∙ (rw c.in-Some-its.is at r.known) ∙ sym r.tried in
-    subst (λ (x : List Entry × List Entry). Starts x.0 x.1) (λ i. (taken i, sym handed i)) w.taken
+    subst (λ (x : List Entry × List Entry). IsPrefix x.0 x.1) (λ i. (taken i, sym queued i)) w.taken
 
 pub take_back-book-requires-clause-text : goal.take_back-book-requires-clause-text
 take_back-book-requires-clause-text g c _ _ =
@@ -35,10 +35,10 @@ take_back-book-requires-clause-text g c _ _ =
     let its = rw c.in-Some.is at c.args.book.its in
     let lists = rw c.in-Some.is at c.args.book.lists in
     let own = c.compare.ensures.list ∙ ap (λ s. notes_of s notes) its in
-    let handed = sym (ap (λ x. x.1) lists) ∙ ap (λ l. (side_lists g.L.ExchangeName.earlier l).1) own ∙ ap (λ x. x.1) w.known in
+    let queued = sym (ap (λ x. x.1) lists) ∙ ap (λ l. (side_lists g.L.ExchangeName.earlier l).1) own ∙ ap (λ x. x.1) w.known in
     let theirs = c.compare-2.ensures.list ∙ (λ i. notes_of ((rw c.in-Some-its.is at r.its) i) ((ap (λ k. k.history) c.compare.ensures.same.0) i)) in
     let taken = ap (λ l. (side_lists g.L.ExchangeName.earlier l).0) (sym theirs) ∙ (rw c.in-Some-its.is at r.known) ∙ sym r.tried in
-    c.as_slice.ensures.value ∙ w.waits ∙ r.texts _ _ ∙ (λ i. g.H.Recorder.Recorder.texts (taken i) (sym handed i))
+    c.as_slice.ensures.value ∙ w.waits ∙ r.texts _ _ ∙ (λ i. g.H.Recorder.Recorder.texts (taken i) (sym queued i))
 
 pub returns : goal.returns
 returns g c =
@@ -57,7 +57,7 @@ returns g c =
     let taken = ap (λ l. (side_lists earlier l).0) (sym theirs) ∙ (rw c.in-Some-its.is at r.known) in
     let upto : last_place 0 c.in-Some-its.its.list ≡ w.front = ap (last_place 0) theirs ∙ w.stood in
     let same = ap (λ k. k.history) (c.compare-2.ensures.same.0 ∙ c.compare.ensures.same.0) in
-    let first = starts_then _ _ _ (subst (Starts _) (sym taken) r.first) (starts_then _ _ _ w.taken w.first) in
+    let first = starts_then _ _ _ (subst (IsPrefix _) (sym taken) r.first) (starts_then _ _ _ w.taken w.first) in
     let stood = standing earlier (made_in notes) _ w.front first ((rw c.in-Some-its.is at r.many) ∙ ap (λ k. length earlier + k) upto) in
     let back = c.take_back-book.ensures in
     let more = front _ _ back.more in
@@ -79,7 +79,7 @@ returns g c =
       recorded = λ k d less.
           let s = slice_index_or c.args.seats.items k d in
           recorded_more (take w.front (made_in notes)) more.0 s
-          (subst (λ l. Starts l (own s.session (take w.front (made_in notes)))) (sym (e.told k d less ∙ ap (λ h. marked_in (notes_of s.session h)) same)) (w.told s.session));
+          (subst (λ l. IsPrefix l (own s.session (take w.front (made_in notes)))) (sym (e.told k d less ∙ ap (λ h. marked_in (notes_of s.session h)) same)) (w.told s.session));
       counted = omega (arith, w.counted, amount, e.amount);
       none_ahead = λ k d less. let seen = e.seen k d less in omega (arith, seen, later, read, raised, behind, now);
       unstopped = λ never. subst AreUnstopped (sym back.history) (b.unstopped never);

@@ -8,16 +8,16 @@ use Rattle.batch_book.proofs.close.compared.Goals as goal
 pub returns-clause-asked : goal.returns-clause-asked
 returns-clause-asked g c =
     let notes = c.args.keeper.now.history in
-    sym c.into_place-access.ensures.made ∙ (ap made_in (c.compare.ensures.list ∙ ap (λ s. notes_of s notes) c.into_place-access.ensures.session) ∙ own_asked c.args.seat.session notes)
+    sym c.into_inner-access.ensures.made ∙ (ap made_in (c.compare.ensures.list ∙ ap (λ s. notes_of s notes) c.into_inner-access.ensures.session) ∙ own_asked c.args.seat.session notes)
 
 pub returns-clause-told : goal.returns-clause-told
 returns-clause-told g c =
     let notes = c.args.keeper.now.history in
-    sym c.into_place-access.ensures.told ∙ ap marked_in (c.compare.ensures.list ∙ ap (λ s. notes_of s notes) c.into_place-access.ensures.session)
+    sym c.into_inner-access.ensures.told ∙ ap marked_in (c.compare.ensures.list ∙ ap (λ s. notes_of s notes) c.into_inner-access.ensures.session)
 
 pub returns-clause-raised : goal.returns-clause-raised
 returns-clause-raised g c =
-    let place = c.into_place-access.result in
+    let place = c.into_inner-access.result in
     let notes = c.args.keeper.now.history in
     let own = ap greatest (ap made_in c.compare.ensures.list ∙ own_asked place.own.session notes) in
     let below = greatest_own place.own.session (made_in notes) in

@@ -24,11 +24,11 @@ invariant_of-new-2 g c =
     let dealt = c.deal_sides-own.ensures in
     let earlier = g.L.ExchangeName.earlier in
     let history = ap (λ a. a.history) lent.book ∙ c.requires.earlier in
-    let stands = ap (λ a. a.stands) lent.book ∙ c.requires.stand in
+    let durable = ap (λ a. a.durable) lent.book ∙ c.requires.stand in
     let many = ap length history in
     record {
       its = dealt.sides.0;
-      lists = ap (side_lists earlier) dealt.lists.0 ∙ (λ i. (sym history i, sym stands i));
+      lists = ap (side_lists earlier) dealt.lists.0 ∙ (λ i. (sym history i, sym durable i));
       many = omega (arith, many);
       waits = lent.loses.1;
       opened = ap (λ a. a.opening) lent.book ∙ c.requires.opening;
@@ -41,9 +41,9 @@ invariant_of-new-3 g c =
     let none = c.deal_sides-own.ensures.history in
     let earlier = g.L.ExchangeName.earlier in
     let texts = g.H.Pending.PendingEntries.texts in
-    let handed = c.past-handed.ensures ∙ ap (λ a. a.history) lent.book ∙ c.requires.earlier in
-    let text = c.new-3.ensures.items ∙ sym (lent.texts earlier earlier ∙ c.is_whole.ensures.none earlier) ∙ ap (texts earlier) (sym handed) in
-    let k = none_known texts earlier _ _ _ none handed text in
+    let queued = c.past-queued.ensures ∙ ap (λ a. a.history) lent.book ∙ c.requires.earlier in
+    let text = c.new-3.ensures.items ∙ sym (lent.texts earlier earlier ∙ c.is_whole.ensures.none earlier) ∙ ap (texts earlier) (sym queued) in
+    let k = none_known texts earlier _ _ _ none queued text in
     record {
       counted = ap (λ ns. length (made_in ns)) none ∙ sym c.requires.none;
       placed = k.placed;

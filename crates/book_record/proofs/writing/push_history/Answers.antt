@@ -1,5 +1,5 @@
 use Rattle.std.proofs.Common.{All, subst, sym}
-use Rattle.batch.specs.Extent.{IsShape}
+use Rattle.batch.specs.ShapeView.{IsShape}
 use Rattle.batch_book.specs.declared.entry.Entry.{Entry}
 use Rattle.book_record.specs.RecordText.{CanBePut}
 use Rattle.book_record.proofs.Put.{can_be_put}

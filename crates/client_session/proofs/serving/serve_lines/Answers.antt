@@ -22,7 +22,7 @@ returns-in_err-found g c =
       session = λ told. untold_first _ _ _ _ _ _ _ _ _ c.loop-found.input _ _ told (c.loop-found.invariant.0 told) e.err;
       asks = asks_no_more _ _ _ _ _ _ e.err c.loop-found.invariant.1;
       loses = λ is. e.loses (the_fault _ _ is);
-      beside = tells_more c.loop-found.invariant.2 c.tell_first.ensures.beside;
+      beside = tells_more c.loop-found.invariant.2 c.send_replies_if_due.ensures.beside;
     }
 
 pub returns-in_err-n : goal.returns-in_err-n
@@ -33,7 +33,7 @@ returns-in_err-n g c =
       session = λ told. stopped_reading 0 _ _ _ _ _ _ _ mid _ (Serving-next told (c.loop-found.invariant.0 told) c.in_ok-found.ensures.ok c.in_err-n.ensures.takes) c.in_err-n.ensures.err;
       asks = asks_all (stops_after c.loop-found.invariant.1 c.in_err-n.ensures.asks);
       loses = λ is. absurd (no_input _ is);
-      beside = tells_more c.loop-found.invariant.2 c.tell_first.ensures.beside;
+      beside = tells_more c.loop-found.invariant.2 c.send_replies_if_due.ensures.beside;
     }
 
 pub returns-in_err-ends : goal.returns-in_err-ends
@@ -45,7 +45,7 @@ returns-in_err-ends g c =
       session = λ told. failed_turn 0 _ _ _ _ _ _ _ _ _ mid _ (Serving-next told (c.loop-found.invariant.0 told) c.in_ok-found.ensures.ok c.in_ok-n.ensures.takes) (omega (arith, c.in_ok-found.ensures.room)) e.err;
       asks = asks_all (stops_after (gives_more c.loop-found.invariant.1 (rw c.in-Some.is at c.in_ok-n.ensures.asks)) e.asks);
       loses = λ is. e.loses (the_fault _ _ is);
-      beside = tells_still (tells_more c.loop-found.invariant.2 c.tell_first.ensures.beside) e.beside;
+      beside = tells_still (tells_more c.loop-found.invariant.2 c.send_replies_if_due.ensures.beside) e.beside;
     }
 
 pub returns-then-ends : goal.returns-then-ends
@@ -56,7 +56,7 @@ returns-then-ends g c =
       session = λ told. held_by_bye _ _ _ _ _ _ _ _ mid c.turn.new.input _ _ _ (Serving-next told (c.loop-found.invariant.0 told) c.in_ok-found.ensures.ok c.in_ok-n.ensures.takes) (rw c.if-ends.true at e.ok) c.put.ensures;
       asks = asks_all (stops_here None (gives_more (gives_more c.loop-found.invariant.1 (rw c.in-Some.is at c.in_ok-n.ensures.asks)) e.asks) (λ few. few));
       loses = λ is. absurd (cc);
-      beside = tells_still (tells_more c.loop-found.invariant.2 c.tell_first.ensures.beside) e.beside;
+      beside = tells_still (tells_more c.loop-found.invariant.2 c.send_replies_if_due.ensures.beside) e.beside;
     }
 
 pub loop-found-preserved : goal.loop-found-preserved
@@ -65,7 +65,7 @@ loop-found-preserved g c =
     let e = c.in_ok-ends.ensures in (
       λ told. Serving-turn _ _ _ _ _ _ _ _ mid c.turn.new.input _ _ _ (Serving-next told (c.loop-found.invariant.0 told) c.in_ok-found.ensures.ok c.in_ok-n.ensures.takes) (rw c.if-ends.false at e.ok) c.put.ensures,
       gives_more (gives_more c.loop-found.invariant.1 (rw c.in-Some.is at c.in_ok-n.ensures.asks)) e.asks,
-      tells_still (tells_more c.loop-found.invariant.2 c.tell_first.ensures.beside) e.beside,
+      tells_still (tells_more c.loop-found.invariant.2 c.send_replies_if_due.ensures.beside) e.beside,
     )
 
 pub returns-in_default : goal.returns-in_default
@@ -77,5 +77,5 @@ returns-in_default g c =
       session = λ told. held_at_end 0 _ _ _ _ _ _ mid _ (Serving-next told (c.loop-found.invariant.0 told) c.in_ok-found.ensures.ok c.in_ok-n.ensures.takes) end.0 end.1;
       asks = asks_all (stops_after c.loop-found.invariant.1 (rw none at c.in_ok-n.ensures.asks));
       loses = λ is. absurd (cc);
-      beside = tells_more c.loop-found.invariant.2 c.tell_first.ensures.beside;
+      beside = tells_more c.loop-found.invariant.2 c.send_replies_if_due.ensures.beside;
     }

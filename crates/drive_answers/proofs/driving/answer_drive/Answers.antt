@@ -1,7 +1,7 @@
 use Rattle.std.proofs.Common.{◌≡◌, ◌∙◌, IsTrue, false, refl, sym, rules}
 use Rattle.std.proofs.lemmas.Bool.{false≢true}
 use Rattle.std.proofs.lemmas.Result.{IfErr-weaker, IfOk-weaker}
-use Rattle.batch.specs.Extent.{widest}
+use Rattle.batch.specs.ShapeView.{widest}
 use Rattle.board_wiring.specs.Boards.{IsBoardOf, IsMiswired}
 use Rattle.board_wiring.specs.Sources.{of_wiring}
 use Rattle.board_wiring.proofs.ReadBoards.{joins_all}

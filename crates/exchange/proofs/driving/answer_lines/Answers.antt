@@ -1,7 +1,7 @@
 use Rattle.std.proofs.Common.{◌∙◌, ap, rules}
 use Rattle.std.proofs.lemmas.Result.{IfErr-weaker, IfOk-weaker}
 use Rattle.drive_answers.proofs.ToldBeside.{end_so}
-use Rattle.switch_driver.specs.declared.lines.Lines.{Lines}
+use Rattle.switch_driver.specs.declared.lines.LineObserver.{LineObserver}
 use Rattle.exchange.proofs.Forewarned.{may_have, tells_beside}
 use Rattle.exchange.proofs.Lines.{cut_by, driven_by, missed_by}
 use Rattle.exchange.proofs.driving.answer_lines.Goals as goal
@@ -15,8 +15,8 @@ returns-clause-told g c =
     let end = end_so g.I.Read.remaining g.O.Write.contents _ _ _ (tells_beside g.I.Read.remaining g.O.Write.contents g.E.Write.contents) _ _ _ told _ _ _ _ _ c.answer_drive-end.result answers fails in
     let loan = end.3.loan in
     let appended = end.3.appended in
-    let waits = ap (λ (l : Lines _ _). l.waits) c.new-stage.ensures.lines ∙ c.new.ensures.waits in
-    let input = ap (λ (l : Lines _ _). g.I.Read.remaining l.input.now) c.new-stage.ensures.lines ∙ ap g.I.Read.remaining c.new.ensures.input.1 in
+    let waits = ap (λ (l : LineObserver _ _). l.waits) c.new-stage.ensures.lines ∙ c.new.ensures.waits in
+    let input = ap (λ (l : LineObserver _ _). g.I.Read.remaining l.input.now) c.new-stage.ensures.lines ∙ ap g.I.Read.remaining c.new.ensures.input.1 in
     let result = c.answer_drive-end.result in
     let driven = driven_by result _ _ _ _ c.args.goes_on told.lines.waits _ _ _ _ _ end.0 waits input (IfOk-weaker result _ _ (λ one is. (left, is)) end.1) in
     let cut = cut_by result _ _ _ _ c.args.goes_on told.lines.waits _ _ _ _ _ end.0 waits input

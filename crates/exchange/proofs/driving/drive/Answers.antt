@@ -1,6 +1,6 @@
 use Rattle.std.proofs.Common.{ℕ, List, Err}
 use Rattle.std.specs.Prelude.{⊤}
-use Rattle.kept_sessions.specs.declared.job_result.JobResult.{JobResult}
+use Rattle.recorded_sessions.specs.declared.job_result.JobResult.{JobResult}
 use Rattle.exchange.proofs.Lines.{missed_after}
 use Rattle.exchange.proofs.driving.drive.Goals as goal
 

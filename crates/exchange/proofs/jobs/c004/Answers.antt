@@ -2,8 +2,8 @@ use Rattle.std.proofs.Common.{◌≡◌, ◌∙◌, ◌++◌, ◌∷◌, [], ℕ
 use Rattle.std.proofs.KnownBytes.{Appends-trans, Consumes-trans}
 use Rattle.plan_answers.specs.Refusals.{Printed}
 use Rattle.plan_answers.specs.declared.limits.TheConstants.{REFUSED}
-use Rattle.link_ends.specs.Answering.{HasAnsweredAll, HasAnsweredButLast, HasRun, goes_on}
-use Rattle.link_ends.specs.End.{EndState}
+use Rattle.link_devices.specs.Answering.{HasAnsweredAll, HasAnsweredButLast, HasRun, goes_on}
+use Rattle.link_devices.specs.End.{EndState}
 use Rattle.exchange.specs.Responses.{IsC004By}
 use Rattle.exchange.proofs.Told.{told_more}
 use Rattle.exchange.proofs.jobs.c004.Goals as goal

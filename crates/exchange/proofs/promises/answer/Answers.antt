@@ -5,7 +5,7 @@ use Rattle.command_words.specs.Jobs.{texts_of}
 use Rattle.named_files.specs.Clients.{clients_by, ends_of}
 use Rattle.named_files.specs.Notes.{IsToldInPart}
 use Rattle.exchange.specs.Ends.{IsCutFor, IsLeft, IsNoneLeft, leaving, streams_of}
-use Rattle.exchange.specs.Promises.{KeepsPromises, clients_of, kept_by, run_of, world_of}
+use Rattle.exchange.specs.Promises.{KeepsPromises, clients_of, saved_by, run_of, world_of}
 use Rattle.exchange.specs.Responses.{given_by, named_by}
 use Rattle.exchange.proofs.AskedJobs.{kept}
 use Rattle.exchange.proofs.KeptPromises.{keeps_in_part, keeps_promises}
@@ -15,7 +15,7 @@ use Rattle.exchange.proofs.promises.answer.Goals as goal
 pub returns-clause-arguments : goal.returns-clause-arguments
 returns-clause-arguments g c =
     let holds = g.S.System.holds c.args.system.now in
-    let named = named_by holds (g.S.Places.leads c.args.system.now) in
+    let named = named_by holds (g.S.PathLookup.leads c.args.system.now) in
     let received = g.S.System.received in
     let receipts = c.respond.result.receipts in
     let was = g.P.Ports.ways c.args.peers.now.ports in
@@ -29,7 +29,7 @@ returns-clause-arguments g c =
     let code = exit_status c.respond.result.code in
     let given = given_by input was (clients_by comes had) in
     kept (λ w. IsCutFor named (leaving holds received receipts was ways (ends_of endings)) (texts_of w.items) given before after)
-    (λ w. KeepsPromises named.leads (world_of (run_of holds input (Appends before after) (texts_of w.items) code) was ways (kept_by received receipts) (clients_of comes had endings)) (IsToldInPart before after)) c.args.arguments (λ w. texts_of w.items) named
+    (λ w. KeepsPromises named.leads (world_of (run_of holds input (Appends before after) (texts_of w.items) code) was ways (saved_by received receipts) (clients_of comes had endings)) (IsToldInPart before after)) c.args.arguments (λ w. texts_of w.items) named
     (IsLeft holds received receipts ways (ends_of endings)) (IsNoneLeft receipts was ways (ends_of endings)) given (streams_of before after (g.E.Write.contents c.args.err.now) (g.E.Write.contents c.respond.new.err)) code
     (λ w ends. keeps_promises _ ways received receipts comes had endings refl (λ job response is. is.1) (λ job response is. (is.0, is.2)) (λ none. none) ends)
     (λ w unwritten cut. keeps_in_part (texts_of w.items) named ways given before after code received receipts comes had endings refl unwritten cut) c.respond.ensures.arguments

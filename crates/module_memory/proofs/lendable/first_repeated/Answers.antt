@@ -1,10 +1,10 @@
 use Rattle.std.proofs.Common.{rules}
-use Rattle.module_memory.specs.declared.lendable.TheConstants.{ALL_PLACES}
+use Rattle.module_memory.specs.declared.lendable.TheConstants.{MAX_RACK_BLOCKS}
 use Rattle.module_memory.proofs.Repeats.{none_come, one_more}
 use Rattle.module_memory.proofs.lendable.first_repeated.Goals as goal
 
 pub loop-i-init : goal.loop-i-init
-loop-i-init c = record { size = search rules; come = none_come c.args.places.now ALL_PLACES }
+loop-i-init c = record { size = search rules; come = none_come c.args.places.now MAX_RACK_BLOCKS }
 
 pub loop-i-preserved : goal.loop-i-preserved
 loop-i-preserved c = record {

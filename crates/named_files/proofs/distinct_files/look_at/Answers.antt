@@ -13,7 +13,7 @@ loop-other-preserved g c =
     let i = c.loop-other.other-index in
     let other = c.other-item.result in
     let below : i < length others = c.loop-other-test.true in
-    let leads = g.S.Places.leads c.args.system.now in
+    let leads = g.S.PathLookup.leads c.args.system.now in
     let seen : IsSeen leads other file false = subst (λ (is : Bool). IsSeen leads other file is) c.if-branch.false c.in_ok-clash.ensures in
     All-more (λ (x : FileUse). IsSeen leads x file false) others i other below c.loop-other.invariant
     (subst (λ (x : FileUse). IsSeen leads x file false) c.other-item.is seen)
@@ -21,4 +21,4 @@ loop-other-preserved g c =
 pub returns-clause-apart : goal.returns-clause-apart
 returns-clause-apart g c =
     let all = take_all c.loop-other.other-index c.args.others.now c.loop-other-test.false in
-    subst (λ (xs : List FileUse). All (λ x. IsSeen (g.S.Places.leads c.args.system.now) x c.args.file.now false) xs) all c.loop-other.invariant
+    subst (λ (xs : List FileUse). All (λ x. IsSeen (g.S.PathLookup.leads c.args.system.now) x c.args.file.now false) xs) all c.loop-other.invariant

@@ -4,4 +4,4 @@ use Rattle.named_files.specs.DistinctFiles.{IsOther}
 use Rattle.named_files.proofs.distinct_files.look_beside.Given as goal
 
 abbrev pub invariant-loop-file : goal.invariant-loop-file
-invariant-loop-file g l = All (IsOther (g.S.Places.leads l.system) l.place) (take l.file-index l.files)
+invariant-loop-file g l = All (IsOther (g.S.PathLookup.leads l.system) l.file_id) (take l.file-index l.files)

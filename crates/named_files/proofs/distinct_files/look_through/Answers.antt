@@ -12,7 +12,7 @@ loop-i-preserved g c =
     let i = c.loop-i.i in
     let below : i < length files = c.loop-i-test.true in
     let file = c.index-files-i.result in
-    let leads = g.S.Places.leads c.args.system.now in
+    let leads = g.S.PathLookup.leads c.args.system.now in
     let Apart : FileUse → FileUse → Type 0 = λ one other. IsSeen leads one other false in
     let new : All (λ other. Apart other file) (take i files) = c.in_ok-look_at.ensures.apart in
     let apart = subst (λ (x : FileUse). All (λ other. Apart other x) (take i files)) c.index-files-i.is new in
@@ -20,4 +20,4 @@ loop-i-preserved g c =
 
 pub returns-clause-apart : goal.returns-clause-apart
 returns-clause-apart g c =
-    subst (HaveNoClash (g.S.Places.leads c.args.system.now)) (take_all c.loop-i.i c.args.files.now c.loop-i-test.false) c.loop-i.invariant
+    subst (HaveNoClash (g.S.PathLookup.leads c.args.system.now)) (take_all c.loop-i.i c.args.files.now c.loop-i-test.false) c.loop-i.invariant

@@ -1,5 +1,5 @@
 use Rattle.std.proofs.lemmas.Result.{IfOk-weaker}
-use Rattle.batch.specs.Extent.{widest}
+use Rattle.batch.specs.ShapeView.{widest}
 use Rattle.batch.proofs.Shapes.{widest_shape}
 use Rattle.plan_answers.specs.Answers.{IsChecked, IsOnly, unread, refused}
 use Rattle.plan_answers.specs.Refusals.{Refuses}

@@ -1,5 +1,5 @@
 use Rattle.std.proofs.Common.{◌∙◌, ap}
-use Rattle.batch.specs.Extent.{widest}
+use Rattle.batch.specs.ShapeView.{widest}
 use Rattle.plan_answers.specs.Answers.{unshown, shortest, refused}
 use Rattle.plan_answers.proofs.OneVerdict.{shown_from}
 use Rattle.plan_answers.proofs.checking.answer_texts.Goals as goal

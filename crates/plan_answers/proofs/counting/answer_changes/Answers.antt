@@ -1,6 +1,6 @@
 use Rattle.std.proofs.Common.{◌≡◌, ◌∙◌, ap, refl, append_assoc}
 use Rattle.std.proofs.lemmas.Result.{IfOk-weaker}
-use Rattle.batch.specs.Extent.{widest}
+use Rattle.batch.specs.ShapeView.{widest}
 use Rattle.plan_answers.specs.Counting.{changes_line, IsCounted, counted, uncounted}
 use Rattle.plan_answers.specs.Refusals.{Refuses}
 use Rattle.plan_answers.specs.Validities.{IsScheduleRead}

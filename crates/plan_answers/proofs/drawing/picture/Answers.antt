@@ -1,8 +1,8 @@
 use Rattle.std.proofs.Common.{◌≡◌, ◌≢◌, ℕ, length, string_bytes}
 use Rattle.std.proofs.lemmas.Result.{err_from_is_err_and, IfErr-weaker, IfOk-weaker}
-use Rattle.batch.specs.Extent.{widest}
+use Rattle.batch.specs.ShapeView.{widest}
 use Rattle.refusals.specs.declared.refusal.Refusal.TheVariants.{NoSetting, NoMemory}
-use Rattle.schedule_picture.specs.declared.shown.Shown.{Shown}
+use Rattle.schedule_picture.specs.declared.shown.ShownSettings.{ShownSettings}
 use Rattle.schedule_picture.specs.declared.verdict.Verdict.{Verdict}
 use Rattle.schedule_picture.specs.Picture.{picture_of}
 use Rattle.schedule_picture.specs.Verdicts.{IsVerdict}
@@ -20,7 +20,7 @@ returns-clause-drawn c =
     let read = c.in_ok-texts.texts in
     let range = c.in_ok-range.range in
     let its = c.in_ok-texts.ensures in
-    IfOk-weaker c.draw_range.result (λ text. (verdict : Verdict) × (shown : Shown) × IsVerdict read.batch read.schedule read.certificate verdict × AreShown range (length read.schedule) shown × (string_bytes text ≡ picture_of read.batch read.schedule verdict shown)) (λ text. IsDrawing widest c.args.batch.now c.args.schedule.now (bytes_of c.args.settings) (string_bytes text))
+    IfOk-weaker c.draw_range.result (λ text. (verdict : Verdict) × (shown : ShownSettings) × IsVerdict read.batch read.schedule read.certificate verdict × AreShown range (length read.schedule) shown × (string_bytes text ≡ picture_of read.batch read.schedule verdict shown)) (λ text. IsDrawing widest c.args.batch.now c.args.schedule.now (bytes_of c.args.settings) (string_bytes text))
     (λ text d. record {
       transfers = read.batch;
       settings = read.schedule;

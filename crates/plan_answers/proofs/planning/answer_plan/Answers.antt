@@ -1,6 +1,6 @@
 use Rattle.std.proofs.Common.{ap}
 use Rattle.std.proofs.lemmas.Result.{IfOk-weaker}
-use Rattle.batch.specs.Extent.{widest}
+use Rattle.batch.specs.ShapeView.{widest}
 use Rattle.refusals.specs.Sources.{of_batch}
 use Rattle.plan_answers.specs.Answers.{IsPlanned, planned, refused}
 use Rattle.plan_answers.specs.Refusals.{Refuses}

@@ -3,7 +3,7 @@ use Rattle.std.proofs.lemmas.Result.{err_from_is_err_and, IfOk-weaker, IfErr-wea
 use Rattle.batch.specs.Overlap.{IsApart}
 use Rattle.module_memory.specs.Placing.{IsPlacedImage}
 use Rattle.plan_answers.specs.declared.source.Planning.TheVariants.{Plain}
-use Rattle.plan_answers.specs.declared.source.Source.TheVariants.{Plan}
+use Rattle.plan_answers.specs.declared.source.ScheduleSource.TheVariants.{Plan}
 use Rattle.rack_answers.specs.Answers.{IsImage, IsResult, IsWrongOf, IsFirstRunWrong, texts_wrong, run_wrong}
 use Rattle.refusals.specs.declared.refusal.Refusal.TheVariants.{NoMemory}
 use Rattle.refusals.specs.Sources.{of_batch}

@@ -5,12 +5,12 @@ use Rattle.board_wiring.specs.declared.board.Board.{Board}
 use Rattle.plan_answers.specs.Lent.{bytes_of}
 use Rattle.plan_answers.specs.Refusals.{Refuses, Printed}
 use Rattle.plan_answers.specs.Schedules.{said_by}
-use Rattle.plan_answers.specs.declared.source.Source.{Source}
+use Rattle.plan_answers.specs.declared.source.ScheduleSource.{ScheduleSource}
 use Rattle.rack_answers.specs.Switching.{IsOn, IsSwitched}
 use Rattle.rack_answers.proofs.OnBoards.{on_board, on_fault}
 use Rattle.rack_answers.proofs.switching.answer_switch.Goals as goal
 
-abbrev By : Source (List ℕ) → Bool → List ℕ → Option Board → Printed → Type 0
+abbrev By : ScheduleSource (List ℕ) → Bool → List ℕ → Option Board → Printed → Type 0
 By source has_two batch board = IsSwitched source has_two board batch
 
 pub returns-in-Ok : goal.returns-in-Ok

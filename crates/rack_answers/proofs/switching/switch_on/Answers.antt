@@ -1,6 +1,6 @@
 use Rattle.std.proofs.Common.{◌||◌}
 use Rattle.std.proofs.lemmas.Result.{IfOk-weaker}
-use Rattle.batch.specs.Extent.{widest}
+use Rattle.batch.specs.ShapeView.{widest}
 use Rattle.plan_answers.proofs.OneSource.{denoted}
 use Rattle.plan_answers.specs.Refusals.{Refuses}
 use Rattle.plan_answers.specs.Schedules.{said_by}

@@ -1,6 +1,6 @@
 //! Four sessions at once, each in a thread of its own, whose seats are then given back.
 
-ghost use Rattle.batch_book.specs.History.{new_account};
+ghost use Rattle.batch_book.specs.History.{new_book_view};
 ghost use Rattle.batch_book.specs.Naming.{IsNamed};
 ghost use Rattle.std.specs.Prelude.{◌≡◌, Some};
 
@@ -48,7 +48,7 @@ fn day<L: ExchangeName + Send + Sync, R: AllocGlobal + Clock + Threads + Wait + 
     blank: ExchangeBlank,
     rack: Rack,
 ) -> Option<usize>
-    requires named { IsNamed L.name L.parts L.table L.opening L.earlier blank (new_account rack) }
+    requires named { IsNamed L.name L.parts L.table L.opening L.earlier blank (new_book_view rack) }
 {
     let made = Plain::<L>::new(rt.alloc(), blank, rack, with_wires(PlainWires), SESSIONS);
     let Ok((shared, seats)) = made else {

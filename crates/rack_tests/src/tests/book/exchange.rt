@@ -1,6 +1,6 @@
 //! What the seats of an exchange are answered.
 
-ghost use Rattle.batch_book.specs.History.{new_account};
+ghost use Rattle.batch_book.specs.History.{new_book_view};
 ghost use Rattle.batch_book.specs.Naming.{IsNamed};
 ghost use Rattle.std.specs.Prelude.{◌≡◌, IfSome};
 ghost use Rattle.progress_word.specs.declared.limits.TheConstants.{ALL_PARTS};
@@ -206,9 +206,9 @@ fn refused<L: ExchangeName>(
     rack: Rack,
     sessions: usize,
 ) -> Option<(ExchangeBlank, Rack)>
-    requires named { IsNamed L.name L.parts L.table L.opening L.earlier blank (new_account rack) }
+    requires named { IsNamed L.name L.parts L.table L.opening L.earlier blank (new_book_view rack) }
     ensures { IfSome result (λ back. IsNamed L.name L.parts L.table L.opening L.earlier back.0
-        (new_account back.1)) }
+        (new_book_view back.1)) }
 {
     let plant = with_wires(PlainWires);
     let made = Shared::<L, MemoryPort, PlainWires, OpenGate>::new(
@@ -226,7 +226,7 @@ fn open_after_refusals<L: ExchangeName>(
     blank: ExchangeBlank,
     rack: Rack,
 ) -> Option<Two<L>>
-    requires named { IsNamed L.name L.parts L.table L.opening L.earlier blank (new_account rack) }
+    requires named { IsNamed L.name L.parts L.table L.opening L.earlier blank (new_book_view rack) }
 {
     let (blank, rack) = refused::<L>(alloc, blank, rack, 0)?;
     let (blank, rack) = refused::<L>(alloc, blank, rack, 17)?;
@@ -240,7 +240,7 @@ fn holds<L: ExchangeName, R: AllocGlobal + Clock + Threads + Wait + Sync>(
     rack: Rack,
     case: Case<'_>,
 ) -> bool
-    requires named { IsNamed L.name L.parts L.table L.opening L.earlier blank (new_account rack) }
+    requires named { IsNamed L.name L.parts L.table L.opening L.earlier blank (new_book_view rack) }
 {
     let Some(mut pair) = open_after_refusals::<L>(rt.alloc(), blank, rack) else {
         return false;

@@ -1,6 +1,6 @@
 //! A reading waits for no run, and sees each setting of it.
 
-ghost use Rattle.batch_book.specs.History.{new_account};
+ghost use Rattle.batch_book.specs.History.{new_book_view};
 ghost use Rattle.batch_book.specs.Naming.{IsNamed};
 ghost use Rattle.std.specs.Prelude.{◌≡◌, Some};
 
@@ -176,7 +176,7 @@ fn is_read<L: ExchangeName + Send + Sync, R: AllocGlobal + Clock + Threads + Wai
     rack: Rack,
     run: Watched,
 ) -> bool
-    requires named { IsNamed L.name L.parts L.table L.opening L.earlier blank (new_account rack) }
+    requires named { IsNamed L.name L.parts L.table L.opening L.earlier blank (new_book_view rack) }
 {
     let hold = Hold::new();
     let lines = HeldLines {

@@ -1,7 +1,7 @@
 //! Runs are made by as many workers as the plant has, and the exchange gives back the plant that it
 //! was made with.
 
-ghost use Rattle.batch_book.specs.History.{new_account};
+ghost use Rattle.batch_book.specs.History.{new_book_view};
 ghost use Rattle.batch_book.specs.Naming.{IsNamed};
 
 use crate::tests::office::{Ask, Row, Said, close, open_pair};
@@ -37,7 +37,7 @@ fn runs_by_two<L: ExchangeName, R: AllocGlobal + Clock + Threads + Wait + Sync>(
     blank: ExchangeBlank,
     rack: Rack,
 ) -> bool
-    requires named { IsNamed L.name L.parts L.table L.opening L.earlier blank (new_account rack) }
+    requires named { IsNamed L.name L.parts L.table L.opening L.earlier blank (new_book_view rack) }
 {
     let opened = open_pair::<L, PlainWires, Meeting>(
         rt.alloc(),

@@ -70,7 +70,7 @@ impl<'a> Listener for Beside<'a> {
 
     ghost may_tell = { λ _ _. ⊤ };
 
-    fn heard(&mut self, text: &[u8]) {
+    fn on_lines(&mut self, text: &[u8]) {
         let is_told = self.is_told_of(self.flushed.load(Ordering::SeqCst));
         self.is_wrong = self.is_wrong || self.is_over || !is_told;
         if self.rest.is_empty() {
@@ -85,7 +85,7 @@ impl<'a> Listener for Beside<'a> {
         self.is_refused = false;
     }
 
-    fn refused(&mut self, refusal: Refusal) {
+    fn on_refusal(&mut self, refusal: Refusal) {
         let flushed = self.flushed.load(Ordering::SeqCst);
         let is_its = refusal.line().as_bytes().strip_suffix(b"\n") == reply_at(self.hears, flushed);
         let is_next = self.heard == flushed;
@@ -122,14 +122,14 @@ fn is_right_after(events: &str) -> bool {
             b'f' => {
                 flushed.fetch_add(1, Ordering::SeqCst);
             }
-            b'r' => beside.refused(last),
+            b'r' => beside.on_refusal(last),
             _ => {
                 let Some((text, refusal)) = commands.next() else {
                     return false;
                 };
                 last = *refusal;
                 if *event == b'h' {
-                    beside.heard(text.as_bytes());
+                    beside.on_lines(text.as_bytes());
                 }
             }
         }

@@ -1,6 +1,6 @@
 //! The same faults in a session: what it is told, the history and the words.
 
-ghost use Rattle.batch_book.specs.History.{new_account};
+ghost use Rattle.batch_book.specs.History.{new_book_view};
 ghost use Rattle.batch_book.specs.Naming.{IsNamed};
 ghost use Rattle.std.specs.Prelude.{◌≡◌, Some};
 ghost use Rattle.progress_word.specs.declared.limits.TheConstants.{ALL_PARTS};
@@ -175,7 +175,7 @@ fn is_served<L: ExchangeName, R: AllocGlobal + Clock + Threads + Wait + Sync>(
     fault: Fault,
     workers: WorkerCount,
 ) -> bool
-    requires named { IsNamed L.name L.parts L.table L.opening L.earlier blank (new_account rack) }
+    requires named { IsNamed L.name L.parts L.table L.opening L.earlier blank (new_book_view rack) }
 {
     match Faulty::<L>::new(rt.alloc(), blank, rack, fault.plant(workers), 1) {
         Ok((exchange, mut seats)) => {

@@ -5,8 +5,8 @@ ghost use Rattle.batch_book.specs.Naming.{IsNamed};
 ghost use Rattle.std.specs.Prelude.{◌≡◌, [], Some};
 
 use super::served::back;
-use batch_book::{Book, ExchangeBlank, ExchangeName, History, Seat, Shared, Silent};
-use book_record::{Streamed, stream_on};
+use batch_book::{Book, ExchangeBlank, ExchangeName, History, Seat, Shared, NullHistory};
+use book_record::{StreamHistory, attach_stream};
 use client_session::{Listener, ServeFault, serve};
 use crossbar::MemoryPort;
 use exchange_limits::WorkerCount;
@@ -168,9 +168,9 @@ impl Listener for Beside<'_> {
 
     ghost may_tell = { λ _ _. ⊤ };
 
-    fn heard(&mut self, _text: &[u8]) {}
+    fn on_lines(&mut self, _text: &[u8]) {}
 
-    fn refused(&mut self, _refusal: Refusal) {
+    fn on_refusal(&mut self, _refusal: Refusal) {
         self.course.see(Refused);
     }
 }
@@ -251,15 +251,15 @@ fn is_so<R: AllocGlobal + Clock + Threads + Wait + Sync>(rt: &R, row: &Row<'_>) 
         return false;
     };
     let course = Course::of(row.course);
-    let Ok(book) = Book::with(rt.alloc(), rack, Silent::new()) else {
+    let Ok(book) = Book::with(rt.alloc(), rack, NullHistory::new()) else {
         return false;
     };
     let Ok(blank) = ExchangeBlank::new(rt.alloc()) else {
         return false;
     };
     let writer = Recorded { course: &course };
-    let book = stream_on::<Recorded<'_>, Brand>(rt.alloc(), book, 0, writer, false);
-    let is_heard = hears::<Brand, Streamed<Recorded<'_>, Brand>, R>(rt, blank, book, row, &course);
+    let book = attach_stream::<Recorded<'_>, Brand>(rt.alloc(), book, 0, writer, false);
+    let is_heard = hears::<Brand, StreamHistory<Recorded<'_>, Brand>, R>(rt, blank, book, row, &course);
     let is_over = course.is_over();
     is_heard && is_over
 }

@@ -1,7 +1,7 @@
 //! A session plans outside the exchange's lock, so that others are answered meanwhile. Its batch is
 //! the largest.
 
-ghost use Rattle.batch_book.specs.History.{new_account};
+ghost use Rattle.batch_book.specs.History.{new_book_view};
 ghost use Rattle.batch_book.specs.Naming.{IsNamed};
 ghost use Rattle.std.specs.Prelude.{◌≡◌, ◌≤◌, length, take};
 
@@ -174,7 +174,7 @@ fn is_outside<L: ExchangeName + Send + Sync, R: AllocGlobal + Clock + Threads + 
     planner: Planner<'_>,
     peeker: Peeker<'_>,
 ) -> bool
-    requires named { IsNamed L.name L.parts L.table L.opening L.earlier blank (new_account rack) }
+    requires named { IsNamed L.name L.parts L.table L.opening L.earlier blank (new_book_view rack) }
 {
     let opened = open_pair::<L, FuseWires, OpenGate>(rt.alloc(), blank, rack, with_wires(NO_FUSE));
     let Some(office) = opened else {

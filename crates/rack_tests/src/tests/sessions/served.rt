@@ -1,6 +1,6 @@
 //! Sessions at a new exchange with two seats, one after the other and at once.
 
-ghost use Rattle.batch_book.specs.History.{new_account};
+ghost use Rattle.batch_book.specs.History.{new_book_view};
 ghost use Rattle.batch_book.specs.Naming.{IsNamed};
 ghost use Rattle.std.specs.Prelude.{◌≡◌, Some};
 ghost use Rattle.progress_word.specs.declared.limits.TheConstants.{ALL_PARTS};
@@ -240,7 +240,7 @@ fn spend<L: ExchangeName, R: AllocGlobal + Clock + Threads + Wait + Sync>(
     rack: Rack,
     day: &Day,
 ) -> bool
-    requires named { IsNamed L.name L.parts L.table L.opening L.earlier blank (new_account rack) }
+    requires named { IsNamed L.name L.parts L.table L.opening L.earlier blank (new_book_view rack) }
 {
     match open_pair::<L, FuseWires, OpenGate>(rt.alloc(), blank, rack, with_wires(day.wires)) {
         Some(office) => is_played(rt, office, day),

@@ -1,7 +1,7 @@
 //! Two sessions at once whose lines come in one order, so that each reading comes after what the
 //! other did.
 
-ghost use Rattle.batch_book.specs.History.{new_account};
+ghost use Rattle.batch_book.specs.History.{new_book_view};
 ghost use Rattle.batch_book.specs.Naming.{IsNamed};
 
 use super::served::{NO_FUSE, Saying, serve_at_once};
@@ -90,7 +90,7 @@ fn hear_on<L: ExchangeName + Send + Sync, R: AllocGlobal + Clock + Threads + Wai
     talk: &Talk,
     wanted: [&'static str; 2],
 ) -> bool
-    requires named { IsNamed L.name L.parts L.table L.opening L.earlier blank (new_account rack) }
+    requires named { IsNamed L.name L.parts L.table L.opening L.earlier blank (new_book_view rack) }
 {
     let [first, second] = wanted;
     match open_pair::<L, FuseWires, OpenGate>(rt.alloc(), blank, rack, with_wires(NO_FUSE)) {

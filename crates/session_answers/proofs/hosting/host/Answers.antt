@@ -1,5 +1,5 @@
 use Rattle.std.proofs.Common.{◌≡◌, ◌∙◌, ℕ, ap, ap₂, length, sym}
-use Rattle.batch.specs.Extent.{Extent}
+use Rattle.batch.specs.ShapeView.{ShapeView}
 use Rattle.batch_book.specs.Values.{greatest}
 use Rattle.session_answers.specs.Hosting.{begun_at}
 use Rattle.session_answers.specs.Sessions.{Beginning, beginning}
@@ -35,7 +35,7 @@ returns-in-Ok-host_seats-clause-hosted g c =
     let start = greatest g.L.ExchangeName.earlier in
     let was = c.args.book in
     let back = c.in-Ok-host_seats.field-0 in
-    let at : Extent → ℕ → Beginning = λ e n. record { shape = e; seen = n; loses = loses } in
+    let at : ShapeView → ℕ → Beginning = λ e n. record { shape = e; seen = n; loses = loses } in
     let begun : begun_at loses x start ≡ beginning loses was =
     ap₂ at c.in-Ok-opened.ensures.shape (ap greatest (sym c.requires.named.entries)) in
     are_hosted loses g.L.ExchangeName.opening g.L.ExchangeName.earlier was x start (g.D.ClientStreams.known c.args.streams.now) g.D.ClientStreams.received back.seats.items back.endings.items c.ends_of-text.result.items c.any_failed-failed.result c.finish-closing.result.answer c.finish-closing.result.book

@@ -1,5 +1,5 @@
 use Rattle.std.proofs.Common.{◌≡◌, ◌∙◌, ◌++◌, ◌∷◌, [], ℕ, is_some, ap, ap₂, sym, subst, rules}
-use Rattle.batch.specs.Extent.{Extent}
+use Rattle.batch.specs.ShapeView.{ShapeView}
 use Rattle.batch_book.specs.Values.{greatest}
 use Rattle.client_session.proofs.Listening.{tells_nothing}
 use Rattle.session_answers.specs.Hosting.{AreAllSeats, begun_at}
@@ -43,7 +43,7 @@ returns-clause-session g c =
     let s = c.serve_client-seat.ensures.session in
     let one = alone made.0 start made.1.items rest seat c.in-Ok-open_exchange.ensures.seats c.in-Some.ensures.items in
     let pushed : c.push.new.self.items ≡ rest ++ back ∷ [] = rw c.unwrap.ensures at c.push.ensures.items in
-    let at : Extent → ℕ → Beginning = λ e n. record { shape = e; seen = n; loses = loses } in
+    let at : ShapeView → ℕ → Beginning = λ e n. record { shape = e; seen = n; loses = loses } in
     let begun : begun_at loses made.0 seat.seen ≡ beginning loses was =
     ap₂ at c.in-Ok-open_exchange.ensures.shape (one.seen ∙ ap greatest (sym c.requires.named.entries)) in
     let fails : failed ≡ is_some fault = search rules in (

@@ -2,7 +2,7 @@ use Rattle.std.proofs.Common.{inl, inr, ◌≡◌, List, length, arith, refl, sy
 use Rattle.std.specs.List.{concat}
 use Rattle.std.proofs.lemmas.Bool.{false≢true}
 use Rattle.std.proofs.lemmas.List.{length-map}
-use Rattle.batch.specs.Extent.{Extent}
+use Rattle.batch.specs.ShapeView.{ShapeView}
 use Rattle.batch.specs.Held.{AreHeldSources}
 use Rattle.batch.specs.Overlap.{destination_at}
 use Rattle.batch.specs.declared.transfer.Place.{Place}
@@ -23,13 +23,13 @@ returns-in-Some-clause-refusal c = c.in-Some.ensures.first
 pub returns-then-not-fits_in-clause-refusal : goal.returns-then-not-fits_in-clause-refusal
 returns-then-not-fits_in-clause-refusal c = (
   c.in_default.ensures.none,
-  λ fits. false≢true (sym c.if-not-fits_in.true ∙ c.fits_in.ensures.1 (subst (λ (s : Extent). FitsIn s c.args.batch.now) (sym c.shape.ensures.value) fits)),
+  λ fits. false≢true (sym c.if-not-fits_in.true ∙ c.fits_in.ensures.1 (subst (λ (s : ShapeView). FitsIn s c.args.batch.now) (sym c.shape.ensures.value) fits)),
 )
 
 pub returns-in_default-held_sources-clause-refusal : goal.returns-in_default-held_sources-clause-refusal
 returns-in_default-held_sources-clause-refusal c = record {
   apart = c.in_default.ensures.none;
-  fits = subst (λ (s : Extent). FitsIn s c.args.batch.now) c.shape.ensures.value (c.fits_in.ensures.0 c.if-not-fits_in.false);
+  fits = subst (λ (s : ShapeView). FitsIn s c.args.batch.now) c.shape.ensures.value (c.fits_in.ensures.0 c.if-not-fits_in.false);
   some = omega (arith, c.in_default-held_sources.ensures.memory.1.0.1);
 }
 
@@ -37,7 +37,7 @@ pub returns-in-Ok-part-clause-prepared : goal.returns-in-Ok-part-clause-prepared
 returns-in-Ok-part-clause-prepared c =
     let batch = c.args.batch.now in
     let settings = c.args.schedule.now in
-    let fits : FitsIn c.args.rack.shape batch = subst (λ (s : Extent). FitsIn s c.args.batch.now) c.shape.ensures.value (c.fits_in.ensures.0 c.if-not-fits_in.false) in
+    let fits : FitsIn c.args.rack.shape batch = subst (λ (s : ShapeView). FitsIn s c.args.batch.now) c.shape.ensures.value (c.fits_in.ensures.0 c.if-not-fits_in.false) in
     let apart = c.in_default.ensures.none in
     let schedule = c.requires in
     let ready : IsReady c.args.rack c.args.rack batch (concat settings) = record { opening_whole = c.shape.ensures.whole; whole = c.shape.ensures.whole; same_shape = refl; agrees = λ i l none. refl; places = fits; apart = apart; setting = all_settings batch settings schedule } in
@@ -63,14 +63,14 @@ returns-in-Ok-part-clause-shape c = ap (λ (s : Store). s.shape) c.in-Ok-part.en
 pub returns-in-Ok-part-clause-free : goal.returns-in-Ok-part-clause-free
 returns-in-Ok-part-clause-free c = record {
   apart = c.in_default.ensures.none;
-  fits = subst (λ (s : Extent). FitsIn s c.args.batch.now) c.shape.ensures.value (c.fits_in.ensures.0 c.if-not-fits_in.false);
+  fits = subst (λ (s : ShapeView). FitsIn s c.args.batch.now) c.shape.ensures.value (c.fits_in.ensures.0 c.if-not-fits_in.false);
 }
 
 pub returns-clause-refusal : goal.returns-clause-refusal
 returns-clause-refusal c =
     let batch = c.args.batch.now in
     let settings = c.args.schedule.now in
-    let fits : FitsIn c.args.rack.shape batch = subst (λ (s : Extent). FitsIn s c.args.batch.now) c.shape.ensures.value (c.fits_in.ensures.0 c.if-not-fits_in.false) in
+    let fits : FitsIn c.args.rack.shape batch = subst (λ (s : ShapeView). FitsIn s c.args.batch.now) c.shape.ensures.value (c.fits_in.ensures.0 c.if-not-fits_in.false) in
     let apart = c.in_default.ensures.none in
     let schedule = c.requires in
     let ready : IsReady c.args.rack c.args.rack batch (concat settings) = record { opening_whole = c.shape.ensures.whole; whole = c.shape.ensures.whole; same_shape = refl; agrees = λ i l none. refl; places = fits; apart = apart; setting = all_settings batch settings schedule } in

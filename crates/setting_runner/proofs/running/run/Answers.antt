@@ -1,6 +1,6 @@
 use Rattle.std.proofs.Common.{List, Some, sym, subst, rules, arith}
 use Rattle.std.proofs.lemmas.Grind.{common_steps}
-use Rattle.batch.specs.Extent.{Extent}
+use Rattle.batch.specs.ShapeView.{ShapeView}
 use Rattle.module_memory.specs.Lending.{BlockAt}
 use Rattle.setting_runner.specs.Plants.{LeavesPlant}
 use Rattle.setting_runner.specs.Runs.{IsPrepared}
@@ -12,7 +12,7 @@ run_settings-outcome-requires-clause-prepared g c κs within = subst (λ (bays :
 
 pub returns-in-Ok-clause-plant : goal.returns-in-Ok-clause-plant
 returns-in-Ok-clause-plant g c =
-    subst (λ (x : Extent). LeavesPlant g.P.ConfigPort g.W.WireMaker.is_sure x (Some (c.args.batch.now, c.args.schedule.now)) c.run_settings-outcome.result c.args.plant.now c.run_settings-outcome.new.plant)
+    subst (λ (x : ShapeView). LeavesPlant g.P.ConfigPort g.W.WireMaker.is_sure x (Some (c.args.batch.now, c.args.schedule.now)) c.run_settings-outcome.result c.args.plant.now c.run_settings-outcome.new.plant)
     c.in-Ok.ensures.shape c.run_settings-outcome.ensures.plant
 
 pub returns-in-Ok-clause-overlap : goal.returns-in-Ok-clause-overlap

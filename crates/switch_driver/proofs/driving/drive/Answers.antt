@@ -31,7 +31,7 @@ loop-setting-preserved g c =
       count = invariant.count + 1;
       at = omega (arith, invariant.at);
       stood = one_more g.S.DriveObserver.hears c.args.rack batch settings c.args.first invariant.count k _ _ c.args.stage.now (g.P.ConfigPort.passed c.loop-setting.port) c.loop-setting.stage _ _ invariant.at numbers invariant.stood
-          (stands_so c.args.rack batch settings c.args.first invariant.count k c.loop-setting.standing c.as_slice.result.now _ _ invariant.at invariant.known sliced given.stands) c.in_default-stands.ensures;
+          (stands_so c.args.rack batch settings c.args.first invariant.count k c.loop-setting.standing c.as_slice.result.now _ _ invariant.at invariant.known sliced given.stands) c.in_default-on_setting.ensures;
       known = known_after batch settings c.args.first invariant.count k pairs invariant.at are;
       standing = (
         c.of_setting-pairs.ensures.pairs (wired_in c.args.rack) c.requires.modules,

@@ -13,10 +13,10 @@ returns-clause-replied g c =
     on_ok_weaker c.judge_all-2.result
     (λ agrees. (
       _,
-      c.in_ok-turn.ensures.passed,
+      c.in_ok-send_setting.ensures.passed,
       (
         _,
-        c.in_ok-turn-2.ensures.passed,
+        c.in_ok-send_setting-2.ensures.passed,
         (
           _,
           record { replies = c.in_ok-of_a.of_a; all = a.all; are = c.in_ok-judge_all.ensures.agreed; passed = a.passed },
@@ -35,10 +35,10 @@ returns-clause-vain g c =
     let d = disagreed fault B (switch_of Back c.args.pairs.now) c.in_ok-of_b.of_b misses in
     rw d.1 (inr (
       _,
-      c.in_ok-turn.ensures.passed,
+      c.in_ok-send_setting.ensures.passed,
       (
         _,
-        c.in_ok-turn-2.ensures.passed,
+        c.in_ok-send_setting-2.ensures.passed,
         (
           _,
           record { replies = c.in_ok-of_a.of_a; all = a.all; are = c.in_ok-judge_all.ensures.agreed; passed = a.passed },
@@ -56,10 +56,10 @@ returns-in_err-judge_all-clause-vain g c =
     let d = disagreed _ A (switch_of Forth c.args.pairs.now) c.in_ok-of_a.of_a c.in_err-judge_all.ensures.fault in
     rw (p.1, p.2, d.1) (inl (
       _,
-      c.in_ok-turn.ensures.passed,
+      c.in_ok-send_setting.ensures.passed,
       (
         _,
-        c.in_ok-turn-2.ensures.passed,
+        c.in_ok-send_setting-2.ensures.passed,
         (
           _,
           record { replies = c.in_ok-of_a.of_a; all = a.all; are = d.2; passed = a.passed },
@@ -74,10 +74,10 @@ returns-in_err-of_b-clause-vain g c =
     let p = err_from_is_err_and c.from_residual-in_err-of_b.result c.from_residual-in_err-of_b.ensures.1 in
     rw (p.1, p.2) (inr (
       _,
-      c.in_ok-turn.ensures.passed,
+      c.in_ok-send_setting.ensures.passed,
       inr (
         _,
-        c.in_ok-turn-2.ensures.passed,
+        c.in_ok-send_setting-2.ensures.passed,
         inr (_, record { replies = c.in_ok-of_a.of_a; all = a.all; are = tt; passed = a.passed }, inl c.in_err-of_b.ensures.broken),
       ),
     ))

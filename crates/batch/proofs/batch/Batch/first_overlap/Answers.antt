@@ -1,5 +1,5 @@
 use Rattle.std.proofs.Common.{subst, sym, ap, ◌∙◌, get_or, ◌-◌, None, Some, ℕ, length-set, arith, rules}
-use Rattle.batch.specs.Extent.{widest}
+use Rattle.batch.specs.ShapeView.{widest}
 use Rattle.batch.specs.Places.{HasPlace}
 use Rattle.batch.proofs.FirstOverlap.{IsNextWriter, IsFirstFrom, none_next, next_more, first_alone, first_more}
 use Rattle.batch.proofs.batch.Batch.first_overlap.Goals.{in-Some, in_default}

@@ -1,6 +1,6 @@
 use Rattle.std.proofs.Common.{arith, subst, rules}
 use Rattle.std.proofs.lemmas.Result.{err_from_is_err_and}
-use Rattle.batch.specs.Extent.{widest}
+use Rattle.batch.specs.ShapeView.{widest}
 use Rattle.batch.specs.Held.{AreHeldSources, HasHeldSource}
 use Rattle.batch.specs.Places.{HasPlace}
 use Rattle.batch.proofs.HeldSources.{held_none, held_one, held_skip, held_more, held_all}

@@ -1,5 +1,5 @@
 use Rattle.std.proofs.Common.{rules}
-use Rattle.batch.specs.Extent.{extent}
+use Rattle.batch.specs.ShapeView.{extent}
 use Rattle.batch.proofs.Shapes.{no_shape}
 use Rattle.batch.proofs.shape.Shape.read.Goals as goal
 

@@ -13,8 +13,8 @@ note_made-own-requires-clause-grown g c =
     grown_by was.book _ c.args.session (was.pushed + 1) c.args.call r c.apply-made.ensures.step
     ∙ (λ i. (sym lists i).0 ++ made_in (noted c.args.session (was.pushed + 1) (sym call i) r))
 
-pub note_made-own-requires-clause-stands : goal.note_made-own-requires-clause-stands
-note_made-own-requires-clause-stands g c =
+pub note_made-own-requires-clause-durable : goal.note_made-own-requires-clause-durable
+note_made-own-requires-clause-durable g c =
     let lists = rw (sym c.take.ensures.value ∙ c.in-Some.is) at c.args.self.now.lists in
     c.apply-made.ensures.waits c.args.self.now.waits ∙ sym (ap (λ x. x.1) lists)
 

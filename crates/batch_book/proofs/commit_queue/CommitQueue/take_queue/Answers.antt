@@ -1,6 +1,6 @@
 use Rattle.std.proofs.Common.{◌∙◌, ◌++◌, ◌∷◌, [], ap, sym, subst, refl, length}
 use Rattle.batch_book.specs.declared.limits.TheConstants.{RECORD_SIDE}
-use Rattle.batch_book.specs.History.{Starts}
+use Rattle.batch_book.specs.History.{IsPrefix}
 use Rattle.batch_book.specs.Places.{last_place, notes_of}
 use Rattle.batch_book.specs.Recording.{side_note}
 use Rattle.batch_book.specs.Sides.{side_lists}
@@ -11,7 +11,7 @@ pub invariant_of-self : goal.invariant_of-self
 invariant_of-self g c =
     let was = c.args.self.now in
     let h = was.keeper.history in
-    let all = was.handed.value in
+    let all = was.queued.value in
     let n = side_note RECORD_SIDE was.front all all in
     let side = c.side-note.ensures ∙ ap (λ s. side_note RECORD_SIDE was.front s.value s.value) c.of-all.ensures in
     let grown = c.add-own.ensures.history ∙ (λ i. (c.compare-own.ensures.same.0 i).history ++ side i ∷ []) in
@@ -35,7 +35,7 @@ returns-clause-first g c =
     let was = c.args.self.now in
     let h = was.keeper.history in
     let own = c.compare-own.ensures.list ∙ ap (λ s. notes_of s h) c.requires.side in
-    subst (λ l. Starts (side_lists g.L.ExchangeName.earlier l).0 c.of-all.result.value.value) (sym own) (subst (Starts _) (sym (ap (λ s. s.value) c.of-all.ensures)) was.taken)
+    subst (λ l. IsPrefix (side_lists g.L.ExchangeName.earlier l).0 c.of-all.result.value.value) (sym own) (subst (IsPrefix _) (sym (ap (λ s. s.value) c.of-all.ensures)) was.taken)
 
 pub returns-clause-text : goal.returns-clause-text
 returns-clause-text g c =
@@ -51,7 +51,7 @@ returns-clause-count g c = ap (λ s. length s.value) c.of-all.ensures ∙ c.args
 pub returns-clause-taken : goal.returns-clause-taken
 returns-clause-taken g c =
     let was = c.args.self.now in
-    let all = was.handed.value in
+    let all = was.queued.value in
     let side = c.side-note.ensures ∙ ap (λ s. side_note RECORD_SIDE was.front s.value s.value) c.of-all.ensures in
     let list = c.add-own.ensures.list ∙ ap (λ n. c.compare-own.result.list ++ n ∷ []) side in
     ap (λ x. x.0) (lists_now (g.L.ExchangeName.earlier, g.L.ExchangeName.earlier) _ _ (side_note RECORD_SIDE was.front all all) (all, all) list refl) ∙ sym (ap (λ s. s.value) c.of-all.ensures)
@@ -59,7 +59,7 @@ returns-clause-taken g c =
 pub returns-clause-place : goal.returns-clause-place
 returns-clause-place g c =
     let was = c.args.self.now in
-    let all = was.handed.value in
+    let all = was.queued.value in
     let side = c.side-note.ensures ∙ ap (λ s. side_note RECORD_SIDE was.front s.value s.value) c.of-all.ensures in
     let list = c.add-own.ensures.list ∙ ap (λ n. c.compare-own.result.list ++ n ∷ []) side in
     let own = c.compare-own.ensures.list ∙ ap (λ s. notes_of s was.keeper.history) c.requires.side in

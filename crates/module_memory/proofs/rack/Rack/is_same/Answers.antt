@@ -1,6 +1,6 @@
 use Rattle.std.proofs.Common.{ℕ, ◌≡◌, ◌*◌, List, [], length, get_or, sym, ap, ◌∙◌, arith, rules}
 use Rattle.std.proofs.lemmas.List.{ext_get_or}
-use Rattle.batch.specs.Extent.{Extent}
+use Rattle.batch.specs.ShapeView.{ShapeView}
 use Rattle.module_memory.proofs.Blocks.{store_from_parts}
 use Rattle.module_memory.proofs.rack.Rack.is_same.Goals as goal
 
@@ -10,7 +10,7 @@ returns-clause-same c _ =
     let b = c.other.inside in
     let shape : a.shape ≡ b.shape = search rules in
     let count : length a.blocks.items ≡ length b.blocks.items =
-    c.self.invariant.all_blocks ∙ ap (λ (x : Extent). x.modules * x.blocks) shape ∙ sym c.other.invariant.all_blocks in
+    c.self.invariant.all_blocks ∙ ap (λ (x : ShapeView). x.modules * x.blocks) shape ∙ sym c.other.invariant.all_blocks in
     let read = c.deref-block-items.ensures.value in
     let blocks : a.blocks.items ≡ b.blocks.items = ext_get_or [] a.blocks.items b.blocks.items count (λ k l.
     ap (λ (xs : List (List ℕ)). get_or xs k []) (sym read) ∙ c.loop-i.invariant k (omega (arith, ap (λ (xs : List (List ℕ)). length xs) read))) in

@@ -1,5 +1,5 @@
 use Rattle.std.proofs.Common.{ℕ, ◌≡◌, ◌<◌, List, [], length, ap, ap₂, ◌∙◌, subst, arith, length-set}
-use Rattle.batch.specs.Extent.{Extent}
+use Rattle.batch.specs.ShapeView.{ShapeView}
 use Rattle.std.specs.List.{range_with_len}
 use Rattle.std.proofs.lemmas.List.{get_or_read}
 use Rattle.std.proofs.lemmas.List.FromFn.{length-range_with_len}
@@ -40,7 +40,7 @@ loop-index-preserved c =
       width = inv.width;
       whole = IsWhole-set (record { shape = now.shape; blocks = xs }) i ws inv.whole full;
       done = marked_more (λ (k : ℕ). range_with_len (mark_at c.args.self.now.shape.blocks k) c.args.self.now.shape.words) xs i ws below
-          (c.count_from.ensures ∙ ap₂ (λ (x y : ℕ). range_with_len x y) (ap (λ (b : ℕ). mark_at b i) inv.width) (long ∙ ap (λ (s : Extent). s.words) inv.shape))
+          (c.count_from.ensures ∙ ap₂ (λ (x y : ℕ). range_with_len x y) (ap (λ (b : ℕ). mark_at b i) inv.width) (long ∙ ap (λ (s : ShapeView). s.words) inv.shape))
           inv.done;
     }
 

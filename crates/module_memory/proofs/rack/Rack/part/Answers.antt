@@ -1,7 +1,7 @@
 use Rattle.std.proofs.Common.{ℕ, ◌≡◌, ◌<◌, ◌+◌, List, [], ◌∷◌, ◌++◌, length, take, ap, ap₂, ◌∙◌, sym, subst, subst₂, arith, take_all, is_ok, true, Bool, cond, vec_len, rules}
 use Rattle.std.proofs.lemmas.Grind.{common_steps}
 use Rattle.std.proofs.lemmas.List.{take_more, map_push}
-use Rattle.batch.specs.Extent.{Extent}
+use Rattle.batch.specs.ShapeView.{ShapeView}
 use Rattle.batch.specs.declared.transfer.Place.{Place}
 use Rattle.batch.specs.Places.{HasPlace}
 use Rattle.module_memory.specs.Store.{IsWhole, Store, set_block, block_of}
@@ -15,7 +15,7 @@ lend-requires c =
     let h : AreLendable c.args.self.shape c.args.places.now = search rules in
     let i = c.loop-place.place-index in
     let same : c.loop-place.rest.store.shape ≡ c.args.self.shape = ap (λ (s : Store). s.shape) c.loop-place.invariant.rest ∙ shape-without c.args.self (take i c.args.places.now) in
-    subst (λ (s : Extent). HasPlace s (place_in c.args.places.now i)) (sym same) (h.exist i (omega arith))
+    subst (λ (s : ShapeView). HasPlace s (place_in c.args.places.now i)) (sym same) (h.exist i (omega arith))
 
 abbrev bay_with : Place → List ℕ → BlockAt
 bay_with p ws = record { place = p; words = ws }

@@ -6,4 +6,4 @@ pub returns : goal.returns
 returns c =
     let file = c.args.stream in
     let left = c.close.result in
-    left_named file.named file.sent.sent left.named left.sent false left.stands c.close.ensures
+    left_named file.named file.sent.sent left.named left.sent false left.durable c.close.ensures

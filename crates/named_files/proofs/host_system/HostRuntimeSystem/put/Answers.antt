@@ -6,4 +6,4 @@ pub returns : goal.returns
 returns c =
     let file = c.args.stream in
     let left = c.put.result.0 in
-    left_named file.named file.sent.sent left.named left.sent (is_ok c.put.result.1) left.stands c.put.ensures
+    left_named file.named file.sent.sent left.named left.sent (is_ok c.put.result.1) left.durable c.put.ensures

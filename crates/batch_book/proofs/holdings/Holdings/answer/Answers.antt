@@ -1,5 +1,0 @@
-use Rattle.std.proofs.Common.{rules}
-use Rattle.batch_book.proofs.holdings.Holdings.answer.Goals as goal
-
-pub returns-in-Settle-clause-step : goal.returns-in-Settle-clause-step
-returns-in-Settle-clause-step g c = search rules

@@ -1,5 +1,0 @@
-use Rattle.std.proofs.Common.{rules}
-use Rattle.batch_book.proofs.holdings.Holdings.fetch.Goals as goal
-
-pub returns-in_ok-copy-in-Some-clause-step : goal.returns-in_ok-copy-in-Some-clause-step
-returns-in_ok-copy-in-Some-clause-step c = search rules

@@ -1,9 +1,0 @@
-use crate::command::SessionCommand;
-
-/// A line in front of the input, and what it commands, where it is a command's line.
-#[derive(Clone, Copy)]
-pub(crate) struct Front {
-    /// How many bytes it has, without its line feed.
-    pub length: usize,
-    pub command: Option<SessionCommand>,
-}

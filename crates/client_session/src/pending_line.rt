@@ -1,0 +1,9 @@
+use crate::command::SessionCommand;
+
+/// A line in front of the input, and what it commands, where it is a command's line.
+#[derive(Clone, Copy)]
+pub(crate) struct PendingLine {
+    /// How many bytes it has, without its line feed.
+    pub length: usize,
+    pub command: Option<SessionCommand>,
+}

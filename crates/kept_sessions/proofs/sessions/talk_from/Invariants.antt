@@ -1,4 +1,0 @@
-use Rattle.kept_sessions.proofs.sessions.talk_from.Given as goal
-
-abbrev pub ghosts-talk_recorded : goal.ghosts-talk_recorded
-ghosts-talk_recorded g a = record { held = g.F.Write.contents a.stream; earlier = a.book.history }

@@ -1,5 +1,0 @@
-use Rattle.std.proofs.Common.{◌≤◌}
-use Rattle.steady_schedule.proofs.pricing.Ways.count_pieces.Given as goal
-
-abbrev pub invariant-loop : goal.invariant-loop
-invariant-loop l = record { few : l.left ≤ l.number }
